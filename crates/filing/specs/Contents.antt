@@ -1,0 +1,42 @@
+-- What a filing says: its cells, its CD yields and its retail rates (01:6-11). Definitions only.
+use Prim.Native.Nat.{ℕ, _-_}
+use mathlib.Core.Bool.{cond}
+use mathlib.Core.List.{List}
+use lib.ListN.{length, getD}
+use lib.Dec.{ltb}
+use Rattle.lists.specs.Tables.{tableFrom}
+use Rattle.filing.specs.declared.Contents.{Contents}
+use Rattle.filing.specs.Records.{recordValue, recordRate, firstWithKey, cellKey, kindKey}
+
+-- the offset of a cell's record, or the input's length where there is none
+unfoldable pub cellOffset : List ℕ → ℕ → ℕ
+cellOffset s n = firstWithKey s (cellKey n) (length s)
+
+-- the value of a cell, in the cell's unit; an absent cell is 0
+unfoldable pub cellValue : List ℕ → ℕ → ℕ
+cellValue s n = cond (ltb (cellOffset s n) (length s)) (recordValue s (cellOffset s n)) 0
+
+-- the offset of a kind of sheet, or the input's length where there is none
+unfoldable pub sheetOffset : List ℕ → ℕ → ℕ
+sheetOffset s kind = firstWithKey s (kindKey kind) (length s)
+
+-- the cells from 601 on, the yields of kind 2 by month from 1 on, the retail rates of kind 3 by column from 1 on
+unfoldable pub contentsOf : List ℕ → Contents
+contentsOf s =
+    record {
+      cells = tableFrom 601 61 (cellValue s);
+      yields = tableFrom 1 120 (recordRate s (sheetOffset s 2));
+      rates = tableFrom 1 3 (recordRate s (sheetOffset s 3));
+    }
+
+-- the value of a cell, 601 to 661
+unfoldable pub cell : Contents → ℕ → ℕ
+cell k n = getD (k .cells) (n - 601) 0
+
+-- the secondary-market CD yield of a month, 1 to 120, hundredths of a percent a year
+unfoldable pub cdYield : Contents → ℕ → ℕ
+cdYield k month = getD (k .yields) (month - 1) 0
+
+-- the retail rate of a column, 1 to 3, hundredths of a percent a year
+unfoldable pub retailRate : Contents → ℕ → ℕ
+retailRate k column = getD (k .rates) (column - 1) 0

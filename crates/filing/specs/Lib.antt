@@ -1,0 +1,7 @@
+pub mod Bytes
+pub mod Records
+pub mod Faults
+pub mod Contents
+pub mod Conditions
+pub mod Verdict
+pub mod Valid

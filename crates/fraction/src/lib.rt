@@ -1,0 +1,1 @@
+// Exact fractions. Definitions and laws only: nothing runs here.

@@ -1,0 +1,4 @@
+pub mod Terms
+pub mod Exact
+pub mod Rounding
+pub mod Run

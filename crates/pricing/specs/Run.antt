@@ -1,0 +1,41 @@
+-- The whole-number run of a deposit (01:60), once over the rounding: down gives the lower figures, up the upper ones. Definitions only.
+-- Balances, flows, discount factors and the price are in billionths.
+use Prim.Native.Nat.{ℕ, zero, suc, _+_, _*_, _-_, _^_}
+use mathlib.Core.Bool.{cond}
+use lib.Dec.{eqb}
+use Rattle.pricing.specs.Terms.{Terms}
+use Rattle.pricing.specs.Rounding.{Rounding, quotient}
+
+-- B_t, rounded once a month
+unfoldable pub balanceBy : Rounding → Terms → ℕ → ℕ
+balanceBy ρ k zero = 10 ^ 9
+balanceBy ρ k (suc t) = quotient ρ (balanceBy ρ k t * (k .growth + 3 * k .survival (suc t))) (3 * 10 ^ 9)
+
+-- servicing and early withdrawals of month t + 1, rounded once
+unfoldable pub outflowBy : Rounding → Terms → ℕ → ℕ
+outflowBy ρ k t = quotient ρ (balanceBy ρ k t * (k .servicing + 10 ^ 9 - k .survival (suc t))) (10 ^ 9)
+
+-- flow of month t + 1: in month T the balance, already rounded, is added
+unfoldable pub flowBy : Rounding → Terms → ℕ → ℕ
+flowBy ρ k t = outflowBy ρ k t + cond (eqb (suc t) (k .months)) (balanceBy ρ k (suc t)) 0
+
+-- a discount factor after n factors of the same yield, rounded after each
+unfoldable pub discountBy : Rounding → ℕ → ℕ → ℕ
+discountBy ρ z zero = 10 ^ 9
+discountBy ρ z (suc n) = quotient ρ (discountBy ρ z n * 120000) (120000 + z)
+
+-- df of month t: month t's own yield in all of its t factors
+unfoldable pub discountFactorBy : Rounding → Terms → ℕ → ℕ
+discountFactorBy ρ k t = discountBy ρ (k .yield t) t
+
+-- the sum over months 1 to t of flow × df / 10^9, each product rounded
+unfoldable pub priceToBy : Rounding → Terms → ℕ → ℕ
+priceToBy ρ k zero = 0
+priceToBy ρ k (suc t) = priceToBy ρ k t + quotient ρ (flowBy ρ k t * discountFactorBy ρ k (suc t)) (10 ^ 9)
+
+unfoldable pub priceBy : Rounding → Terms → ℕ
+priceBy ρ k = priceToBy ρ k (k .months)
+
+-- value in dollars of a balance in thousands of dollars, rounded at the end
+unfoldable pub valueBy : Rounding → ℕ → Terms → ℕ
+valueBy ρ balance k = quotient ρ (balance * priceBy ρ k) (10 ^ 6)

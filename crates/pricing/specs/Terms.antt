@@ -1,0 +1,14 @@
+-- What the price of a deposit depends on. Definitions only.
+use Prim.Native.Nat.{ℕ}
+
+pub record Terms : Type 0 where
+  -- 25,000 × coupon (01:56): the month's interest in units of 1 / (3 × 10^9) of the balance
+  pub growth : ℕ
+  -- a (01:55): the month's servicing cost in billionths of the balance
+  pub servicing : ℕ
+  -- T, the remaining months
+  pub months : ℕ
+  -- q of a month (01:50-53), billionths
+  pub survival : ℕ → ℕ
+  -- z of a month, the shifted CD yield (01:49), hundredths of a percent a year
+  pub yield : ℕ → ℕ

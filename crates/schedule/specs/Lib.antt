@@ -1,0 +1,3 @@
+pub mod Cells
+pub mod Limits
+pub mod Shift

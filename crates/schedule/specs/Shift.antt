@@ -1,0 +1,10 @@
+-- The seven scenarios (01:48), numbered 0 to 6: shifts of -300, -200, .., 300 hundredths of a percent a year. Definitions only.
+use Prim.Native.Nat.{ℕ, _+_, _*_, _-_}
+
+abbrev pub scenarioCount : ℕ
+scenarioCount = 7
+
+-- a yield or retail rate under a scenario, hundredths of a percent a year: rate + 100 × number - 300. The difference of whole numbers stops
+-- at 0, as a result below 0 counts as 0
+unfoldable pub shiftedRate : ℕ → ℕ → ℕ
+shiftedRate number rate = rate + 100 * number - 300

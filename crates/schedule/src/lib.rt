@@ -1,0 +1,1 @@
+// Schedule CMR: its cells, and the rate scenarios.

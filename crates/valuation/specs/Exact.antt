@@ -1,0 +1,17 @@
+-- The exact values of a filing's sub-balances and their totals (01:58-59), dollars as fractions. Definitions only.
+use Prim.Native.Nat.{ℕ}
+use mathlib.Core.Bool.{Bool}
+use Rattle.fraction.specs.Fraction.{Fraction}
+use Rattle.fraction.specs.Totals.{totalWhere}
+use Rattle.filing.specs.declared.Contents.{Contents}
+use Rattle.shares.specs.SubBalances.{balanceAt, subBalanceCount}
+use Rattle.pricing.specs.Exact.{exactValue}
+use Rattle.valuation.specs.DepositTerms.{termsAt}
+
+-- the exact value of the sub-balance at a place, 0 to 35, in a scenario, 0 to 6
+unfoldable pub exactValueAt : Contents → ℕ → ℕ → Fraction
+exactValueAt k scenario place = exactValue (balanceAt k place) (termsAt k place scenario)
+
+-- the exact total over the places that pass a test
+unfoldable pub exactTotal : (ℕ → Bool) → Contents → ℕ → Fraction
+exactTotal test k scenario = totalWhere test (exactValueAt k scenario) subBalanceCount

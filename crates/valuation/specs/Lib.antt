@@ -1,0 +1,5 @@
+pub mod DepositTerms
+pub mod Rows
+pub mod Exact
+pub mod Run
+pub mod Numbers

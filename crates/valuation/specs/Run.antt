@@ -1,0 +1,17 @@
+-- The lower and upper values of a filing's sub-balances and their totals (01:60-61), whole dollars. Definitions only.
+use Prim.Native.Nat.{ℕ}
+use mathlib.Core.Bool.{Bool}
+use Rattle.lists.specs.Sums.{sumWhere}
+use Rattle.filing.specs.declared.Contents.{Contents}
+use Rattle.shares.specs.SubBalances.{balanceAt, subBalanceCount}
+use Rattle.pricing.specs.Rounding.{Rounding}
+use Rattle.pricing.specs.Run.{valueBy}
+use Rattle.valuation.specs.DepositTerms.{termsAt}
+
+-- the value of the sub-balance at a place, 0 to 35, in a scenario, 0 to 6
+unfoldable pub valueAt : Rounding → Contents → ℕ → ℕ → ℕ
+valueAt ρ k scenario place = valueBy ρ (balanceAt k place) (termsAt k place scenario)
+
+-- the total over the places that pass a test
+unfoldable pub totalBy : Rounding → (ℕ → Bool) → Contents → ℕ → ℕ
+totalBy ρ test k scenario = sumWhere test (valueAt ρ k scenario) subBalanceCount

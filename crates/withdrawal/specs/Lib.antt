@@ -1,0 +1,4 @@
+pub mod Gain
+pub mod Tiers
+pub mod Survival
+pub mod MonthSurvival
