@@ -2,3 +2,4 @@ pub mod Terms
 pub mod Exact
 pub mod Rounding
 pub mod Run
+pub mod Bounded

@@ -2,7 +2,6 @@
 use Prim.Native.Nat.{ℕ}
 use mathlib.Core.Bool.{Bool, true, not}
 use lib.Dec.{leb}
-use Rattle.schedule.specs.Cells.{Position}
 use Rattle.shares.specs.SubBalances.{positionOf}
 
 -- rows 1 and 2
