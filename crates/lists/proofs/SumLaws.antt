@@ -5,6 +5,7 @@ use mathlib.Core.Bool.{Bool, true, false, cond, not}
 use mathlib.Core.List.{List, [], _∷_, _++_}
 use native.Mathlib.Nat.{lt-suc-self, lt-trans}
 use native.Mathlib.Omega.{arith}
+use lib.ListN.{getD}
 use Rattle.lists.specs.Sums.{sum, sumWhere}
 
 -- the sum of two lists, one after the other
@@ -12,6 +13,20 @@ pub sum-append : (xs ys : List ℕ) → sum (xs ++ ys) ≡ sum xs + sum ys
 unfolding sum
 sum-append [] ys = omega arith
 sum-append (x ∷ xs) ys = omega (arith, sum-append xs ys)
+
+-- an element is at most the sum
+pub sum-getD-le : (xs : List ℕ) (i : ℕ) → getD xs i 0 ≤ sum xs
+unfolding sum
+sum-getD-le [] i = omega arith
+sum-getD-le (x ∷ xs) zero = omega arith
+sum-getD-le (x ∷ xs) (suc i) = omega (arith, sum-getD-le xs i)
+
+-- functions that agree have the same sum
+pub sumWhere-ext : (test : ℕ → Bool) (f g : ℕ → ℕ) (n : ℕ) → ((i : ℕ) → i < n → f i ≡ g i) → sumWhere test f n ≡ sumWhere test g n
+unfolding sumWhere
+sumWhere-ext test f g zero h = refl
+sumWhere-ext test f g (suc n) h =
+    rw (sumWhere-ext test f g n (λ i l. h i (lt-trans l (lt-suc-self n))), h n (lt-suc-self n))
 
 cond-le : (b : Bool) {x y : ℕ} → x ≤ y → cond b x 0 ≤ cond b y 0
 cond-le true h = h
