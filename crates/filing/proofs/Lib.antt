@@ -1,1 +1,4 @@
 pub mod RecordLaws
+pub mod FaultLaws
+pub mod VerdictLaws
+pub mod AcceptedLaws
