@@ -1,5 +1,5 @@
 -- Laws of tables and of lists joined one after the other: their lengths, and what stands at a place. Assumes nothing.
-use Prim.Native.Nat.{ℕ, zero, suc, _+_, _*_, _<_}
+use Prim.Native.Nat.{ℕ, zero, suc, _+_, _*_, _≤_, _<_}
 use mathlib.Core.Path.{_≡_, refl, ap, sym, _∙_}
 use mathlib.Core.List.{List}
 use native.Mathlib.Nat.{not-suc-le-zero, le-of-suc-le-suc, add-zero, zero-add, add-suc, suc-add, mul-zero, mul-suc}
@@ -49,3 +49,10 @@ module _ {ℓ} {A : Type ℓ} where
   pub joined-getD : (m n : ℕ) (f : ℕ → List A) → ((i : ℕ) → length (f i) ≡ m) → (i r : ℕ) (d : A) → i < n → r < m
       → getD (joined (table n f)) (m * i + r) d ≡ getD (f i) r d
   joined-getD m n f h i r d hi hr = joinedFrom-getD m 0 n f h i r d hi hr ∙ ap (λ (j : ℕ). getD (f j) r d) (zero-add i)
+
+-- what bounds each value of the function bounds each read, also one past the end, which gives 0
+pub table-le : (s n : ℕ) (f : ℕ → ℕ) (limit : ℕ) → ((j : ℕ) → s ≤ j → j < s + n → f j ≤ limit) → (i : ℕ) → getD (tableFrom s n f) i 0 ≤ limit
+unfolding tableFrom
+table-le s zero f limit h i = omega arith
+table-le s (suc n) f limit h zero = h s (omega arith) (omega arith)
+table-le s (suc n) f limit h (suc i) = table-le (suc s) n f limit (λ j l u. h j (omega arith) (omega arith)) i

@@ -1,3 +1,2 @@
-pub mod TableLaws
 pub mod SurvivalLaws
 pub mod GainLaws
