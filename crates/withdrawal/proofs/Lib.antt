@@ -1,2 +1,3 @@
 pub mod SurvivalLaws
 pub mod GainLaws
+pub mod MonthSurvivalLaws
