@@ -8,8 +8,7 @@ use Rattle.shares.specs.Apportion.{apportion, sharesFrom, cumulativeShare}
 use Rattle.shares.specs.SubBalances.{accountParts}
 use Rattle.withdrawal.specs.Gain.{gain, cost, atMost}
 use Rattle.withdrawal.specs.Tiers.{houseTiers, tier, reached, firstReached, annualWithdrawal}
-use Rattle.withdrawal.specs.Survival.{survival}
-use Rattle.withdrawal.specs.MonthSurvival.{retail, brokered, earlySurvival, monthSurvival}
+use Rattle.withdrawal.specs.MonthSurvival.{earlySurvival, monthSurvival}
 use Rattle.withdrawal.proofs.SurvivalLaws.{survival-of-zero}
 use Rattle.pricing.specs.Rounding.{quotient}
 use Rattle.pricing.specs.Run.{balanceBy, outflowBy, flowBy, discountBy, discountFactorBy, priceToBy, priceBy, valueBy}

@@ -1,8 +1,8 @@
 -- The starred figures of document 01 (01:63-70), every one, as one statement about the definitions. Definitions only.
 use Prim.Native.Nat.{ℕ, _*_, _^_, _<_}
 use mathlib.Core.Path.{_≡_}
-use mathlib.Core.List.{List, [], _∷_}
-use lib.IntN.{ℤ, pos, negℤ}
+use mathlib.Core.List.{[], _∷_}
+use lib.IntN.{pos, negℤ}
 use Rattle.shares.specs.Apportion.{apportion}
 use Rattle.shares.specs.SubBalances.{accountParts}
 use Rattle.withdrawal.specs.Gain.{gain, cost}

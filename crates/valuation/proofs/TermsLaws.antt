@@ -1,16 +1,13 @@
 -- The terms of each sub-balance of an accepted filing are within the limits of the run. Assumes nothing.
-use Prim.Native.Nat.{ℕ, _+_, _*_, _/_, _%_, _^_, _≤_, _<_, zero-le}
-use mathlib.Core.Bool.{Bool, true, false}
-use lib.Dec.{ltb, lit≤}
-use native.Mathlib.Nat.{le-refl, mul-le-mul-left}
+use Prim.Native.Nat.{ℕ, _/_, _≤_, _<_}
+use lib.Dec.{lit≤}
+use native.Mathlib.Nat.{mul-le-mul-left}
 use native.Mathlib.Omega.{arith}
-use Rattle.schedule.specs.Cells.{Position}
 use Rattle.filing.specs.declared.Contents.{Contents}
 use Rattle.filing.specs.Valid.{Valid}
 use Rattle.shares.specs.SubBalances.{positionOf, couponAt, monthsAt}
 use Rattle.withdrawal.specs.MonthSurvival.{Account, retail, brokered}
 use Rattle.withdrawal.proofs.MonthSurvivalLaws.{monthSurvival-le}
-use Rattle.pricing.specs.Terms.{Terms}
 use Rattle.pricing.specs.Bounded.{Bounded}
 use Rattle.valuation.specs.DepositTerms.{accountAt, penaltyAt, monthRate, filingTiers, survivalAt, servicingCost, termsAt}
 

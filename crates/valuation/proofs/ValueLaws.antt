@@ -1,13 +1,11 @@
 -- Values and totals of a filing: lower ≤ exact ≤ upper, and their widths (01:58). Assumes nothing.
 use Prim.Native.Nat.{ℕ, zero, suc, _+_, _*_, _≤_, _<_}
 use mathlib.Core.Path.{_≡_}
-use mathlib.Core.Bool.{Bool, true, not}
-use native.Mathlib.Nat.{le-trans}
+use mathlib.Core.Bool.{Bool}
 use native.Mathlib.Omega.{arith}
 use Rattle.lists.specs.Sums.{sumWhere, everywhere}
 use Rattle.lists.proofs.SumLaws.{sumWhere-mono, sumWhere-add, sumWhere-mul, sumWhere-split}
-use Rattle.fraction.specs.Fraction.{Fraction, Encloses}
-use Rattle.fraction.specs.Totals.{totalWhere}
+use Rattle.fraction.specs.Fraction.{Encloses}
 use Rattle.fraction.proofs.EnclosureLaws.{total-encloses}
 use Rattle.schedule.specs.Cells.{totalCell}
 use Rattle.filing.specs.declared.Contents.{Contents}
