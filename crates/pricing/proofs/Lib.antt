@@ -6,3 +6,4 @@ pub mod PaymentLaws
 pub mod DiscountLaws
 pub mod WidthLaws
 pub mod LimitLaws
+pub mod RunLaws

@@ -3,3 +3,4 @@ pub mod Exact
 pub mod Rounding
 pub mod Run
 pub mod Bounded
+pub mod Month
