@@ -2,3 +2,4 @@ pub mod RecordLaws
 pub mod FaultLaws
 pub mod VerdictLaws
 pub mod AcceptedLaws
+pub mod Controls
