@@ -1,1 +1,3 @@
+pub mod ByteLaws
 pub mod RecordLaws
+pub mod StepLaws
