@@ -5,7 +5,7 @@ use mathlib.Core.Bool.{Bool, true, false}
 use native.Mathlib.Nat.{mul-le-mul-left, mul-lt-mul-of-pos-left, mul-sub, one-mul, lt-of-not-le, not-le-of-lt, mul-pos, not-suc-le-zero, zero-lt-suc}
 use native.Mathlib.Omega.{arith}
 use lib.Dec.{leb, ltb}
-use lib.IntN.{ℤ, pos, negsuc, negℤ, one, _-ℤ_, _*ℤ_, *ℤ-comm, *ℤ-one}
+use lib.IntN.{pos, negsuc, negℤ, one, _-ℤ_, _*ℤ_, *ℤ-comm, *ℤ-one}
 use borrow.Author.Tests.{leb-true, leb-false, ltb-true, ltb-false, le-leb, lt-leb, le-ltb, lt-ltb}
 use Rattle.withdrawal.specs.Gain.{gain, atMost}
 use Rattle.withdrawal.specs.Tiers.{reached}
@@ -56,7 +56,7 @@ pub at-most-difference : (m a b : ℕ) → atMost m (pos a -ℤ pos b) ≡ leb (
 unfolding one
 at-most-difference m a b =
     ap (atMost m) (sym (*ℤ-comm (pos 1) (pos a -ℤ pos b) ∙ *ℤ-one (pos a -ℤ pos b)))
-    ∙ rw (at-most-scaled m 1 a b (zero-lt-suc 0), one-mul, one-mul)
+    ∙ rw (at-most-scaled m 1 a b (zero-lt-suc 0), one-mul b, one-mul a)
 
 -- an edge is reached exactly where edge × cost, with 100 times the negative part of the gain, is at most 100 times its positive part
 pub reached-difference : (a b k edge : ℕ) → reached (pos a -ℤ pos b) k edge ≡ leb (edge * k + 100 * b) (100 * a)

@@ -1,9 +1,9 @@
 -- A rule of a table, tested once over all of its entries and carried to each of them. Assumes nothing.
-use Prim.Native.Nat.{ℕ, zero, suc, _<_}
+use Prim.Native.Nat.{ℕ, zero, suc, _≤_, _<_, zero-le}
 use mathlib.Core.Bool.{Bool, true, false, _&&_}
 use mathlib.Core.List.{List, [], _∷_}
 use native.Mathlib.Nat.{le-of-suc-le-suc, not-suc-le-zero}
-use lib.Dec.{T}
+use lib.Dec.{T, leb, leb→le}
 use lib.ListN.{length, getD}
 
 -- the test passes at each place of the list and its entry
@@ -21,3 +21,9 @@ pub entry-passes : (test : ℕ → ℕ → Bool) (xs : List ℕ) → T (everyEnt
 entry-passes test [] t k h = absurd (not-suc-le-zero h)
 entry-passes test (x ∷ xs) t zero h = both (test 0 x) (everyEntry (λ i. test (suc i)) xs) t .0
 entry-passes test (x ∷ xs) t (suc k) h = entry-passes (λ i. test (suc i)) xs (both (test 0 x) (everyEntry (λ i. test (suc i)) xs) t .1) k (le-of-suc-le-suc h)
+
+-- entries that are all at most b: so is what is read at any place, past the end too
+pub entries-le : (xs : List ℕ) (b : ℕ) → T (everyEntry (λ i x. leb x b) xs) → (k : ℕ) → getD xs k 0 ≤ b
+entries-le [] b t k = zero-le
+entries-le (x ∷ xs) b t zero = leb→le x b (both (leb x b) (everyEntry (λ i y. leb y b) xs) t .0)
+entries-le (x ∷ xs) b t (suc k) = entries-le xs b (both (leb x b) (everyEntry (λ i y. leb y b) xs) t .1) k

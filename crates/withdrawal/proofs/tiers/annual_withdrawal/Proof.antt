@@ -1,0 +1,74 @@
+-- `withdrawal::tiers::annual_withdrawal` meets its contract. The loop's invariant: the tiers from `i` on give the answer. The measure is what is
+-- left of them. Assumes nothing.
+use Prim.Native.Nat.{_-_, _≤_, _<_}
+use mathlib.Core.Path.{_≡_, sym, _∙_}
+use lib.IntN.{pos, _-ℤ_}
+use borrow.Author.Needs.{needs}
+use Rattle.withdrawal.specs.Tiers.{annualWithdrawal}
+use Rattle.withdrawal.specs.TierArrays.{tierTable}
+use Rattle.withdrawal.proofs.TierLaws.{withdrawalFrom, withdrawal-from-start, withdrawal-from-reached, withdrawal-from-suc, withdrawal-from-end}
+use Rattle.withdrawal.proofs.tiers.annual_withdrawal.Statement.{statement}
+use Rattle.withdrawal.proofs.tiers.annual_withdrawal.Tie as tie
+
+abbrev Inv-loop : tie.InvT-loop
+Inv-loop earned forfeited cost tiers count i₀ i = (i ≤ tiers .count) × (withdrawalFrom tiers (pos earned -ℤ pos forfeited) cost i ≡ annualWithdrawal (tierTable tiers) (pos earned -ℤ pos forfeited) cost)
+
+abbrev μ-loop : tie.MeasureT-loop
+μ-loop earned forfeited cost tiers count i₀ i = tiers .count - i
+
+loop-holds : tie.Need-loop-holds Inv-loop μ-loop
+loop-holds c = (search needs, withdrawal-from-start _ _ _)
+
+mul-reaches : tie.Need-mul-reaches Inv-loop μ-loop
+mul-reaches c = search needs
+
+element-copy-out-reaches : tie.Need-element-copy-out-reaches Inv-loop μ-loop
+element-copy-out-reaches c = search needs
+
+reaches-requires : tie.Need-reaches-requires Inv-loop μ-loop
+reaches-requires c κs = (c .before .before .before .pre .0 .edge-le _, search needs, search needs, search needs)
+
+mul-result : tie.Need-mul-result Inv-loop μ-loop
+mul-result c = search needs
+
+element-copy-out-result : tie.Need-element-copy-out-result Inv-loop μ-loop
+element-copy-out-result c = search needs
+
+returns : tie.Need-returns Inv-loop μ-loop
+returns c =
+    let h : c .before .before .before .before .before .loop .i < c .before .before .before .before .before .before .args .t1 .count = search needs in (
+      sym (withdrawal-from-reached _ _ _ _ h (sym (c .before .before .reaches .ensures) ∙ c .before .if1 .taken)) ∙ c .before .before .before .before .before .loop .inv .1,
+      c .before .before .before .before .before .before .pre .0 .withdrawal-le _,
+    )
+
+add-i : tie.Need-add-i Inv-loop μ-loop
+add-i c = search needs
+
+loop-less : tie.Need-loop-less Inv-loop μ-loop
+loop-less c = search needs
+
+loop-again : tie.Need-loop-again Inv-loop μ-loop
+loop-again c =
+    let h : c .before .before .before .before .loop .i < c .before .before .before .before .before .args .t1 .count = search needs in
+    (search needs, sym (withdrawal-from-suc _ _ _ _ h (sym (c .before .reaches .ensures) ∙ c .if1 .left)) ∙ c .before .before .before .before .loop .inv .1)
+
+returns-2 : tie.Need-returns-2 Inv-loop μ-loop
+returns-2 c = (sym (withdrawal-from-end _ _ _ _ (c .loop-test .left)) ∙ c .before .loop .inv .1, c .before .before .pre .0 .otherwise-le)
+
+pub annual-withdrawal-spec : {M : Type 1} → statement M
+annual-withdrawal-spec =
+    tie.close
+    (tie.spec
+    Inv-loop
+    μ-loop
+    loop-holds
+    mul-reaches
+    element-copy-out-reaches
+    reaches-requires
+    mul-result
+    element-copy-out-result
+    returns
+    add-i
+    loop-less
+    loop-again
+    returns-2)
