@@ -3,3 +3,4 @@ pub mod Tiers
 pub mod Survival
 pub mod MonthSurvival
 pub mod TierArrays
+pub mod Incentives

@@ -1,11 +1,9 @@
--- What the code's figures of early withdrawal mean: its tiers and its account. Definitions only.
+-- The tiers that the code's arrays hold. Definitions only.
 use Prim.Native.Nat.{ℕ, _≤_}
-use mathlib.Core.Bool.{Bool, cond}
 use lib.ListN.{getD}
 use Rattle.lists.specs.Tables.{table}
 use Rattle.withdrawal.specs.declared.WithdrawalTiers.{WithdrawalTiers}
 use Rattle.withdrawal.specs.Tiers.{WithdrawalTier, TierTable, tier}
-use Rattle.withdrawal.specs.MonthSurvival.{Account, retail, brokered}
 
 -- the tier at a place of the arrays
 unfoldable pub tierAt : WithdrawalTiers → ℕ → WithdrawalTier
@@ -21,7 +19,3 @@ pub record Usable (t : WithdrawalTiers) : Type 0 where
   pub edge-le : (i : ℕ) → getD (t .edges) i 0 ≤ 65535
   pub withdrawal-le : (i : ℕ) → getD (t .withdrawals) i 0 ≤ 600
   pub otherwise-le : t .otherwise ≤ 600
-
--- the account of the code's flag
-unfoldable pub accountOf : Bool → Account
-accountOf isBrokered = cond isBrokered brokered retail

@@ -2,19 +2,19 @@
 -- left of them. Assumes nothing.
 use Prim.Native.Nat.{_-_, _≤_, _<_}
 use mathlib.Core.Path.{_≡_, sym, _∙_}
-use lib.IntN.{pos, _-ℤ_}
 use borrow.Author.Needs.{needs}
 use Rattle.withdrawal.specs.Tiers.{annualWithdrawal}
 use Rattle.withdrawal.specs.TierArrays.{tierTable}
+use Rattle.withdrawal.specs.Incentives.{gainOf}
 use Rattle.withdrawal.proofs.TierLaws.{withdrawalFrom, withdrawal-from-start, withdrawal-from-reached, withdrawal-from-suc, withdrawal-from-end}
 use Rattle.withdrawal.proofs.tiers.annual_withdrawal.Statement.{statement}
 use Rattle.withdrawal.proofs.tiers.annual_withdrawal.Tie as tie
 
 abbrev Inv-loop : tie.InvT-loop
-Inv-loop earned forfeited cost tiers count i₀ i = (i ≤ tiers .count) × (withdrawalFrom tiers (pos earned -ℤ pos forfeited) cost i ≡ annualWithdrawal (tierTable tiers) (pos earned -ℤ pos forfeited) cost)
+Inv-loop incentive tiers count i₀ i = (i ≤ tiers .count) × (withdrawalFrom tiers (gainOf incentive) (incentive .cost) i ≡ annualWithdrawal (tierTable tiers) (gainOf incentive) (incentive .cost))
 
 abbrev μ-loop : tie.MeasureT-loop
-μ-loop earned forfeited cost tiers count i₀ i = tiers .count - i
+μ-loop incentive tiers count i₀ i = tiers .count - i
 
 loop-holds : tie.Need-loop-holds Inv-loop μ-loop
 loop-holds c = (search needs, withdrawal-from-start _ _ _)
@@ -26,7 +26,7 @@ element-copy-out-reaches : tie.Need-element-copy-out-reaches Inv-loop μ-loop
 element-copy-out-reaches c = search needs
 
 reaches-requires : tie.Need-reaches-requires Inv-loop μ-loop
-reaches-requires c κs = (c .before .before .before .pre .0 .edge-le _, search needs, search needs, search needs)
+reaches-requires c κs = (c .before .before .before .pre .1, c .before .before .before .pre .0 .edge-le _)
 
 mul-result : tie.Need-mul-result Inv-loop μ-loop
 mul-result c = search needs
