@@ -1,10 +1,13 @@
 -- A rule of a table, tested once over all of its entries and carried to each of them. Assumes nothing.
-use Prim.Native.Nat.{ℕ, zero, suc, _≤_, _<_, zero-le}
+use Prim.Native.Nat.{ℕ, zero, suc, _+_, _≤_, _<_, zero-le}
+use mathlib.Core.Path.{_≡_, _∙_}
 use mathlib.Core.Bool.{Bool, true, false, _&&_}
 use mathlib.Core.List.{List, [], _∷_}
-use native.Mathlib.Nat.{le-of-suc-le-suc, not-suc-le-zero}
+use native.Mathlib.Nat.{le-of-suc-le-suc, not-suc-le-zero, ne-of-lt}
 use lib.Dec.{T, leb, leb→le}
-use lib.ListN.{length, getD}
+use lib.ListN.{length, getD, set}
+use lib.Seq.{getD-set-same, getD-set-other}
+use borrow.Author.Count.{below-more}
 
 -- the test passes at each place of the list and its entry
 abbrev pub everyEntry : (ℕ → ℕ → Bool) → List ℕ → Bool
@@ -27,3 +30,10 @@ pub entries-le : (xs : List ℕ) (b : ℕ) → T (everyEntry (λ i x. leb x b) x
 entries-le [] b t k = zero-le
 entries-le (x ∷ xs) b t zero = leb→le x b (both (leb x b) (everyEntry (λ i y. leb y b) xs) t .0)
 entries-le (x ∷ xs) b t (suc k) = entries-le xs b (both (leb x b) (everyEntry (λ i y. leb y b) xs) t .1) k
+
+-- a list that holds f at the places below i, with f i stored at i, holds f at the places below i + 1
+pub stored-below : (f : ℕ → ℕ) (xs : List ℕ) (i v : ℕ) → i < length xs → ((k : ℕ) → k < i → getD xs k 0 ≡ f k) → v ≡ f i → (k : ℕ) → k < i + 1 → getD (set xs i v) k 0 ≡ f k
+stored-below f xs i v h below here =
+    below-more (λ k. getD (set xs i v) k 0 ≡ f k) i
+    (λ k l. getD-set-other xs i k v 0 (ne-of-lt l) ∙ below k l)
+    (getD-set-same xs i v 0 h ∙ here)

@@ -10,13 +10,15 @@ ghost use Rattle.withdrawal.specs.MonthSurvival.{accountOf, earlySurviva
 ghost use Rattle.withdrawal.specs.TierArrays.{tierTable, Usable};
 ghost use Rattle.withdrawal.specs.Incentives.{gainOf, Small};
 
-// Tiers of annual withdrawal, in the first `count` places, highest edge first: edges in hundredths, withdrawals in thousandths. `otherwise` is
-// the withdrawal where no edge is reached.
+// Tiers of annual withdrawal, in the first `count` places, highest edge first: edges in hundredths, withdrawals in thousandths, and the survival
+// of each withdrawal in billionths. Where no edge is reached the withdrawal is `otherwise` and its survival `retained`.
 pub struct WithdrawalTiers {
     pub count: usize,
     pub edges: [u64; 16],
     pub withdrawals: [u64; 16],
+    pub survivals: [u64; 16],
     pub otherwise: u64,
+    pub retained: u64,
 }
 
 // The incentive to withdraw early: a gain of `earned` less `forfeited`, and the cost, on one scale.
@@ -62,7 +64,7 @@ fn early_survival(tiers: WithdrawalTiers, brokered: bool, incentive: Incentive) 
             1000000000
         }
     } else {
-        survival(tiers::annual_withdrawal(tiers, incentive))
+        tiers::retail_survival(tiers, incentive)
     }
 }
 

@@ -1,8 +1,6 @@
 -- `withdrawal::early_survival` meets its contract. Assumes nothing.
-use mathlib.Core.Path.{_∙_, ap}
 use borrow.Author.Needs.{needs}
 use borrow.Author.Tests.{lt-ltb, le-ltb}
-use Rattle.withdrawal.specs.Survival.{survival}
 use Rattle.withdrawal.specs.MonthSurvival.{accountOf, earlySurvival}
 use Rattle.withdrawal.proofs.GainLaws.{gain-above-cost-iff}
 use Rattle.withdrawal.proofs.early_survival.Statement.{statement}
@@ -11,11 +9,8 @@ use Rattle.withdrawal.proofs.early_survival.Tie as tie
 add-if2 : tie.Need-add-if2
 add-if2 c = search needs
 
-annual-withdrawal-requires : tie.Need-annual-withdrawal-requires
-annual-withdrawal-requires c κs = search needs
-
-survival-requires : tie.Need-survival-requires
-survival-requires c κs = search needs
+retail-survival-requires : tie.Need-retail-survival-requires
+retail-survival-requires c κs = search needs
 
 returns : tie.Need-returns
 unfolding accountOf earlySurvival
@@ -27,9 +22,7 @@ returns-2 c = rw (c .before .before .before .if1 .taken, gain-above-cost-iff, le
 
 returns-3 : tie.Need-returns-3
 unfolding accountOf earlySurvival
-returns-3 c = rw (c .before .before .if1 .left) (c .survival .ensures ∙ ap survival (c .before .annual-withdrawal .ensures .0))
+returns-3 c = rw (c .before .if1 .left) (c .retail-survival .ensures)
 
 pub early-survival-spec : {M : Type 1} → statement M
-early-survival-spec =
-    tie.close
-    (tie.spec add-if2 annual-withdrawal-requires survival-requires returns returns-2 returns-3)
+early-survival-spec = tie.close (tie.spec add-if2 retail-survival-requires returns returns-2 returns-3)

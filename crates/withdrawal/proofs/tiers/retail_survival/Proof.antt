@@ -1,14 +1,15 @@
--- `withdrawal::tiers::annual_withdrawal` meets its contract. The loop's invariant: the tiers from `i` on give the answer. The measure is what is
+-- `withdrawal::tiers::retail_survival` meets its contract. The loop's invariant: the tiers from `i` on give the answer. The measure is what is
 -- left of them. Assumes nothing.
 use Prim.Native.Nat.{_-_, _≤_, _<_}
-use mathlib.Core.Path.{_≡_, sym, _∙_}
+use mathlib.Core.Path.{_≡_, sym, ap, _∙_}
 use borrow.Author.Needs.{needs}
+use Rattle.withdrawal.specs.Survival.{survival}
 use Rattle.withdrawal.specs.Tiers.{annualWithdrawal}
 use Rattle.withdrawal.specs.TierArrays.{tierTable}
 use Rattle.withdrawal.specs.Incentives.{gainOf}
 use Rattle.withdrawal.proofs.TierLaws.{withdrawalFrom, withdrawal-from-start, withdrawal-from-reached, withdrawal-from-suc, withdrawal-from-end}
-use Rattle.withdrawal.proofs.tiers.annual_withdrawal.Statement.{statement}
-use Rattle.withdrawal.proofs.tiers.annual_withdrawal.Tie as tie
+use Rattle.withdrawal.proofs.tiers.retail_survival.Statement.{statement}
+use Rattle.withdrawal.proofs.tiers.retail_survival.Tie as tie
 
 abbrev Inv-loop : tie.InvT-loop
 Inv-loop incentive tiers count i₀ i = (i ≤ tiers .count) × (withdrawalFrom tiers (gainOf incentive) (incentive .cost) i ≡ annualWithdrawal (tierTable tiers) (gainOf incentive) (incentive .cost))
@@ -36,10 +37,9 @@ element-copy-out-result c = search needs
 
 returns : tie.Need-returns Inv-loop μ-loop
 returns c =
-    let h : c .before .before .before .before .before .loop .i < c .before .before .before .before .before .before .args .t1 .count = search needs in (
-      sym (withdrawal-from-reached _ _ _ _ h (sym (c .before .before .reaches .ensures) ∙ c .before .if1 .taken)) ∙ c .before .before .before .before .before .loop .inv .1,
-      c .before .before .before .before .before .before .pre .0 .withdrawal-le _,
-    )
+    let h : c .before .before .before .before .before .loop .i < c .before .before .before .before .before .before .args .t1 .count = search needs in
+    c .before .before .before .before .before .before .pre .0 .survival-is _ h
+    ∙ ap survival (sym (withdrawal-from-reached _ _ _ _ h (sym (c .before .before .reaches .ensures) ∙ c .before .if1 .taken)) ∙ c .before .before .before .before .before .loop .inv .1)
 
 add-i : tie.Need-add-i Inv-loop μ-loop
 add-i c = search needs
@@ -53,10 +53,10 @@ loop-again c =
     (search needs, sym (withdrawal-from-suc _ _ _ _ h (sym (c .before .reaches .ensures) ∙ c .if1 .left)) ∙ c .before .before .before .before .loop .inv .1)
 
 returns-2 : tie.Need-returns-2 Inv-loop μ-loop
-returns-2 c = (sym (withdrawal-from-end _ _ _ _ (c .loop-test .left)) ∙ c .before .loop .inv .1, c .before .before .pre .0 .otherwise-le)
+returns-2 c = c .before .before .pre .0 .retained-is ∙ ap survival (sym (withdrawal-from-end _ _ _ _ (c .loop-test .left)) ∙ c .before .loop .inv .1)
 
-pub annual-withdrawal-spec : {M : Type 1} → statement M
-annual-withdrawal-spec =
+pub retail-survival-spec : {M : Type 1} → statement M
+retail-survival-spec =
     tie.close
     (tie.spec
     Inv-loop
