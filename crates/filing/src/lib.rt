@@ -1,9 +1,27 @@
 // A filing of certificate deposits, from its bytes to what it says.
 
+mod bytes;
+mod reader;
+mod records;
+
 // What an accepted filing says: the values of cells 601 to 661, the CD yields of months 1 to 120 and the retail rates of columns 1 to 3.
 // Cells are in their own units, yields and rates in hundredths of a percent a year.
 pub struct Contents {
     pub cells: [u64; 61],
     pub yields: [u16; 120],
     pub rates: [u16; 3],
+}
+
+// What stands at an offset of a filing.
+pub enum Step {
+    // A complete record: its kind, its length (the bytes after the length itself), and the offset of the record after it.
+    Record {
+        kind: u16,
+        length: usize,
+        next: usize,
+    },
+    // A record that runs past the end, or whose length is below 2.
+    Incomplete,
+    // Nothing: the offset is at the end, or past it.
+    End,
 }

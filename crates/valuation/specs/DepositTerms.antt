@@ -1,8 +1,8 @@
 -- The terms of each sub-balance of a filing in each scenario (01:48-55, 01:59), from what the filing says. Definitions only.
-use Prim.Native.Nat.{ℕ, _*_, _/_, _%_}
-use mathlib.Core.Bool.{Bool, cond}
+use Prim.Native.Nat.{ℕ, _*_, _%_}
+use mathlib.Core.Bool.{cond}
 use lib.Dec.{ltb, eqb}
-use Rattle.schedule.specs.Cells.{Position, penaltyMonthsCell}
+use Rattle.schedule.specs.Cells.{penaltyMonthsCell}
 use Rattle.schedule.specs.Shift.{shiftedRate}
 use Rattle.filing.specs.declared.Contents.{Contents}
 use Rattle.filing.specs.Contents.{cell, cdYield, retailRate}

@@ -1,4 +1,4 @@
-pub mod TableLaws
 pub mod SurvivalLaws
 pub mod GainLaws
 pub mod TierLaws
+pub mod MonthSurvivalLaws

@@ -1,18 +1,14 @@
--- Survival is the largest whole number that the power rule passes (01:51), and at most 10^9. Assumes nothing.
+-- Survival is the largest whole number that the power rule passes (01:51). Assumes nothing.
 use Prim.Native.Nat.{ℕ, zero, suc, _+_, _*_, _-_, _^_, _≤_, _<_, zero-le}
 use mathlib.Core.Path.{_≡_, refl}
 use mathlib.Core.Bool.{Bool, true, false, not, cond, _&&_}
 use mathlib.Core.List.{List}
-use native.Mathlib.Nat.{le-refl, le-trans, le-antisymm, lt-of-not-le, not-le-of-lt, sub-le, mul-le-mul-right, mul-lt-mul-of-pos-right, pow-le-pow-left, le-of-suc-le-suc, pow-suc}
+use native.Mathlib.Nat.{le-trans, le-antisymm, lt-of-not-le, not-le-of-lt, sub-le, mul-le-mul-right, mul-lt-mul-of-pos-right, pow-le-pow-left, le-of-suc-le-suc, pow-suc}
 use native.Mathlib.Omega.{arith}
-use lib.Dec.{T, T-not, ltb, leb→le, le→leb, lit<}
-use lib.IntN.{ℤ}
+use lib.Dec.{T, T-not, leb→le, le→leb, lit<}
 use lib.ListN.{length, getD}
 use Rattle.withdrawal.specs.Survival.{survives, withBits, survival}
-use Rattle.withdrawal.specs.Gain.{gain, cost, atMost}
-use Rattle.withdrawal.specs.Tiers.{TierTable, annualWithdrawal}
-use Rattle.withdrawal.specs.MonthSurvival.{Account, retail, brokered, earlySurvival, monthSurvival}
-use Rattle.withdrawal.proofs.TableLaws.{both, everyEntry, entry-passes}
+use Rattle.lists.proofs.TestLaws.{both, everyEntry, entry-passes}
 
 -- r is the largest number that passes the test
 pub record Largest (test : ℕ → Bool) (r : ℕ) : Type 0 where
@@ -78,15 +74,3 @@ survival-of-rule w q t =
 -- the entries of a table whose every entry obeys the rule are the survivals
 pub table-survival : (figures : List ℕ) (w : ℕ) → T (everyEntry isSurvival figures) → w < length figures → getD figures w 0 ≡ survival w
 table-survival figures w t h = survival-of-rule w (getD figures w 0) (entry-passes isSurvival figures t w h)
-
--- what survives a month is at most 10^9, by any tiers and of any account
-early-survival-le : (tiers : TierTable) (account : Account) (g : ℤ) (k : ℕ) → earlySurvival tiers account g k ≤ 10 ^ 9
-unfolding earlySurvival
-early-survival-le tiers retail g k = survival-le (annualWithdrawal tiers g k)
-early-survival-le tiers brokered g k = cond-cases (λ q. q ≤ 10 ^ 9) (atMost (suc k) g) 0 (10 ^ 9) (λ t. zero-le) (λ t. le-refl (10 ^ 9))
-
-pub month-survival-le : (tiers : TierTable) (account : Account) (c p r T t : ℕ) → monthSurvival tiers account c p r T t ≤ 10 ^ 9
-unfolding monthSurvival
-month-survival-le tiers account c p r T t =
-    cond-cases (λ q. q ≤ 10 ^ 9) (ltb t T) (earlySurvival tiers account (gain c p r (T - t)) (cost c (T - t))) (10 ^ 9)
-    (λ h. early-survival-le tiers account (gain c p r (T - t)) (cost c (T - t))) (λ h. le-refl (10 ^ 9))

@@ -12,7 +12,7 @@ use Rattle.lists.specs.Tables.{tableFrom}
 use Rattle.withdrawal.specs.declared.WithdrawalTiers.{WithdrawalTiers}
 use Rattle.withdrawal.specs.Tiers.{WithdrawalTier, tier, reached, firstReached, annualWithdrawal}
 use Rattle.withdrawal.specs.TierArrays.{tierTable, tierTableOf, TiersFit}
-use Rattle.withdrawal.proofs.TableLaws.{everyEntry, entries-le}
+use Rattle.lists.proofs.TestLaws.{everyEntry, entries-le}
 
 module _ (t : WithdrawalTiers) (g : ℤ) (k : ℕ) where
   -- the tier at a place

@@ -8,7 +8,7 @@ use borrow.Author.Count.{below-none}
 use borrow.Author.Needs.{needs}
 use Rattle.withdrawal.specs.Survival.{survival}
 use Rattle.withdrawal.specs.TierArrays.{tierTable}
-use Rattle.withdrawal.proofs.TableLaws.{stored-below}
+use Rattle.lists.proofs.StoreLaws.{stored-below}
 use Rattle.withdrawal.proofs.tiers.with_survivals.Statement.{statement}
 use Rattle.withdrawal.proofs.tiers.with_survivals.Tie as tie
 

@@ -1,0 +1,7 @@
+pub mod ByteLaws
+pub mod RecordLaws
+pub mod FaultLaws
+pub mod StepLaws
+pub mod VerdictLaws
+pub mod AcceptedLaws
+pub mod Controls

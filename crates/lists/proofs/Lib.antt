@@ -1,0 +1,5 @@
+pub mod EachLaws
+pub mod SumLaws
+pub mod TableLaws
+pub mod TestLaws
+pub mod StoreLaws

@@ -1,0 +1,58 @@
+-- Laws of tables and of lists joined one after the other: their lengths, and what stands at a place. Assumes nothing.
+use Prim.Native.Nat.{ℕ, zero, suc, _+_, _*_, _≤_, _<_}
+use mathlib.Core.Path.{_≡_, refl, ap, sym, _∙_}
+use mathlib.Core.List.{List}
+use native.Mathlib.Nat.{not-suc-le-zero, le-of-suc-le-suc, add-zero, zero-add, add-suc, suc-add, mul-zero, mul-suc}
+use native.Mathlib.Omega.{arith}
+use lib.ListN.{length, getD, length-append, List·getD-append}
+use lib.Seq.{getD-append-add}
+use Rattle.lists.specs.Tables.{tableFrom, table, joined}
+
+module _ {ℓ} {A : Type ℓ} where
+  -- a table of n has n elements
+  pub table-length : (s n : ℕ) (f : ℕ → A) → length (tableFrom s n f) ≡ n
+  unfolding tableFrom
+  table-length s zero f = refl
+  table-length s (suc n) f = ap suc (table-length (suc s) n f)
+
+  -- at place i of a table from s stands f (s + i)
+  pub tableFrom-getD : (s n : ℕ) (f : ℕ → A) (i : ℕ) (d : A) → i < n → getD (tableFrom s n f) i d ≡ f (s + i)
+  unfolding tableFrom
+  tableFrom-getD s zero f i d h = absurd (not-suc-le-zero h)
+  tableFrom-getD s (suc n) f zero d h = rw add-zero
+  tableFrom-getD s (suc n) f (suc i) d h = rw (tableFrom-getD (suc s) n f i d (le-of-suc-le-suc h), suc-add, ← add-suc)
+
+  -- at place i of a table stands f i
+  pub table-getD : (n : ℕ) (f : ℕ → A) (i : ℕ) (d : A) → i < n → getD (table n f) i d ≡ f i
+  table-getD n f i d h = tableFrom-getD 0 n f i d h ∙ ap f (zero-add i)
+
+  -- n lists of m elements each have m × n
+  pub joined-length : (m s n : ℕ) (f : ℕ → List A) → ((i : ℕ) → length (f i) ≡ m) → length (joined (tableFrom s n f)) ≡ m * n
+  unfolding tableFrom joined
+  joined-length m s zero f h = sym (mul-zero m)
+  joined-length m s (suc n) f h =
+      omega (arith, length-append (f s) (joined (tableFrom (suc s) n f)), h s, joined-length m (suc s) n f h, mul-suc m n)
+
+  joinedFrom-getD : (m s n : ℕ) (f : ℕ → List A) → ((i : ℕ) → length (f i) ≡ m) → (i r : ℕ) (d : A) → i < n → r < m
+      → getD (joined (tableFrom s n f)) (m * i + r) d ≡ getD (f (s + i)) r d
+  unfolding tableFrom joined
+  joinedFrom-getD m s zero f h i r d hi hr = absurd (not-suc-le-zero hi)
+  joinedFrom-getD m s (suc n) f h zero r d hi hr =
+      let hl : r < length (f s) = omega (arith, h s) in
+      let e : m * 0 + r ≡ r = omega arith in
+      rw (e, List·getD-append (f s) (joined (tableFrom (suc s) n f)) d r hl, add-zero)
+  joinedFrom-getD m s (suc n) f h (suc i) r d hi hr =
+      let e : m * suc i + r ≡ length (f s) + (m * i + r) = omega (arith, h s, mul-suc m i) in
+      rw (e, getD-append-add, joinedFrom-getD m (suc s) n f h i r d (le-of-suc-le-suc hi) hr, suc-add, ← add-suc)
+
+  -- of lists of m elements each, joined: at place m × i + r stands what the i-th has at r
+  pub joined-getD : (m n : ℕ) (f : ℕ → List A) → ((i : ℕ) → length (f i) ≡ m) → (i r : ℕ) (d : A) → i < n → r < m
+      → getD (joined (table n f)) (m * i + r) d ≡ getD (f i) r d
+  joined-getD m n f h i r d hi hr = joinedFrom-getD m 0 n f h i r d hi hr ∙ ap (λ (j : ℕ). getD (f j) r d) (zero-add i)
+
+-- what bounds each value of the function bounds each read, also one past the end, which gives 0
+pub table-le : (s n : ℕ) (f : ℕ → ℕ) (limit : ℕ) → ((j : ℕ) → s ≤ j → j < s + n → f j ≤ limit) → (i : ℕ) → getD (tableFrom s n f) i 0 ≤ limit
+unfolding tableFrom
+table-le s zero f limit h i = omega arith
+table-le s (suc n) f limit h zero = h s (omega arith) (omega arith)
+table-le s (suc n) f limit h (suc i) = table-le (suc s) n f limit (λ j l u. h j (omega arith) (omega arith)) i

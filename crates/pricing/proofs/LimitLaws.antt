@@ -1,0 +1,91 @@
+-- No figure and no product of the run leaves 64 bits, for terms within the limits. Assumes nothing.
+use Prim.Native.Nat.{ℕ, zero, suc, _+_, _*_, _-_, _^_, _≤_, _<_, zero-le}
+use mathlib.Core.Logic.{⊎-elim}
+use lib.Dec.{lit<}
+use native.Mathlib.Nat.{le-refl, le-trans, le-add-left, add-le-add, eq-or-lt-of-le, mul-le-mul, mul-le-mul-left}
+use native.Mathlib.Omega.{arith}
+use Rattle.fraction.proofs.EnclosureLaws.{encloses-le}
+use Rattle.pricing.specs.Terms.{Terms}
+use Rattle.pricing.specs.Bounded.{Bounded}
+use Rattle.pricing.specs.Rounding.{Rounding, down, up, quotient}
+use Rattle.pricing.specs.Run.{balanceBy, flowBy, discountBy, discountFactorBy, priceToBy, priceBy}
+use Rattle.pricing.proofs.RoundingLaws.{ceiling-lt}
+use Rattle.pricing.proofs.EnclosureLaws.{balance-encloses, flow-encloses, discount-encloses, price-to-encloses}
+use Rattle.pricing.proofs.AmountLaws.{outflowsBy, amount-le, amount-limit}
+use Rattle.pricing.proofs.DiscountLaws.{discount-le}
+use Rattle.pricing.proofs.PaymentLaws.{paymentsBy, payments-before, payments-last}
+
+-- a bound of the upper figure bounds the lower one too
+either : (f : Rounding → ℕ) (n : ℕ) → f down ≤ f up → f up ≤ n → (ρ : Rounding) → f ρ ≤ n
+either f n h hu down = le-trans h hu
+either f n h hu up = hu
+
+pub balance-limit : (k : Terms) → Bounded k → (t : ℕ) → t ≤ 120 → (ρ : Rounding) → balanceBy ρ k t ≤ 4533261346
+balance-limit k b t h =
+    either (λ (ρ : Rounding). balanceBy ρ k t) 4533261346 (encloses-le (balance-encloses k t)) (omega (arith, amount-le k b t, amount-limit h))
+
+-- all that is paid to month t of the term
+payments-limit : (k : Terms) → Bounded k → (t : ℕ) → t ≤ k .months → paymentsBy up k t ≤ 4533261346
+unfolding paymentsBy
+payments-limit k b zero h = zero-le
+payments-limit k b (suc t) h =
+    ⊎-elim (λ e. omega (arith, payments-last up k t e, total)) (λ l. omega (arith, payments-before up k (suc t) l, total)) (eq-or-lt-of-le h)
+  where
+    total : balanceBy up k (suc t) + outflowsBy up k (suc t) ≤ 4533261346
+    total = le-trans (amount-le k b (suc t)) (amount-limit (omega (arith, b .months-limit)))
+
+flow-le-payments : (k : Terms) (t : ℕ) → flowBy up k t ≤ paymentsBy up k (suc t)
+unfolding paymentsBy
+flow-le-payments k t = le-add-left (flowBy up k t) (paymentsBy up k t)
+
+pub flow-limit : (k : Terms) → Bounded k → (t : ℕ) → t < k .months → (ρ : Rounding) → flowBy ρ k t ≤ 4533261346
+flow-limit k b t h =
+    either (λ (ρ : Rounding). flowBy ρ k t) 4533261346 (encloses-le (flow-encloses k t)) (le-trans (flow-le-payments k t) (payments-limit k b (suc t) h))
+
+pub discount-limit : (z n : ℕ) (ρ : Rounding) → discountBy ρ z n ≤ 10 ^ 9
+discount-limit z n = either (λ (ρ : Rounding). discountBy ρ z n) (10 ^ 9) (encloses-le (discount-encloses z n)) (discount-le z n)
+
+-- a product with a discount factor, rounded up, is at most the flow
+product-le : (f d : ℕ) → d ≤ 10 ^ 9 → quotient up (f * d) (10 ^ 9) ≤ f
+product-le f d h = omega (arith, ceiling-lt (f * d) (10 ^ 9) (lit< tt), mul-le-mul-left f h)
+
+price-le-payments : (k : Terms) (t : ℕ) → priceToBy up k t ≤ paymentsBy up k t
+unfolding priceToBy paymentsBy discountFactorBy
+price-le-payments k zero = zero-le
+price-le-payments k (suc t) = add-le-add (price-le-payments k t) (product-le (flowBy up k t) (discountBy up (k .yield (suc t)) (suc t)) (discount-le (k .yield (suc t)) (suc t)))
+
+pub price-limit : (k : Terms) → Bounded k → (t : ℕ) → t ≤ k .months → (ρ : Rounding) → priceToBy ρ k t ≤ 4533261346
+price-limit k b t h =
+    either (λ (ρ : Rounding). priceToBy ρ k t) 4533261346 (encloses-le (price-to-encloses k t))
+    (le-trans (price-le-payments k t) (payments-limit k b t h))
+
+-- The products of the run, each with the divisor that a ceiling adds. B × (25,000 c + 3 q):
+pub balance-product-limit : (k : Terms) → Bounded k → (t : ℕ) → t ≤ 120 → (ρ : Rounding) → balanceBy ρ k t * (k .growth + 3 * k .survival (suc t)) + 3 * 10 ^ 9 < 2 ^ 64
+balance-product-limit k b t h ρ =
+    omega (arith, mul-le-mul (balance-limit k b t h ρ) (factor (b .growth-limit) (b .survival-limit (suc t))))
+  where
+    factor : {g q : ℕ} → g ≤ 37500000 → q ≤ 10 ^ 9 → g + 3 * q ≤ 3037500000
+    factor hg hq = omega arith
+
+-- B × (a + 10^9 - q)
+pub outflow-product-limit : (k : Terms) → Bounded k → (t : ℕ) → t ≤ 120 → (ρ : Rounding) → balanceBy ρ k t * (k .servicing + 10 ^ 9 - k .survival (suc t)) + 10 ^ 9 < 2 ^ 64
+outflow-product-limit k b t h ρ =
+    omega (arith, mul-le-mul (balance-limit k b t h ρ) (factor (k .survival (suc t)) (b .servicing-limit)))
+  where
+    factor : {a : ℕ} (q : ℕ) → a ≤ 175000 → a + 10 ^ 9 - q ≤ 1000175000
+    factor q ha = omega arith
+
+-- df × 120,000
+pub discount-product-limit : (z n : ℕ) → z ≤ 2800 → (ρ : Rounding) → discountBy ρ z n * 120000 + (120000 + z) < 2 ^ 64
+discount-product-limit z n h ρ = omega (arith, discount-limit z n ρ)
+
+-- flow × df
+pub flow-product-limit : (k : Terms) → Bounded k → (t : ℕ) → t < k .months → (ρ : Rounding) → flowBy ρ k t * discountFactorBy ρ k (suc t) + 10 ^ 9 < 2 ^ 64
+unfolding discountFactorBy
+flow-product-limit k b t h ρ =
+    omega (arith, mul-le-mul (flow-limit k b t h ρ) (discount-limit (k .yield (suc t)) (suc t) ρ))
+
+-- balance × price
+pub value-product-limit : (balance : ℕ) (k : Terms) → balance ≤ 999999999 → Bounded k → (ρ : Rounding) → balance * priceBy ρ k + 10 ^ 6 < 2 ^ 64
+unfolding priceBy
+value-product-limit balance k h b ρ = omega (arith, mul-le-mul h (price-limit k b (k .months) (le-refl (k .months)) ρ))

@@ -1,0 +1,3 @@
+pub mod ApportionLaws
+pub mod PartLaws
+pub mod SubBalanceLaws
