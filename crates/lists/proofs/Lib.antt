@@ -2,3 +2,4 @@ pub mod EachLaws
 pub mod SumLaws
 pub mod TableLaws
 pub mod TestLaws
+pub mod StoreLaws

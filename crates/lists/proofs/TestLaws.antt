@@ -1,11 +1,11 @@
 -- A test over a range of numbers, or over all entries of a list, is computed once and carried to each of them. Assumes nothing.
-use Prim.Native.Nat.{ℕ, zero, suc, _+_, _-_, _≤_, _<_}
+use Prim.Native.Nat.{ℕ, zero, suc, _+_, _-_, _≤_, _<_, zero-le}
 use mathlib.Core.Path.{_≡_, subst}
 use mathlib.Core.Bool.{Bool, true, false, _&&_}
 use mathlib.Core.List.{List, [], _∷_}
 use native.Mathlib.Nat.{add-zero, suc-add, add-suc, le-of-suc-le-suc, not-suc-le-zero}
 use native.Mathlib.Omega.{arith}
-use lib.Dec.{T}
+use lib.Dec.{T, leb, leb→le}
 use lib.ListN.{length, getD}
 
 -- both sides of a conjunction that holds
@@ -42,3 +42,9 @@ entry-passes test [] t k h = absurd (not-suc-le-zero h)
 entry-passes test (x ∷ xs) t zero h = both (test 0 x) (everyEntry (λ i. test (suc i)) xs) t .0
 entry-passes test (x ∷ xs) t (suc k) h =
     entry-passes (λ i. test (suc i)) xs (both (test 0 x) (everyEntry (λ i. test (suc i)) xs) t .1) k (le-of-suc-le-suc h)
+
+-- entries that are all at most b: so is what is read at any place, past the end too
+pub entries-le : (xs : List ℕ) (b : ℕ) → T (everyEntry (λ i x. leb x b) xs) → (k : ℕ) → getD xs k 0 ≤ b
+entries-le [] b t k = zero-le
+entries-le (x ∷ xs) b t zero = leb→le x b (both (leb x b) (everyEntry (λ i y. leb y b) xs) t .0)
+entries-le (x ∷ xs) b t (suc k) = entries-le xs b (both (leb x b) (everyEntry (λ i y. leb y b) xs) t .1) k

@@ -2,13 +2,15 @@
 use Prim.Native.Nat.{ℕ, zero, suc, _+_, _*_, _-_, _≤_, _<_}
 use mathlib.Core.Path.{_≡_, refl, sym, ap, _∙_}
 use mathlib.Core.Bool.{Bool, true, false}
-use native.Mathlib.Nat.{mul-le-mul-left, mul-lt-mul-of-pos-left, mul-sub, one-mul, lt-of-not-le, not-le-of-lt, mul-pos, not-suc-le-zero, zero-lt-suc}
+use native.Mathlib.Nat.{mul-le-mul-left, mul-lt-mul-of-pos-left, mul-sub, one-mul, lt-of-not-le, not-le-of-lt, mul-pos, not-suc-le-zero, zero-lt-suc, suc-add}
 use native.Mathlib.Omega.{arith}
 use lib.Dec.{leb, ltb}
-use lib.IntN.{ℤ, pos, negsuc, negℤ, one, _-ℤ_, _*ℤ_, *ℤ-comm, *ℤ-one}
+use lib.IntN.{pos, negsuc, negℤ, one, _-ℤ_, _*ℤ_, *ℤ-comm, *ℤ-one}
 use borrow.Author.Tests.{leb-true, leb-false, ltb-true, ltb-false, le-leb, lt-leb, le-ltb, lt-ltb}
+use Rattle.withdrawal.specs.declared.Incentive.{Incentive}
 use Rattle.withdrawal.specs.Gain.{gain, atMost}
 use Rattle.withdrawal.specs.Tiers.{reached}
+use Rattle.withdrawal.specs.Incentives.{gainOf}
 
 -- tests of facts that imply each other are equal
 leb-iff : (a b c d : ℕ) → (a ≤ b → c ≤ d) → (c ≤ d → a ≤ b) → leb a b ≡ leb c d
@@ -52,18 +54,25 @@ at-most-scaled m k a b h = by (ltb a b) refl
         (λ u. omega (arith, mul-sub k a b, mul-le-mul-left k l)) (λ u. omega (arith, mul-sub k a b, mul-le-mul-left k l)))
 
 -- m ≤ a - b exactly where m + b ≤ a
-pub at-most-difference : (m a b : ℕ) → atMost m (pos a -ℤ pos b) ≡ leb (m + b) a
+at-most-difference : (m a b : ℕ) → atMost m (pos a -ℤ pos b) ≡ leb (m + b) a
 unfolding one
 at-most-difference m a b =
     ap (atMost m) (sym (*ℤ-comm (pos 1) (pos a -ℤ pos b) ∙ *ℤ-one (pos a -ℤ pos b)))
-    ∙ rw (at-most-scaled m 1 a b (zero-lt-suc 0), one-mul, one-mul)
+    ∙ rw (at-most-scaled m 1 a b (zero-lt-suc 0), one-mul b, one-mul a)
 
--- an edge is reached exactly where edge × cost, with 100 times the negative part of the gain, is at most 100 times its positive part
-pub reached-difference : (a b k edge : ℕ) → reached (pos a -ℤ pos b) k edge ≡ leb (edge * k + 100 * b) (100 * a)
-unfolding reached
-reached-difference a b k edge = at-most-scaled (edge * k) 100 a b (zero-lt-suc 99)
+-- an edge is reached exactly where edge × cost + 100 × forfeited ≤ 100 × earned
+pub reached-iff : (x : Incentive) (edge : ℕ) → reached (gainOf x) (x .cost) edge ≡ leb (edge * x .cost + 100 * x .forfeited) (100 * x .earned)
+unfolding reached gainOf
+reached-iff x edge = at-most-scaled (edge * x .cost) 100 (x .earned) (x .forfeited) (zero-lt-suc 99)
+
+-- the gain is above the cost exactly where cost + forfeited < earned
+pub gain-above-cost-iff : (x : Incentive) → atMost (suc (x .cost)) (gainOf x) ≡ ltb (x .cost + x .forfeited) (x .earned)
+unfolding gainOf
+gain-above-cost-iff x =
+    at-most-difference (suc (x .cost)) (x .earned) (x .forfeited)
+    ∙ ap (λ (m : ℕ). leb m (x .earned)) (suc-add (x .cost) (x .forfeited))
 
 -- the gain as a difference of whole numbers, where c × p is at most 12,000,000
-pub gain-difference : (c p r n : ℕ) → c * p ≤ 12000000 → gain c p r n ≡ pos ((12000000 - c * p) * (r * n)) -ℤ pos (120000 * c * p)
+pub gain-difference : (c p r n : ℕ) → c * p ≤ 12000000 → pos ((12000000 - c * p) * (r * n)) -ℤ pos (120000 * c * p) ≡ gain c p r n
 unfolding gain
 gain-difference c p r n h = rw (difference-pos 12000000 (c * p) h)

@@ -1,3 +1,4 @@
 pub mod SurvivalLaws
 pub mod GainLaws
+pub mod TierLaws
 pub mod MonthSurvivalLaws
