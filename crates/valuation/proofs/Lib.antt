@@ -1,2 +1,3 @@
 pub mod TermsLaws
+pub mod PriceLaws
 pub mod ValueLaws

@@ -1,4 +1,5 @@
 pub mod DepositTerms
+pub mod Deposits
 pub mod Rows
 pub mod Exact
 pub mod Run

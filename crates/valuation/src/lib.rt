@@ -1,4 +1,5 @@
 // Certificate deposits under seven rate scenarios: from what a filing says to its 568 numbers.
+pub mod prices;
 
 // A deposit as its cash flows see it: coupon and shifted retail rate in hundredths of a percent a year, penalty in hundredths of a month,
 // remaining months.
@@ -8,4 +9,10 @@ pub struct Deposit {
     pub penalty: u64,
     pub rate: u64,
     pub months: u64,
+}
+
+// A lower and an upper figure.
+pub struct Bounds {
+    pub lower: u64,
+    pub upper: u64,
 }
