@@ -1,0 +1,4 @@
+pub mod RecordLaws
+pub mod FaultLaws
+pub mod VerdictLaws
+pub mod AcceptedLaws
