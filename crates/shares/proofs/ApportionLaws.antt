@@ -8,10 +8,10 @@ use native.Mathlib.Nat.{add-zero, add-assoc, mul-zero, mul-le-mul-left, mul-le-m
 use native.Mathlib.Omega.{arith}
 use lib.ListN.{length, getD}
 use Rattle.lists.specs.Sums.{sum}
-use Rattle.shares.specs.Apportion.{cumulativeShare, sharesFrom, apportion}
+use Rattle.shares.specs.Apportion.{cumulativeShare, shareBehind, sharesFrom, apportion}
 
 -- the share of more parts is not smaller
-cumulative-mono : (amount total : ℕ) {first more : ℕ} → first ≤ more → cumulativeShare amount total first ≤ cumulativeShare amount total more
+pub cumulative-mono : (amount total : ℕ) {first more : ℕ} → first ≤ more → cumulativeShare amount total first ≤ cumulativeShare amount total more
 unfolding cumulativeShare
 cumulative-mono amount zero {first} {more} h = omega (arith, div-zero (amount * first), div-zero (amount * more))
 cumulative-mono amount (suc n) {first} {more} h =
@@ -29,22 +29,21 @@ unfolding cumulativeShare
 cumulative-all amount zero h = omega (arith, div-zero (amount * 0))
 cumulative-all amount (suc n) h = mul-div-cancel amount (zero-lt-suc n)
 
--- a part x more adds at most x: amount × (first + x) ≤ amount × first + total × x < (the share + 1 + x) × total
-cumulative-step : (amount total first x : ℕ) → amount ≤ total
-    → cumulativeShare amount total (first + x) ≤ cumulativeShare amount total first + x
-unfolding cumulativeShare
-cumulative-step amount zero first x h = omega (arith, div-zero (amount * (first + x)))
-cumulative-step amount (suc n) first x h =
+-- a part x has a share of at most x: amount × (first + x) ≤ amount × first + total × x < (the share + 1 + x) × total
+pub share-le : (amount total before x : ℕ) → amount ≤ total → shareBehind amount total before x ≤ x
+unfolding shareBehind cumulativeShare
+share-le amount zero before x h = omega (arith, div-zero (amount * (before + x)))
+share-le amount (suc n) before x h =
     omega (
       arith,
-      div-lt-iff-lt-mul {x = amount * (first + x)} {y = amount * first / suc n + x + 1} (zero-lt-suc n) .1
-          (omega (arith, lt-div-mul-add {a = amount * first} (zero-lt-suc n), mul-le-mul-right x h)),
+      div-lt-iff-lt-mul {x = amount * (before + x)} {y = amount * before / suc n + x + 1} (zero-lt-suc n) .1
+          (omega (arith, lt-div-mul-add {a = amount * before} (zero-lt-suc n), mul-le-mul-right x h)),
     )
 
 -- the shares of the parts behind a sum of `before` are what the cumulative share grows by
 sharesFrom-sum : (amount total before : ℕ) (parts : List ℕ)
     → cumulativeShare amount total before + sum (sharesFrom amount total before parts) ≡ cumulativeShare amount total (before + sum parts)
-unfolding sharesFrom sum
+unfolding sharesFrom shareBehind sum
 sharesFrom-sum amount total before [] = simp add-zero
 sharesFrom-sum amount total before (x ∷ xs) =
     omega (
@@ -58,7 +57,7 @@ sharesFrom-le : (amount total before : ℕ) (parts : List ℕ) → amount ≤ to
     → (i : ℕ) → getD (sharesFrom amount total before parts) i 0 ≤ getD parts i 0
 unfolding sharesFrom
 sharesFrom-le amount total before [] h i = omega arith
-sharesFrom-le amount total before (x ∷ xs) h zero = omega (arith, cumulative-step amount total before x h)
+sharesFrom-le amount total before (x ∷ xs) h zero = share-le amount total before x h
 sharesFrom-le amount total before (x ∷ xs) h (suc i) = sharesFrom-le amount total (before + x) xs h i
 
 sharesFrom-length : (amount total before : ℕ) (parts : List ℕ) → length (sharesFrom amount total before parts) ≡ length parts
@@ -67,7 +66,7 @@ sharesFrom-length amount total before [] = refl
 sharesFrom-length amount total before (x ∷ xs) = ap suc (sharesFrom-length amount total (before + x) xs)
 
 sharesFrom-zero : (amount before : ℕ) (parts : List ℕ) (i : ℕ) → getD (sharesFrom amount 0 before parts) i 0 ≡ 0
-unfolding sharesFrom cumulativeShare
+unfolding sharesFrom shareBehind cumulativeShare
 sharesFrom-zero amount before [] i = refl
 sharesFrom-zero amount before (x ∷ xs) zero = omega (arith, div-zero (amount * (before + x)))
 sharesFrom-zero amount before (x ∷ xs) (suc i) = sharesFrom-zero amount (before + x) xs i

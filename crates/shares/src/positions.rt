@@ -1,0 +1,1 @@
+// The nine positions of Schedule CMR and the cells of a filing.

@@ -1,0 +1,1 @@
+// The split of a filing's balances.
