@@ -1,3 +1,4 @@
 pub mod EachLaws
 pub mod SumLaws
 pub mod TableLaws
+pub mod TestLaws

@@ -6,7 +6,7 @@ use mathlib.Core.List.{List, [], _∷_, _++_}
 use native.Mathlib.Nat.{lt-suc-self, lt-trans}
 use native.Mathlib.Omega.{arith}
 use lib.ListN.{getD}
-use Rattle.lists.specs.Sums.{sum, sumWhere}
+use Rattle.lists.specs.Sums.{sum, sumWhere, everywhere}
 
 -- the sum of two lists, one after the other
 pub sum-append : (xs ys : List ℕ) → sum (xs ++ ys) ≡ sum xs + sum ys
@@ -65,7 +65,7 @@ cond-not false x = omega arith
 
 -- the places that pass a test and those that do not are all places
 pub sumWhere-split : (test : ℕ → Bool) (f : ℕ → ℕ) (n : ℕ)
-    → sumWhere test f n + sumWhere (λ i. not (test i)) f n ≡ sumWhere (λ _. true) f n
+    → sumWhere test f n + sumWhere (λ i. not (test i)) f n ≡ sumWhere everywhere f n
 unfolding sumWhere
 sumWhere-split test f zero = omega arith
 sumWhere-split test f (suc n) = omega (arith, sumWhere-split test f n, cond-not (test n) (f n))

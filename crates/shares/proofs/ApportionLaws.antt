@@ -31,7 +31,7 @@ cumulative-all amount (suc n) h = mul-div-cancel amount (zero-lt-suc n)
 
 -- a part x has a share of at most x: amount × (first + x) ≤ amount × first + total × x < (the share + 1 + x) × total
 pub share-le : (amount total before x : ℕ) → amount ≤ total → shareBehind amount total before x ≤ x
-unfolding shareBehind cumulativeShare
+unfolding cumulativeShare
 share-le amount zero before x h = omega (arith, div-zero (amount * (before + x)))
 share-le amount (suc n) before x h =
     omega (
@@ -43,7 +43,7 @@ share-le amount (suc n) before x h =
 -- the shares of the parts behind a sum of `before` are what the cumulative share grows by
 sharesFrom-sum : (amount total before : ℕ) (parts : List ℕ)
     → cumulativeShare amount total before + sum (sharesFrom amount total before parts) ≡ cumulativeShare amount total (before + sum parts)
-unfolding sharesFrom shareBehind sum
+unfolding sharesFrom sum
 sharesFrom-sum amount total before [] = simp add-zero
 sharesFrom-sum amount total before (x ∷ xs) =
     omega (
@@ -66,7 +66,7 @@ sharesFrom-length amount total before [] = refl
 sharesFrom-length amount total before (x ∷ xs) = ap suc (sharesFrom-length amount total (before + x) xs)
 
 sharesFrom-zero : (amount before : ℕ) (parts : List ℕ) (i : ℕ) → getD (sharesFrom amount 0 before parts) i 0 ≡ 0
-unfolding sharesFrom shareBehind cumulativeShare
+unfolding sharesFrom cumulativeShare
 sharesFrom-zero amount before [] i = refl
 sharesFrom-zero amount before (x ∷ xs) zero = omega (arith, div-zero (amount * (before + x)))
 sharesFrom-zero amount before (x ∷ xs) (suc i) = sharesFrom-zero amount (before + x) xs i

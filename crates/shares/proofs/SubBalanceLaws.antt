@@ -6,7 +6,7 @@ use mathlib.Core.Bool.{true}
 use native.Mathlib.Nat.{le-trans}
 use native.Mathlib.Omega.{arith}
 use lib.ListN.{length, getD}
-use Rattle.lists.specs.Sums.{sum, sumWhere}
+use Rattle.lists.specs.Sums.{sum, sumWhere, everywhere}
 use Rattle.lists.specs.Tables.{those}
 use Rattle.lists.proofs.EachLaws.{each-lt}
 use Rattle.lists.proofs.SumLaws.{sum-getD-le, sumWhere-ext}
@@ -99,11 +99,11 @@ module _ (k : Contents) (p : Position)
   position-sum = omega (arith, retailIn-sum, retailPenalized-le, brokeredPenalized-le)
 
 -- the places are four for each position
-places-sum : (k : Contents) → sumWhere (λ _. true) (balanceAt k) subBalanceCount ≡ sumWhere (λ _. true) (λ i. sum (fourOf k (positionAt i))) 9
+places-sum : (k : Contents) → sumWhere everywhere (balanceAt k) subBalanceCount ≡ sumWhere everywhere (λ i. sum (fourOf k (positionAt i))) 9
 unfolding sumWhere balanceAt positionOf fourOf sum
 places-sum k = omega arith
 
-positions-sum : (k : Contents) → sumWhere (λ _. true) (λ i. cell k (positionAt i .balance)) 9 ≡ sum (balances k)
+positions-sum : (k : Contents) → sumWhere everywhere (λ i. cell k (positionAt i .balance)) 9 ≡ sum (balances k)
 unfolding sumWhere balances positionAt positions position sum
 positions-sum k = omega arith
 
@@ -124,11 +124,11 @@ module _ (k : Contents)
       rw (← four-sum (place / 4) (omega arith)) (sum-getD-le (fourOf k (positionAt (place / 4))) (place % 4))
 
   -- the thirty-six sub-balances add up to the nine balances: they are four for each position
-  pub balanceAt-sum : sumWhere (λ _. true) (balanceAt k) subBalanceCount ≡ sum (balances k)
-  balanceAt-sum = places-sum k ∙ sumWhere-ext (λ _. true) _ _ 9 four-sum ∙ positions-sum k
+  pub balanceAt-sum : sumWhere everywhere (balanceAt k) subBalanceCount ≡ sum (balances k)
+  balanceAt-sum = places-sum k ∙ sumWhere-ext everywhere _ _ 9 four-sum ∙ positions-sum k
 
 -- of an accepted filing the thirty-six sub-balances add up to its total
-pub balanceAt-total : (k : Contents) → Valid k → sumWhere (λ _. true) (balanceAt k) subBalanceCount ≡ cell k totalCell
+pub balanceAt-total : (k : Contents) → Valid k → sumWhere everywhere (balanceAt k) subBalanceCount ≡ cell k totalCell
 balanceAt-total k v = balanceAt-sum k (v .brokered-within) (v .penalized-within) ∙ sym (v .total-is-sum)
 
 -- of an accepted filing each sub-balance is within a balance's limit

@@ -8,7 +8,7 @@ unfoldable pub cumulativeShare : ℕ → ℕ → ℕ → ℕ
 cumulativeShare amount total first = amount * first / total
 
 -- the share of a part that stands behind a sum of `before`
-unfoldable pub shareBehind : ℕ → ℕ → ℕ → ℕ → ℕ
+abbrev pub shareBehind : ℕ → ℕ → ℕ → ℕ → ℕ
 shareBehind amount total before part = cumulativeShare amount total (before + part) - cumulativeShare amount total before
 
 -- the shares of the parts, the first of which stands behind a sum of `before`

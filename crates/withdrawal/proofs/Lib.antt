@@ -1,3 +1,3 @@
-pub mod TableLaws
 pub mod SurvivalLaws
 pub mod GainLaws
+pub mod MonthSurvivalLaws

@@ -8,7 +8,7 @@ use native.Mathlib.Omega.{arith}
 use lib.Dec.{T, T-not, leb→le, le→leb, lit<}
 use lib.ListN.{length, getD}
 use Rattle.withdrawal.specs.Survival.{survives, withBits, survival}
-use Rattle.withdrawal.proofs.TableLaws.{both, everyEntry, entry-passes}
+use Rattle.lists.proofs.TestLaws.{both, everyEntry, entry-passes}
 
 -- r is the largest number that passes the test
 pub record Largest (test : ℕ → Bool) (r : ℕ) : Type 0 where

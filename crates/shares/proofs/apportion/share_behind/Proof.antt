@@ -2,7 +2,6 @@
 use borrow.Author.Needs.{needs}
 use native.Mathlib.Nat.{le-add-right}
 use native.Mathlib.Omega.{arith}
-use Rattle.shares.specs.Apportion.{shareBehind}
 use Rattle.shares.proofs.ApportionLaws.{cumulative-mono, share-le}
 use Rattle.shares.proofs.apportion.share_behind.Statement.{statement}
 use Rattle.shares.proofs.apportion.share_behind.Tie as tie
@@ -22,7 +21,6 @@ sub-result c =
     omega (arith, cumulative-mono (a .amount) (a .total) (le-add-right (a .before) (a .part)))
 
 returns : tie.Need-returns
-unfolding shareBehind
 returns c =
     let a = c .before .before .args in
     (search needs, omega (arith, share-le (a .amount) (a .total) (a .before) (a .part) (c .before .before .pre .2)))

@@ -1,0 +1,2 @@
+pub mod TermsLaws
+pub mod ValueLaws
