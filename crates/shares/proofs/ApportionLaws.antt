@@ -1,12 +1,13 @@
 -- Laws of an amount split over parts by cumulative shares, for any amount and any parts: the shares add up to the amount, and none exceeds its
 -- part. Assumes nothing.
 use Prim.Native.Nat.{ℕ, zero, suc, _+_, _*_, _/_, _≤_}
-use mathlib.Core.Path.{_≡_, refl, ap}
+use mathlib.Core.Path.{_≡_, refl, ap, _∙_}
 use mathlib.Core.List.{List, [], _∷_}
 use native.Mathlib.Nat.{le-add-right, div-zero, zero-div, div-mul-le-self, lt-div-mul-add, le-div-iff-mul-le, div-lt-iff-lt-mul, mul-div-cancel}
-use native.Mathlib.Nat.{add-zero, add-assoc, mul-zero, mul-le-mul-left, mul-le-mul-right, zero-add, zero-lt-suc}
+use native.Mathlib.Nat.{add-zero, add-assoc, sub-self, mul-zero, mul-le-mul-left, mul-le-mul-right, zero-add, zero-lt-suc}
 use native.Mathlib.Omega.{arith}
-use lib.ListN.{length, getD}
+use lib.ListN.{length, getD, take}
+use lib.Seq.{take-nil}
 use Rattle.lists.specs.Sums.{sum}
 use Rattle.shares.specs.Apportion.{cumulativeShare, shareBehind, sharesFrom, apportion}
 
@@ -29,17 +30,6 @@ unfolding cumulativeShare
 cumulative-all amount zero h = omega (arith, div-zero (amount * 0))
 cumulative-all amount (suc n) h = mul-div-cancel amount (zero-lt-suc n)
 
--- a part x has a share of at most x: amount × (first + x) ≤ amount × first + total × x < (the share + 1 + x) × total
-pub share-le : (amount total before x : ℕ) → amount ≤ total → shareBehind amount total before x ≤ x
-unfolding cumulativeShare
-share-le amount zero before x h = omega (arith, div-zero (amount * (before + x)))
-share-le amount (suc n) before x h =
-    omega (
-      arith,
-      div-lt-iff-lt-mul {x = amount * (before + x)} {y = amount * before / suc n + x + 1} (zero-lt-suc n) .1
-          (omega (arith, lt-div-mul-add {a = amount * before} (zero-lt-suc n), mul-le-mul-right x h)),
-    )
-
 -- the shares of the parts behind a sum of `before` are what the cumulative share grows by
 sharesFrom-sum : (amount total before : ℕ) (parts : List ℕ)
     → cumulativeShare amount total before + sum (sharesFrom amount total before parts) ≡ cumulativeShare amount total (before + sum parts)
@@ -53,6 +43,17 @@ sharesFrom-sum amount total before (x ∷ xs) =
       cumulative-mono amount total (le-add-right before x),
     )
 
+-- a part x has a share of at most x: amount × (first + x) ≤ amount × first + total × x < (the share + 1 + x) × total
+pub share-le : (amount total before x : ℕ) → amount ≤ total → shareBehind amount total before x ≤ x
+unfolding cumulativeShare
+share-le amount zero before x h = omega (arith, div-zero (amount * (before + x)))
+share-le amount (suc n) before x h =
+    omega (
+      arith,
+      div-lt-iff-lt-mul {x = amount * (before + x)} {y = amount * before / suc n + x + 1} (zero-lt-suc n) .1
+          (omega (arith, lt-div-mul-add {a = amount * before} (zero-lt-suc n), mul-le-mul-right x h)),
+    )
+
 sharesFrom-le : (amount total before : ℕ) (parts : List ℕ) → amount ≤ total
     → (i : ℕ) → getD (sharesFrom amount total before parts) i 0 ≤ getD parts i 0
 unfolding sharesFrom
@@ -64,6 +65,15 @@ sharesFrom-length : (amount total before : ℕ) (parts : List ℕ) → length (s
 unfolding sharesFrom
 sharesFrom-length amount total before [] = refl
 sharesFrom-length amount total before (x ∷ xs) = ap suc (sharesFrom-length amount total (before + x) xs)
+
+sharesFrom-getD : (amount total before : ℕ) (parts : List ℕ) (i : ℕ)
+    → getD (sharesFrom amount total before parts) i 0 ≡ shareBehind amount total (before + sum (take i parts)) (getD parts i 0)
+unfolding sharesFrom sum
+sharesFrom-getD amount total before [] i = simp (take-nil, add-zero, sub-self)
+sharesFrom-getD amount total before (x ∷ xs) zero = simp add-zero
+sharesFrom-getD amount total before (x ∷ xs) (suc i) =
+    sharesFrom-getD amount total (before + x) xs i
+    ∙ ap (λ (b : ℕ). shareBehind amount total b (getD xs i 0)) (add-assoc before x (sum (take i xs)))
 
 sharesFrom-zero : (amount before : ℕ) (parts : List ℕ) (i : ℕ) → getD (sharesFrom amount 0 before parts) i 0 ≡ 0
 unfolding sharesFrom cumulativeShare
@@ -86,6 +96,12 @@ apportion-sum amount parts h =
 pub apportion-le : (amount : ℕ) (parts : List ℕ) → amount ≤ sum parts → (i : ℕ) → getD (apportion amount parts) i 0 ≤ getD parts i 0
 unfolding apportion
 apportion-le amount parts h i = sharesFrom-le amount (sum parts) 0 parts h i
+
+-- a share is that of its part behind the sum of the parts before it
+pub apportion-getD : (amount : ℕ) (parts : List ℕ) (i : ℕ)
+    → getD (apportion amount parts) i 0 ≡ shareBehind amount (sum parts) (sum (take i parts)) (getD parts i 0)
+unfolding apportion
+apportion-getD amount parts i = sharesFrom-getD amount (sum parts) 0 parts i ∙ simp zero-add
 
 -- there is a share for each part
 pub apportion-length : (amount : ℕ) (parts : List ℕ) → length (apportion amount parts) ≡ length parts

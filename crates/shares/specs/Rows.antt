@@ -1,11 +1,10 @@
 -- A row's four sub-balances (01:44-45) from its column's figures, thousands of dollars: what the list of a column's shares has at that row.
 -- Definitions only.
 use Prim.Native.Nat.{ℕ, _+_, _-_}
-use mathlib.Core.Bool.{Bool}
 use mathlib.Core.List.{List, [], _∷_}
 use lib.Dec.{eqb}
 use Rattle.lists.specs.Sums.{sumWhere}
-use Rattle.schedule.specs.Cells.{Position, positionAt}
+use Rattle.schedule.specs.Cells.{positionAt}
 use Rattle.filing.specs.declared.Contents.{Contents}
 use Rattle.filing.specs.Contents.{cell}
 use Rattle.shares.specs.Apportion.{shareBehind}
