@@ -3,9 +3,10 @@ use Prim.Native.Nat.{ℕ, zero, suc, _+_, _*_, _≤_, _<_}
 use mathlib.Core.Path.{_≡_, refl}
 use mathlib.Core.Bool.{Bool, true, false, cond, not}
 use mathlib.Core.List.{List, [], _∷_, _++_}
-use native.Mathlib.Nat.{lt-suc-self, lt-trans}
+use native.Mathlib.Nat.{suc-add, lt-suc-self, lt-trans}
 use native.Mathlib.Omega.{arith}
-use lib.ListN.{getD}
+use lib.ListN.{getD, take}
+use lib.Seq.{take-nil}
 use Rattle.lists.specs.Sums.{sum, sumWhere, everywhere}
 
 -- the sum of two lists, one after the other
@@ -20,6 +21,20 @@ unfolding sum
 sum-getD-le [] i = omega arith
 sum-getD-le (x ∷ xs) zero = omega arith
 sum-getD-le (x ∷ xs) (suc i) = omega (arith, sum-getD-le xs i)
+
+-- the sum of one element more
+pub sum-take-suc : (xs : List ℕ) (i : ℕ) → sum (take (i + 1) xs) ≡ sum (take i xs) + getD xs i 0
+unfolding sum
+sum-take-suc [] i = simp take-nil
+sum-take-suc (x ∷ xs) zero = omega arith
+sum-take-suc (x ∷ xs) (suc i) = rw suc-add (omega (arith, sum-take-suc xs i))
+
+-- the sum of the first elements is at most that of all
+pub sum-take-le : (xs : List ℕ) (i : ℕ) → sum (take i xs) ≤ sum xs
+unfolding sum
+sum-take-le [] i = rw take-nil (omega arith)
+sum-take-le (x ∷ xs) zero = omega arith
+sum-take-le (x ∷ xs) (suc i) = omega (arith, sum-take-le xs i)
 
 -- functions that agree have the same sum
 pub sumWhere-ext : (test : ℕ → Bool) (f g : ℕ → ℕ) (n : ℕ) → ((i : ℕ) → i < n → f i ≡ g i) → sumWhere test f n ≡ sumWhere test g n

@@ -1,11 +1,12 @@
 -- Laws of tables and of lists joined one after the other: their lengths, and what stands at a place. Assumes nothing.
 use Prim.Native.Nat.{ℕ, zero, suc, _+_, _*_, _≤_, _<_}
 use mathlib.Core.Path.{_≡_, refl, ap, sym, _∙_}
-use mathlib.Core.List.{List}
+use mathlib.Core.List.{List, [], _∷_, _++_}
 use native.Mathlib.Nat.{not-suc-le-zero, le-of-suc-le-suc, add-zero, zero-add, add-suc, suc-add, mul-zero, mul-suc}
+use native.Mathlib.Numerals.{add-one}
 use native.Mathlib.Omega.{arith}
-use lib.ListN.{length, getD, length-append, List·getD-append}
-use lib.Seq.{getD-append-add}
+use lib.ListN.{length, getD, take, set, length-append, List·getD-append}
+use lib.Seq.{getD-append-add, take-suc-set}
 use Rattle.lists.specs.Tables.{tableFrom, table, joined}
 
 module _ {ℓ} {A : Type ℓ} where
@@ -25,6 +26,18 @@ module _ {ℓ} {A : Type ℓ} where
   -- at place i of a table stands f i
   pub table-getD : (n : ℕ) (f : ℕ → A) (i : ℕ) (d : A) → i < n → getD (table n f) i d ≡ f i
   table-getD n f i d h = tableFrom-getD 0 n f i d h ∙ ap f (zero-add i)
+
+  -- a table of one entry more
+  tableFrom-suc : (s n : ℕ) (f : ℕ → A) → tableFrom s (suc n) f ≡ tableFrom s n f ++ (f (s + n) ∷ [])
+  unfolding tableFrom
+  tableFrom-suc s zero f = rw add-zero
+  tableFrom-suc s (suc n) f = ap (λ (l : List A). f s ∷ l) (tableFrom-suc (suc s) n f ∙ rw (suc-add, ← add-suc))
+
+  -- a list whose first n elements are a table, with the next entry stored at n
+  pub table-stored : (f : ℕ → A) (l : List A) (n more : ℕ) (v : A) → take n l ≡ table n f → n < length l → more ≡ n + 1 → v ≡ f n
+      → take more (set l n v) ≡ table more f
+  table-stored f l n more v h hn e hv =
+      rw (e, add-one, take-suc-set l n v hn, h, tableFrom-suc 0 n f, zero-add, hv)
 
   -- n lists of m elements each have m × n
   pub joined-length : (m s n : ℕ) (f : ℕ → List A) → ((i : ℕ) → length (f i) ≡ m) → length (joined (tableFrom s n f)) ≡ m * n

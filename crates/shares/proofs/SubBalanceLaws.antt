@@ -31,7 +31,8 @@ module _ (k : Contents) (j : ℕ) (within : cell k (brokeredCell j) ≤ sum (col
   unfolding brokeredShares
   brokered-le = apportion-le (cell k (brokeredCell j)) (columnBalances k j) within
 
-  brokered-length : length (brokeredShares k j) ≡ length (columnBalances k j)
+  -- there is a brokered share for each row
+  pub brokered-length : length (brokeredShares k j) ≡ length (columnBalances k j)
   unfolding brokeredShares
   brokered-length = apportion-length (cell k (brokeredCell j)) (columnBalances k j)
 
@@ -59,14 +60,14 @@ module _ (k : Contents) (j : ℕ) (within : cell k (brokeredCell j) ≤ sum (col
     brokered-penalty-le i = rw (← brokered-part (columnBalances k j) (brokeredShares k j) brokered-length i) (penalty-le (2 * i + 1))
 
 -- a position's balance stands in its column at its row
-row-balance : (k : Contents) (i : ℕ) → i < 9 → getD (columnBalances k (positionAt i .column)) (positionAt i .row - 1) 0 ≡ cell k (positionAt i .balance)
+pub row-balance : (k : Contents) (i : ℕ) → i < 9 → getD (columnBalances k (positionAt i .column)) (positionAt i .row - 1) 0 ≡ cell k (positionAt i .balance)
 unfolding columnBalances positionAt positions position inColumn those
 row-balance k =
     each-lt 9 (λ i. getD (columnBalances k (positionAt i .column)) (positionAt i .row - 1) 0 ≡ cell k (positionAt i .balance))
     (refl, (refl, (refl, (refl, (refl, (refl, (refl, (refl, (refl, tt)))))))))
 
 -- the columns of the nine positions are 1 to 3
-column-range : (i : ℕ) → i < 9 → (1 ≤ positionAt i .column) × (positionAt i .column ≤ 3)
+pub column-range : (i : ℕ) → i < 9 → (1 ≤ positionAt i .column) × (positionAt i .column ≤ 3)
 unfolding positionAt positions position
 column-range =
     each-lt 9 (λ i. (1 ≤ positionAt i .column) × (positionAt i .column ≤ 3))
