@@ -7,7 +7,7 @@ use Rattle.fraction.proofs.EnclosureLaws.{whole-encloses, scaled-encloses, prod
 use Rattle.pricing.specs.Terms.{Terms}
 use Rattle.pricing.specs.Exact.{exactBalance, exactOutflow, exactFlow, exactDiscount, exactDiscountFactor, exactPriceTo, exactPrice, exactValue}
 use Rattle.pricing.specs.Rounding.{down, up, quotient}
-use Rattle.pricing.specs.Run.{balanceBy, outflowBy, flowBy, discountBy, discountFactorBy, priceToBy, priceBy, valueBy}
+use Rattle.pricing.specs.Run.{balanceBy, outflowBy, flowBy, discountBy, discountFactorBy, discountedBy, priceBy, valueBy}
 use Rattle.pricing.proofs.RoundingLaws.{floor-le, ceiling-ge}
 
 -- x × m / d, floor below and ceiling above
@@ -44,28 +44,28 @@ discount-encloses z (suc n) =
     scale-first (exactDiscount z n) 120000 (120000 + z) (10 ^ 9)
     (rounded-encloses 120000 (120000 + z) (omega arith) (discount-encloses z n))
 
-pub price-to-encloses : (k : Terms) (t : ℕ) → Encloses (priceToBy down k t) (exactPriceTo k t) (priceToBy up k t)
-unfolding priceToBy exactPriceTo discountFactorBy exactDiscountFactor
-price-to-encloses k zero = whole-encloses 0
-price-to-encloses k (suc t) =
-    plus-encloses (price-to-encloses k t)
-    (product-encloses (exactDiscount (k .yield (suc t)) (suc t)) (10 ^ 9) (quotient down lower (10 ^ 9)) (quotient up upper (10 ^ 9)) (lit< tt)
-    (floor-le lower (10 ^ 9)) (ceiling-ge upper (10 ^ 9) (lit< tt)) (flow-encloses k t) (discount-encloses (k .yield (suc t)) (suc t)))
+pub discounted-encloses : (k : Terms) (z : ℕ → ℕ) (t : ℕ) → Encloses (discountedBy down k (discountFactorBy down z) t) (exactPriceTo k z t) (discountedBy up k (discountFactorBy up z) t)
+unfolding discountedBy exactPriceTo discountFactorBy exactDiscountFactor
+discounted-encloses k z zero = whole-encloses 0
+discounted-encloses k z (suc t) =
+    plus-encloses (discounted-encloses k z t)
+    (product-encloses (exactDiscount (z (suc t)) (suc t)) (10 ^ 9) (quotient down lower (10 ^ 9)) (quotient up upper (10 ^ 9)) (lit< tt)
+    (floor-le lower (10 ^ 9)) (ceiling-ge upper (10 ^ 9) (lit< tt)) (flow-encloses k t) (discount-encloses (z (suc t)) (suc t)))
   where
     lower : ℕ
-    lower = flowBy down k t * discountBy down (k .yield (suc t)) (suc t)
+    lower = flowBy down k t * discountBy down (z (suc t)) (suc t)
 
     upper : ℕ
-    upper = flowBy up k t * discountBy up (k .yield (suc t)) (suc t)
+    upper = flowBy up k t * discountBy up (z (suc t)) (suc t)
 
-pub price-encloses : (k : Terms) → Encloses (priceBy down k) (exactPrice k) (priceBy up k)
+pub price-encloses : (k : Terms) (z : ℕ → ℕ) → Encloses (priceBy down k z) (exactPrice k z) (priceBy up k z)
 unfolding priceBy exactPrice
-price-encloses k = price-to-encloses k (k .months)
+price-encloses k z = discounted-encloses k z (k .months)
 
-pub value-encloses : (balance : ℕ) (k : Terms) → Encloses (valueBy down balance k) (exactValue balance k) (valueBy up balance k)
+pub value-encloses : (balance : ℕ) (k : Terms) (z : ℕ → ℕ) → Encloses (valueBy down balance k z) (exactValue balance k z) (valueBy up balance k z)
 unfolding valueBy exactValue
-value-encloses balance k =
-    scaled-encloses balance (10 ^ 6) (quotient down (balance * priceBy down k) (10 ^ 6)) (quotient up (balance * priceBy up k) (10 ^ 6)) (lit< tt)
-    (omega (arith, floor-le (balance * priceBy down k) (10 ^ 6)))
-    (omega (arith, ceiling-ge (balance * priceBy up k) (10 ^ 6) (lit< tt)))
-    (price-encloses k)
+value-encloses balance k z =
+    scaled-encloses balance (10 ^ 6) (quotient down (balance * priceBy down k z) (10 ^ 6)) (quotient up (balance * priceBy up k z) (10 ^ 6)) (lit< tt)
+    (omega (arith, floor-le (balance * priceBy down k z) (10 ^ 6)))
+    (omega (arith, ceiling-ge (balance * priceBy up k z) (10 ^ 6) (lit< tt)))
+    (price-encloses k z)

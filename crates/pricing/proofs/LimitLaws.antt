@@ -8,9 +8,9 @@ use Rattle.fraction.proofs.EnclosureLaws.{encloses-le}
 use Rattle.pricing.specs.Terms.{Terms}
 use Rattle.pricing.specs.Bounded.{Bounded}
 use Rattle.pricing.specs.Rounding.{Rounding, down, up, quotient}
-use Rattle.pricing.specs.Run.{balanceBy, flowBy, discountBy, discountFactorBy, priceToBy, priceBy}
+use Rattle.pricing.specs.Run.{balanceBy, flowBy, discountBy, discountFactorBy, discountedBy, priceBy}
 use Rattle.pricing.proofs.RoundingLaws.{ceiling-lt}
-use Rattle.pricing.proofs.EnclosureLaws.{balance-encloses, flow-encloses, discount-encloses, price-to-encloses}
+use Rattle.pricing.proofs.EnclosureLaws.{balance-encloses, flow-encloses, discount-encloses, discounted-encloses}
 use Rattle.pricing.proofs.AmountLaws.{outflowsBy, amount-le, amount-limit}
 use Rattle.pricing.proofs.DiscountLaws.{discount-le}
 use Rattle.pricing.proofs.PaymentLaws.{paymentsBy, payments-before, payments-last}
@@ -49,15 +49,20 @@ discount-limit z n = either (λ (ρ : Rounding). discountBy ρ z n) (10 ^ 9) (en
 product-le : (f d : ℕ) → d ≤ 10 ^ 9 → quotient up (f * d) (10 ^ 9) ≤ f
 product-le f d h = omega (arith, ceiling-lt (f * d) (10 ^ 9) (lit< tt), mul-le-mul-left f h)
 
-price-le-payments : (k : Terms) (t : ℕ) → priceToBy up k t ≤ paymentsBy up k t
-unfolding priceToBy paymentsBy discountFactorBy
-price-le-payments k zero = zero-le
-price-le-payments k (suc t) = add-le-add (price-le-payments k t) (product-le (flowBy up k t) (discountBy up (k .yield (suc t)) (suc t)) (discount-le (k .yield (suc t)) (suc t)))
+discounted-le-payments : (k : Terms) (z : ℕ → ℕ) (t : ℕ) → discountedBy up k (discountFactorBy up z) t ≤ paymentsBy up k t
+unfolding discountedBy paymentsBy discountFactorBy
+discounted-le-payments k z zero = zero-le
+discounted-le-payments k z (suc t) =
+    add-le-add (discounted-le-payments k z t) (product-le (flowBy up k t) (discountBy up (z (suc t)) (suc t)) (discount-le (z (suc t)) (suc t)))
 
-pub price-limit : (k : Terms) → Bounded k → (t : ℕ) → t ≤ k .months → (ρ : Rounding) → priceToBy ρ k t ≤ 4533261346
-price-limit k b t h =
-    either (λ (ρ : Rounding). priceToBy ρ k t) 4533261346 (encloses-le (price-to-encloses k t))
-    (le-trans (price-le-payments k t) (payments-limit k b t h))
+pub discounted-limit : (k : Terms) (z : ℕ → ℕ) → Bounded k → (t : ℕ) → t ≤ k .months → (ρ : Rounding) → discountedBy ρ k (discountFactorBy ρ z) t ≤ 4533261346
+discounted-limit k z b t h =
+    either (λ (ρ : Rounding). discountedBy ρ k (discountFactorBy ρ z) t) 4533261346 (encloses-le (discounted-encloses k z t))
+    (le-trans (discounted-le-payments k z t) (payments-limit k b t h))
+
+pub price-limit : (k : Terms) (z : ℕ → ℕ) → Bounded k → (ρ : Rounding) → priceBy ρ k z ≤ 4533261346
+unfolding priceBy
+price-limit k z b ρ = discounted-limit k z b (k .months) (le-refl (k .months)) ρ
 
 -- The products of the run, each with the divisor that a ceiling adds. B × (25,000 c + 3 q):
 pub balance-product-limit : (k : Terms) → Bounded k → (t : ℕ) → t ≤ 120 → (ρ : Rounding) → balanceBy ρ k t * (k .growth + 3 * k .survival (suc t)) + 3 * 10 ^ 9 < 2 ^ 64
@@ -80,12 +85,11 @@ pub discount-product-limit : (z n : ℕ) → z ≤ 2800 → (ρ : Rounding) → 
 discount-product-limit z n h ρ = omega (arith, discount-limit z n ρ)
 
 -- flow × df
-pub flow-product-limit : (k : Terms) → Bounded k → (t : ℕ) → t < k .months → (ρ : Rounding) → flowBy ρ k t * discountFactorBy ρ k (suc t) + 10 ^ 9 < 2 ^ 64
+pub flow-product-limit : (k : Terms) (z : ℕ → ℕ) → Bounded k → (t : ℕ) → t < k .months → (ρ : Rounding) → flowBy ρ k t * discountFactorBy ρ z (suc t) + 10 ^ 9 < 2 ^ 64
 unfolding discountFactorBy
-flow-product-limit k b t h ρ =
-    omega (arith, mul-le-mul (flow-limit k b t h ρ) (discount-limit (k .yield (suc t)) (suc t) ρ))
+flow-product-limit k z b t h ρ =
+    omega (arith, mul-le-mul (flow-limit k b t h ρ) (discount-limit (z (suc t)) (suc t) ρ))
 
 -- balance × price
-pub value-product-limit : (balance : ℕ) (k : Terms) → balance ≤ 999999999 → Bounded k → (ρ : Rounding) → balance * priceBy ρ k + 10 ^ 6 < 2 ^ 64
-unfolding priceBy
-value-product-limit balance k h b ρ = omega (arith, mul-le-mul h (price-limit k b (k .months) (le-refl (k .months)) ρ))
+pub value-product-limit : (balance : ℕ) (k : Terms) (z : ℕ → ℕ) → balance ≤ 999999999 → Bounded k → (ρ : Rounding) → balance * priceBy ρ k z + 10 ^ 6 < 2 ^ 64
+value-product-limit balance k z h b ρ = omega (arith, mul-le-mul h (price-limit k z b ρ))

@@ -8,7 +8,7 @@ use Rattle.fraction.proofs.EnclosureLaws.{encloses-le}
 use Rattle.pricing.specs.Terms.{Terms}
 use Rattle.pricing.specs.Bounded.{Bounded}
 use Rattle.pricing.specs.Rounding.{down, up, quotient}
-use Rattle.pricing.specs.Run.{flowBy, discountBy, discountFactorBy, priceToBy, priceBy, valueBy}
+use Rattle.pricing.specs.Run.{flowBy, discountBy, discountFactorBy, discountedBy, priceBy, valueBy}
 use Rattle.pricing.proofs.RoundingLaws.{floor-gt, ceiling-lt}
 use Rattle.pricing.proofs.EnclosureLaws.{flow-encloses}
 use Rattle.pricing.proofs.AmountLaws.{amount-le, amount-width, amount-limit, width-limit}
@@ -24,53 +24,53 @@ product-width f g l u n hu hw hn =
     (arith, ceiling-lt ((f + g) * u) (10 ^ 9) (lit< tt), floor-gt (f * l) (10 ^ 9) (lit< tt), mul-le-mul-left f hw, mul-le-mul-left f hn, mul-le-mul-left g hu)
 
 -- the same for the flow of month t + 1
-month-width : (k : Terms) (t : ℕ) → suc t ≤ 120
-    → quotient up (flowBy up k t * discountFactorBy up k (suc t)) (10 ^ 9) * 10 ^ 9 + flowBy down k t * 10 ^ 9
-    ≤ quotient down (flowBy down k t * discountFactorBy down k (suc t)) (10 ^ 9) * 10 ^ 9 + flowBy down k t * 120 + flowBy up k t * 10 ^ 9 + 2 * 10 ^ 9
+month-width : (k : Terms) (z : ℕ → ℕ) (t : ℕ) → suc t ≤ 120
+    → quotient up (flowBy up k t * discountFactorBy up z (suc t)) (10 ^ 9) * 10 ^ 9 + flowBy down k t * 10 ^ 9
+    ≤ quotient down (flowBy down k t * discountFactorBy down z (suc t)) (10 ^ 9) * 10 ^ 9 + flowBy down k t * 120 + flowBy up k t * 10 ^ 9 + 2 * 10 ^ 9
 unfolding discountFactorBy
-month-width k t h = apart (flowBy down k t) (flowBy up k t) (encloses-le (flow-encloses k t))
+month-width k z t h = apart (flowBy down k t) (flowBy up k t) (encloses-le (flow-encloses k t))
   where
-    z : ℕ
-    z = k .yield (suc t)
+    y : ℕ
+    y = z (suc t)
 
     apart : (f v : ℕ) → f ≤ v
-        → quotient up (v * discountBy up z (suc t)) (10 ^ 9) * 10 ^ 9 + f * 10 ^ 9 ≤ quotient down (f * discountBy down z (suc t)) (10 ^ 9) * 10 ^ 9 + f * 120 + v * 10 ^ 9 + 2 * 10 ^ 9
+        → quotient up (v * discountBy up y (suc t)) (10 ^ 9) * 10 ^ 9 + f * 10 ^ 9 ≤ quotient down (f * discountBy down y (suc t)) (10 ^ 9) * 10 ^ 9 + f * 120 + v * 10 ^ 9 + 2 * 10 ^ 9
     apart f v hf =
         subst
-        (λ (w : ℕ). quotient up (w * discountBy up z (suc t)) (10 ^ 9) * 10 ^ 9 + f * 10 ^ 9 ≤ quotient down (f * discountBy down z (suc t)) (10 ^ 9) * 10 ^ 9 + f * 120 + w * 10 ^ 9 + 2 * 10 ^ 9)
+        (λ (w : ℕ). quotient up (w * discountBy up y (suc t)) (10 ^ 9) * 10 ^ 9 + f * 10 ^ 9 ≤ quotient down (f * discountBy down y (suc t)) (10 ^ 9) * 10 ^ 9 + f * 120 + w * 10 ^ 9 + 2 * 10 ^ 9)
         (add-sub-of-le hf)
-        (omega (arith, product-width f (v - f) (discountBy down z (suc t)) (discountBy up z (suc t)) (suc t) (discount-le z (suc t)) (discount-width z (suc t)) h))
+        (omega (arith, product-width f (v - f) (discountBy down y (suc t)) (discountBy up y (suc t)) (suc t) (discount-le y (suc t)) (discount-width y (suc t)) h))
 
 -- the sum of the products to month t, by the flows' own width, a discount factor's width of 120 at most, and two roundings a month
-sum-width : (k : Terms) (t : ℕ) → t ≤ 120
-    → priceToBy up k t * 10 ^ 9 + paymentsBy down k t * 10 ^ 9
-    ≤ priceToBy down k t * 10 ^ 9 + paymentsBy up k t * 10 ^ 9 + paymentsBy down k t * 120 + t * (2 * 10 ^ 9)
-unfolding priceToBy paymentsBy
-sum-width k zero h = zero-le
-sum-width k (suc t) h = omega (arith, sum-width k t (le-of-suc-le h), month-width k t h)
+sum-width : (k : Terms) (z : ℕ → ℕ) (t : ℕ) → t ≤ 120
+    → discountedBy up k (discountFactorBy up z) t * 10 ^ 9 + paymentsBy down k t * 10 ^ 9
+    ≤ discountedBy down k (discountFactorBy down z) t * 10 ^ 9 + paymentsBy up k t * 10 ^ 9 + paymentsBy down k t * 120 + t * (2 * 10 ^ 9)
+unfolding discountedBy paymentsBy
+sum-width k z zero h = zero-le
+sum-width k z (suc t) h = omega (arith, sum-width k z t (le-of-suc-le h), month-width k z t h)
 
-last-width : (k : Terms) → Bounded k → (t : ℕ) → suc t ≡ k .months → priceToBy up k (suc t) ≤ priceToBy down k (suc t) + 4000
-last-width k b t e =
+last-width : (k : Terms) (z : ℕ → ℕ) → Bounded k → (t : ℕ) → suc t ≡ k .months → discountedBy up k (discountFactorBy up z) (suc t) ≤ discountedBy down k (discountFactorBy down z) (suc t) + 4000
+last-width k z b t e =
     omega
-    (arith, sum-width k (suc t) within, payments-last down k t e, payments-last up k t e, amount-width k b (suc t), amount-le k b (suc t), width-limit within, amount-limit within)
+    (arith, sum-width k z (suc t) within, payments-last down k t e, payments-last up k t e, amount-width k b (suc t), amount-le k b (suc t), width-limit within, amount-limit within)
   where
     within : suc t ≤ 120
     within = omega (arith, b .months-limit)
 
 -- the same to the last month of a term within the limits, where all is paid: 1,254 + 4,533,261,346 × 120 / 10^9 + 240 < 4,000
-term-width : (k : Terms) → Bounded k → (n : ℕ) → n ≡ k .months → priceToBy up k n ≤ priceToBy down k n + 4000
-unfolding priceToBy
-term-width k b zero e = zero-le
-term-width k b (suc t) e = last-width k b t e
+term-width : (k : Terms) (z : ℕ → ℕ) → Bounded k → (n : ℕ) → n ≡ k .months → discountedBy up k (discountFactorBy up z) n ≤ discountedBy down k (discountFactorBy down z) n + 4000
+unfolding discountedBy
+term-width k z b zero e = zero-le
+term-width k z b (suc t) e = last-width k z b t e
 
 -- the price of a term within the limits
-pub price-width : (k : Terms) → Bounded k → priceBy up k ≤ priceBy down k + 4000
+pub price-width : (k : Terms) (z : ℕ → ℕ) → Bounded k → priceBy up k z ≤ priceBy down k z + 4000
 unfolding priceBy
-price-width k b = term-width k b (k .months) refl
+price-width k z b = term-width k z b (k .months) refl
 
 -- 10^6 × (upper - lower) < balance × 4,000 + 2 × 10^6
-pub value-width : (balance : ℕ) (k : Terms) → Bounded k → 250 * valueBy up balance k ≤ 250 * valueBy down balance k + (balance + 500)
+pub value-width : (balance : ℕ) (k : Terms) (z : ℕ → ℕ) → Bounded k → 250 * valueBy up balance k z ≤ 250 * valueBy down balance k z + (balance + 500)
 unfolding valueBy
-value-width balance k b =
+value-width balance k z b =
     omega
-    (arith, ceiling-lt (balance * priceBy up k) (10 ^ 6) (lit< tt), floor-gt (balance * priceBy down k) (10 ^ 6) (lit< tt), mul-le-mul-left balance (price-width k b))
+    (arith, ceiling-lt (balance * priceBy up k z) (10 ^ 6) (lit< tt), floor-gt (balance * priceBy down k z) (10 ^ 6) (lit< tt), mul-le-mul-left balance (price-width k z b))

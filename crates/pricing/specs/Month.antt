@@ -4,11 +4,11 @@ use mathlib.Core.Bool.{Bool, cond}
 use Rattle.pricing.specs.declared.Run.{Run}
 use Rattle.pricing.specs.Terms.{Terms}
 use Rattle.pricing.specs.Rounding.{Rounding, quotient}
-use Rattle.pricing.specs.Run.{balanceBy, priceToBy}
+use Rattle.pricing.specs.Run.{balanceBy, discountedBy}
 
--- the run after t months: balance and discounted flows, billionths
-unfoldable pub runBy : Rounding → Terms → ℕ → Run
-runBy ρ k t = record { balance = balanceBy ρ k t; price = priceToBy ρ k t }
+-- the run after t months, with discount factors df: balance and discounted flows, billionths
+unfoldable pub runBy : Rounding → Terms → (ℕ → ℕ) → ℕ → Run
+runBy ρ k df t = record { balance = balanceBy ρ k t; price = discountedBy ρ k df t }
 
 -- B_t from the run at t - 1
 unfoldable pub nextBalance : Rounding → ℕ → ℕ → Run → ℕ
