@@ -8,12 +8,12 @@ use Rattle.shares.specs.Apportion.{apportion, sharesFrom, cumulativeShare}
 use Rattle.shares.specs.SubBalances.{accountParts}
 use Rattle.withdrawal.specs.Gain.{gain, cost, atMost}
 use Rattle.withdrawal.specs.Tiers.{houseTiers, tier, reached, firstReached, annualWithdrawal}
-use Rattle.withdrawal.specs.MonthSurvival.{earlySurvival, monthSurvival}
+use Rattle.withdrawal.specs.MonthSurvival.{accountOf, earlySurvival, monthSurvival}
 use Rattle.withdrawal.proofs.SurvivalLaws.{survival-of-zero}
 use Rattle.pricing.specs.Rounding.{quotient}
-use Rattle.pricing.specs.Run.{balanceBy, outflowBy, flowBy, discountBy, discountFactorBy, priceToBy, priceBy, valueBy}
-use Rattle.valuation.specs.DepositTerms.{servicingCost}
-use Rattle.figures.specs.Starred.{StarredFigures, flatTerms}
+use Rattle.pricing.specs.Run.{balanceBy, outflowBy, flowBy, discountBy, discountFactorBy, discountedBy, priceBy, valueBy}
+use Rattle.valuation.specs.DepositTerms.{servicingCost, termsOf}
+use Rattle.figures.specs.Starred.{StarredFigures, houseTerms, flat}
 
 -- the tier of a retail rate r at coupon 600: the edges above it are not reached, as edge × 600 > 100 × r
 edge-reached : (n : ℕ) → 0 < n → annualWithdrawal houseTiers (gain 600 0 600 n) (cost 600 n) ≡ 130
@@ -31,7 +31,7 @@ edge-missed n h =
     simp (lt-leb (150 * k) a (omega arith), lt-leb (130 * k) a (omega arith), lt-leb (115 * k) a (omega arith), lt-leb (100 * k) a (omega arith), le-leb (80 * k) a (omega arith))
 
 pub starred : StarredFigures
-unfolding sum apportion sharesFrom cumulativeShare accountParts gain cost atMost houseTiers tier reached firstReached annualWithdrawal earlySurvival monthSurvival quotient balanceBy outflowBy flowBy discountBy discountFactorBy priceToBy priceBy valueBy servicingCost flatTerms
+unfolding sum apportion sharesFrom cumulativeShare accountParts gain cost atMost houseTiers tier reached firstReached annualWithdrawal earlySurvival monthSurvival quotient balanceBy outflowBy flowBy discountBy discountFactorBy discountedBy priceBy valueBy accountOf servicingCost termsOf houseTerms flat
 starred =
     record {
       brokered-shares = refl;

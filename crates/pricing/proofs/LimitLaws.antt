@@ -7,10 +7,10 @@ use native.Mathlib.Omega.{arith}
 use Rattle.fraction.proofs.EnclosureLaws.{encloses-le}
 use Rattle.pricing.specs.Terms.{Terms}
 use Rattle.pricing.specs.Bounded.{Bounded}
-use Rattle.pricing.specs.Rounding.{Rounding, down, up, quotient}
+use Rattle.pricing.specs.Rounding.{Rounding, down, up}
 use Rattle.pricing.specs.Run.{balanceBy, flowBy, discountBy, discountFactorBy, discountedBy, priceBy}
-use Rattle.pricing.proofs.RoundingLaws.{ceiling-lt}
-use Rattle.pricing.proofs.EnclosureLaws.{balance-encloses, flow-encloses, discount-encloses, discounted-encloses}
+use Rattle.pricing.proofs.RoundingLaws.{quotient-le}
+use Rattle.pricing.proofs.EnclosureLaws.{balance-encloses, flow-encloses, discount-encloses}
 use Rattle.pricing.proofs.AmountLaws.{outflowsBy, amount-le, amount-limit}
 use Rattle.pricing.proofs.DiscountLaws.{discount-le}
 use Rattle.pricing.proofs.PaymentLaws.{paymentsBy, payments-before, payments-last}
@@ -24,45 +24,49 @@ pub balance-limit : (k : Terms) → Bounded k → (t : ℕ) → t ≤ 120 → (�
 balance-limit k b t h =
     either (λ (ρ : Rounding). balanceBy ρ k t) 4533261346 (encloses-le (balance-encloses k t)) (omega (arith, amount-le k b t, amount-limit h))
 
--- all that is paid to month t of the term
-payments-limit : (k : Terms) → Bounded k → (t : ℕ) → t ≤ k .months → paymentsBy up k t ≤ 4533261346
+lower-payments : (k : Terms) (t : ℕ) → paymentsBy down k t ≤ paymentsBy up k t
 unfolding paymentsBy
-payments-limit k b zero h = zero-le
-payments-limit k b (suc t) h =
+lower-payments k zero = zero-le
+lower-payments k (suc t) = add-le-add (lower-payments k t) (encloses-le (flow-encloses k t))
+
+upper-payments : (k : Terms) → Bounded k → (t : ℕ) → t ≤ k .months → paymentsBy up k t ≤ 4533261346
+unfolding paymentsBy
+upper-payments k b zero h = zero-le
+upper-payments k b (suc t) h =
     ⊎-elim (λ e. omega (arith, payments-last up k t e, total)) (λ l. omega (arith, payments-before up k (suc t) l, total)) (eq-or-lt-of-le h)
   where
     total : balanceBy up k (suc t) + outflowsBy up k (suc t) ≤ 4533261346
     total = le-trans (amount-le k b (suc t)) (amount-limit (omega (arith, b .months-limit)))
 
-flow-le-payments : (k : Terms) (t : ℕ) → flowBy up k t ≤ paymentsBy up k (suc t)
+-- all that is paid to month t of the term
+payments-limit : (k : Terms) → Bounded k → (t : ℕ) → t ≤ k .months → (ρ : Rounding) → paymentsBy ρ k t ≤ 4533261346
+payments-limit k b t h = either (λ (ρ : Rounding). paymentsBy ρ k t) 4533261346 (lower-payments k t) (upper-payments k b t h)
+
+flow-le-payments : (k : Terms) (t : ℕ) (ρ : Rounding) → flowBy ρ k t ≤ paymentsBy ρ k (suc t)
 unfolding paymentsBy
-flow-le-payments k t = le-add-left (flowBy up k t) (paymentsBy up k t)
+flow-le-payments k t ρ = le-add-left (flowBy ρ k t) (paymentsBy ρ k t)
 
 pub flow-limit : (k : Terms) → Bounded k → (t : ℕ) → t < k .months → (ρ : Rounding) → flowBy ρ k t ≤ 4533261346
-flow-limit k b t h =
-    either (λ (ρ : Rounding). flowBy ρ k t) 4533261346 (encloses-le (flow-encloses k t)) (le-trans (flow-le-payments k t) (payments-limit k b (suc t) h))
+flow-limit k b t h ρ = le-trans (flow-le-payments k t ρ) (payments-limit k b (suc t) h ρ)
 
 pub discount-limit : (z n : ℕ) (ρ : Rounding) → discountBy ρ z n ≤ 10 ^ 9
 discount-limit z n = either (λ (ρ : Rounding). discountBy ρ z n) (10 ^ 9) (encloses-le (discount-encloses z n)) (discount-le z n)
 
--- a product with a discount factor, rounded up, is at most the flow
-product-le : (f d : ℕ) → d ≤ 10 ^ 9 → quotient up (f * d) (10 ^ 9) ≤ f
-product-le f d h = omega (arith, ceiling-lt (f * d) (10 ^ 9) (lit< tt), mul-le-mul-left f h)
+-- discounted by factors of at most 10^9, the flows are at most the flows themselves
+discounted-le-payments : (k : Terms) (df : ℕ → ℕ) → ((t : ℕ) → df t ≤ 10 ^ 9) → (t : ℕ) (ρ : Rounding) → discountedBy ρ k df t ≤ paymentsBy ρ k t
+unfolding discountedBy paymentsBy
+discounted-le-payments k df hd zero ρ = zero-le
+discounted-le-payments k df hd (suc t) ρ =
+    add-le-add (discounted-le-payments k df hd t ρ)
+    (quotient-le ρ (flowBy ρ k t * df (suc t)) (10 ^ 9) (flowBy ρ k t) (lit< tt) (mul-le-mul-left (flowBy ρ k t) (hd (suc t))))
 
-discounted-le-payments : (k : Terms) (z : ℕ → ℕ) (t : ℕ) → discountedBy up k (discountFactorBy up z) t ≤ paymentsBy up k t
-unfolding discountedBy paymentsBy discountFactorBy
-discounted-le-payments k z zero = zero-le
-discounted-le-payments k z (suc t) =
-    add-le-add (discounted-le-payments k z t) (product-le (flowBy up k t) (discountBy up (z (suc t)) (suc t)) (discount-le (z (suc t)) (suc t)))
-
-pub discounted-limit : (k : Terms) (z : ℕ → ℕ) → Bounded k → (t : ℕ) → t ≤ k .months → (ρ : Rounding) → discountedBy ρ k (discountFactorBy ρ z) t ≤ 4533261346
-discounted-limit k z b t h =
-    either (λ (ρ : Rounding). discountedBy ρ k (discountFactorBy ρ z) t) 4533261346 (encloses-le (discounted-encloses k z t))
-    (le-trans (discounted-le-payments k z t) (payments-limit k b t h))
+pub discounted-limit : (k : Terms) (df : ℕ → ℕ) → ((t : ℕ) → df t ≤ 10 ^ 9) → Bounded k → (t : ℕ) → t ≤ k .months → (ρ : Rounding) → discountedBy ρ k df t ≤ 4533261346
+discounted-limit k df hd b t h ρ = le-trans (discounted-le-payments k df hd t ρ) (payments-limit k b t h ρ)
 
 pub price-limit : (k : Terms) (z : ℕ → ℕ) → Bounded k → (ρ : Rounding) → priceBy ρ k z ≤ 4533261346
-unfolding priceBy
-price-limit k z b ρ = discounted-limit k z b (k .months) (le-refl (k .months)) ρ
+unfolding priceBy discountFactorBy
+price-limit k z b ρ =
+    discounted-limit k (discountFactorBy ρ z) (λ t. discount-limit (z t) t ρ) b (k .months) (le-refl (k .months)) ρ
 
 -- The products of the run, each with the divisor that a ceiling adds. B × (25,000 c + 3 q):
 pub balance-product-limit : (k : Terms) → Bounded k → (t : ℕ) → t ≤ 120 → (ρ : Rounding) → balanceBy ρ k t * (k .growth + 3 * k .survival (suc t)) + 3 * 10 ^ 9 < 2 ^ 64

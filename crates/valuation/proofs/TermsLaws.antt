@@ -6,10 +6,12 @@ use native.Mathlib.Omega.{arith}
 use Rattle.filing.specs.declared.Contents.{Contents}
 use Rattle.filing.specs.Valid.{Valid}
 use Rattle.shares.specs.SubBalances.{positionOf, couponAt, monthsAt}
-use Rattle.withdrawal.specs.MonthSurvival.{Account, retail, brokered}
+use Rattle.withdrawal.specs.Tiers.{TierTable}
+use Rattle.withdrawal.specs.MonthSurvival.{Account, retail, brokered, accountOf}
 use Rattle.withdrawal.proofs.MonthSurvivalLaws.{monthSurvival-le}
 use Rattle.pricing.specs.Bounded.{Bounded}
-use Rattle.valuation.specs.DepositTerms.{accountAt, penaltyAt, monthRate, filingTiers, survivalAt, servicingCost, termsAt}
+use Rattle.valuation.specs.declared.Deposit.{Deposit}
+use Rattle.valuation.specs.DepositTerms.{depositAt, servicingCost, termsOf, filingTiers, termsAt}
 
 servicing-le : (account : Account) → servicingCost account ≤ 175000
 unfolding servicingCost
@@ -24,12 +26,18 @@ pub months-limit : (k : Contents) → Valid k → (place : ℕ) → place < 36 �
 unfolding monthsAt positionOf
 months-limit k v place h = v .months-limit (place / 4) (omega arith)
 
-pub terms-bounded : (k : Contents) → Valid k → (place : ℕ) → place < 36 → (scenario : ℕ) → Bounded (termsAt k place scenario)
-unfolding termsAt survivalAt
-terms-bounded k v place h scenario =
+-- a deposit's terms are within the limits where its coupon and months are
+pub terms-of-bounded : (tiers : TierTable) (d : Deposit) → d .coupon ≤ 1500 → d .months ≤ 120 → Bounded (termsOf tiers d)
+unfolding termsOf
+terms-of-bounded tiers d hc hm =
     record {
-      growth-limit = mul-le-mul-left 25000 (coupon-limit k v place h);
-      servicing-limit = servicing-le (accountAt place);
-      survival-limit = λ t. monthSurvival-le (filingTiers k) (accountAt place) (couponAt k place) (penaltyAt k place) (monthRate k scenario (positionOf place .column) t) (monthsAt k place) t;
-      months-limit = months-limit k v place h;
+      growth-limit = mul-le-mul-left 25000 hc;
+      servicing-limit = servicing-le (accountOf (d .brokered));
+      survival-limit = monthSurvival-le tiers (accountOf (d .brokered)) (d .coupon) (d .penalty) (d .rate) (d .months);
+      months-limit = hm;
     }
+
+pub terms-bounded : (k : Contents) → Valid k → (scenario place : ℕ) → place < 36 → Bounded (termsAt k scenario place)
+unfolding termsAt depositAt
+terms-bounded k v scenario place h =
+    terms-of-bounded (filingTiers k) (depositAt k scenario place) (coupon-limit k v place h) (months-limit k v place h)

@@ -16,7 +16,7 @@ use Rattle.shares.proofs.SubBalanceLaws.{balanceAt-total}
 use Rattle.pricing.specs.Rounding.{Rounding, down, up}
 use Rattle.pricing.proofs.EnclosureLaws.{value-encloses}
 use Rattle.pricing.proofs.WidthLaws.{value-width}
-use Rattle.valuation.specs.DepositTerms.{termsAt}
+use Rattle.valuation.specs.DepositTerms.{termsAt, monthYield}
 use Rattle.valuation.specs.Rows.{isShort, isLong}
 use Rattle.valuation.specs.Exact.{exactValueAt, exactTotal}
 use Rattle.valuation.specs.Run.{valueAt, totalBy}
@@ -25,7 +25,7 @@ use Rattle.valuation.proofs.TermsLaws.{terms-bounded}
 -- lower ≤ exact ≤ upper for each place and scenario
 pub valueAt-encloses : (k : Contents) (scenario place : ℕ) → Encloses (valueAt down k scenario place) (exactValueAt k scenario place) (valueAt up k scenario place)
 unfolding valueAt exactValueAt
-valueAt-encloses k scenario place = value-encloses (balanceAt k place) (termsAt k place scenario)
+valueAt-encloses k scenario place = value-encloses (balanceAt k place) (termsAt k scenario place) (monthYield k scenario)
 
 -- and for the total over any places
 pub totalBy-encloses : (test : ℕ → Bool) (k : Contents) (scenario : ℕ) → Encloses (totalBy down test k scenario) (exactTotal test k scenario) (totalBy up test k scenario)
@@ -36,7 +36,7 @@ totalBy-encloses test k scenario =
 -- 250 × (upper - lower) ≤ balance + 500
 pub valueAt-width : (k : Contents) → Valid k → (scenario place : ℕ) → place < 36 → 250 * valueAt up k scenario place ≤ 250 * valueAt down k scenario place + (balanceAt k place + 500)
 unfolding valueAt
-valueAt-width k v scenario place h = value-width (balanceAt k place) (termsAt k place scenario) (terms-bounded k v place h scenario)
+valueAt-width k v scenario place h = value-width (balanceAt k place) (termsAt k scenario place) (monthYield k scenario) (terms-bounded k v scenario place h)
 
 -- c at each of n places
 constant-sum : (c n : ℕ) → sumWhere everywhere (λ _. c) n ≡ c * n

@@ -1,1 +1,11 @@
-// valuation
+// Certificate deposits under seven rate scenarios: from what a filing says to its 568 numbers.
+
+// A deposit as its cash flows see it: coupon and shifted retail rate in hundredths of a percent a year, penalty in hundredths of a month,
+// remaining months.
+pub struct Deposit {
+    pub brokered: bool,
+    pub coupon: u64,
+    pub penalty: u64,
+    pub rate: u64,
+    pub months: u64,
+}
