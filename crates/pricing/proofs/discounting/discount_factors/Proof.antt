@@ -1,13 +1,11 @@
 -- `pricing::discounting::discount_factors` meets its contract. The loop's invariant: the places below `t` hold the factors of their months.
 -- The measure is what is left of the months. Assumes nothing.
-use Prim.Native.Nat.{ℕ, suc, _-_, _≤_, _<_}
-use mathlib.Core.Path.{_≡_, refl}
+use Prim.Native.Nat.{suc, _-_, _≤_}
 use native.Mathlib.Nat.{lt-of-lt-of-le}
 use native.Mathlib.Numerals.{add-one}
-use lib.ListN.{length, getD, length-set}
-use borrow.Author.Count.{below-none}
+use lib.ListN.{getD}
 use borrow.Author.Needs.{needs}
-use Rattle.lists.proofs.StoreLaws.{stored-below}
+use Rattle.lists.proofs.FillLaws.{Filled, fill-none, fill-more}
 use Rattle.pricing.specs.Rounding.{roundingOf}
 use Rattle.pricing.specs.Run.{discountBy}
 use Rattle.pricing.proofs.discounting.discount_factors.Statement.{statement}
@@ -15,13 +13,13 @@ use Rattle.pricing.proofs.discounting.discount_factors.Tie as tie
 
 abbrev Inv-loop : tie.InvT-loop
 Inv-loop months up yields factors₀ t₀ factors t =
-    (t ≤ months) × (length factors ≡ 120) × ((k : ℕ) → k < t → getD factors k 0 ≡ discountBy (roundingOf up) (getD yields k 0) (suc k))
+    (t ≤ months) × Filled (λ k. discountBy (roundingOf up) (getD yields k 0) (suc k)) 0 120 t factors
 
 abbrev μ-loop : tie.MeasureT-loop
 μ-loop months up yields factors₀ t₀ factors t = months - t
 
 loop-holds : tie.Need-loop-holds Inv-loop μ-loop
-loop-holds c = (search needs, refl, below-none _)
+loop-holds c = (search needs, fill-none _ 0 0 120)
 
 mul-discount-factor : tie.Need-mul-discount-factor Inv-loop μ-loop
 mul-discount-factor c = search needs
@@ -48,16 +46,10 @@ loop-less : tie.Need-loop-less Inv-loop μ-loop
 loop-less c = search needs
 
 loop-again : tie.Need-loop-again Inv-loop μ-loop
-loop-again c =
-    let l = c .before .before .loop in
-    let a = c .before .before .before .args in (
-      search needs,
-      simp length-set (l .inv .1),
-      stored-below (λ k. discountBy (roundingOf (a .up)) (getD (a .t1) k 0) (suc k)) (l .factors) (l .t) _ (search needs) (l .inv .2) (rw add-one at (c .discount-factor .ensures)),
-    )
+loop-again c = (search needs, fill-more _ 0 120 _ _ _ (search needs) (rw add-one at (c .discount-factor .ensures)) (c .before .before .loop .inv .1))
 
 returns : tie.Need-returns Inv-loop μ-loop
-returns c t h = c .before .loop .inv .2 t (lt-of-lt-of-le h (c .loop-test .left))
+returns c t h = c .before .loop .inv .1 .holds t (lt-of-lt-of-le h (c .loop-test .left))
 
 pub discount-factors-spec : {M : Type 1} → statement M
 discount-factors-spec =
