@@ -3,4 +3,3 @@ pub mod FillLaws
 pub mod SumLaws
 pub mod TableLaws
 pub mod TestLaws
-pub mod StoreLaws

@@ -1,26 +1,25 @@
 -- `withdrawal::tiers::with_survivals` meets its contract. The loop's invariant: the places below `i` hold the survivals of their withdrawals.
 -- The measure is what is left of the tiers. Assumes nothing.
-use Prim.Native.Nat.{ℕ, _-_, _≤_, _<_}
-use mathlib.Core.Path.{_≡_, refl}
+use Prim.Native.Nat.{_-_, _≤_}
+use mathlib.Core.Path.{refl}
 use native.Mathlib.Nat.{lt-of-lt-of-le}
-use lib.ListN.{length, getD, length-set}
-use borrow.Author.Count.{below-none}
+use lib.ListN.{getD}
 use borrow.Author.Needs.{needs}
 use Rattle.withdrawal.specs.Survival.{survival}
 use Rattle.withdrawal.specs.TierArrays.{tierTable}
-use Rattle.lists.proofs.StoreLaws.{stored-below}
+use Rattle.lists.proofs.FillLaws.{Filled, fill-none, fill-more}
 use Rattle.withdrawal.proofs.tiers.with_survivals.Statement.{statement}
 use Rattle.withdrawal.proofs.tiers.with_survivals.Tie as tie
 
 abbrev Inv-loop : tie.InvT-loop
 Inv-loop count edges otherwise withdrawals survivals₀ i₀ survivals i =
-    (i ≤ count) × (length survivals ≡ 16) × ((k : ℕ) → k < i → getD survivals k 0 ≡ survival (getD withdrawals k 0))
+    (i ≤ count) × Filled (λ k. survival (getD withdrawals k 0)) 0 16 i survivals
 
 abbrev μ-loop : tie.MeasureT-loop
 μ-loop count edges otherwise withdrawals survivals₀ i₀ survivals i = count - i
 
 loop-holds : tie.Need-loop-holds Inv-loop μ-loop
-loop-holds c = (search needs, refl, below-none _)
+loop-holds c = (search needs, fill-none _ 0 0 16)
 
 mul-survival : tie.Need-mul-survival Inv-loop μ-loop
 mul-survival c = search needs
@@ -44,12 +43,7 @@ loop-less : tie.Need-loop-less Inv-loop μ-loop
 loop-less c = search needs
 
 loop-again : tie.Need-loop-again Inv-loop μ-loop
-loop-again c =
-    let l = c .before .before .loop in (
-      search needs,
-      simp length-set (l .inv .1),
-      stored-below (λ k. survival (getD (c .before .before .before .args .t3) k 0)) (l .survivals) (l .i) _ (search needs) (l .inv .2) (c .survival .ensures),
-    )
+loop-again c = (search needs, fill-more _ 0 16 _ _ _ (search needs) (c .survival .ensures) (c .before .before .loop .inv .1))
 
 survival-requires-2 : tie.Need-survival-requires-2 Inv-loop μ-loop
 survival-requires-2 c κs = search needs
@@ -61,7 +55,7 @@ returns c = (
   record {
     count-le = search needs;
     edge-le = c .before .before .before .pre .edge-le;
-    survival-is = λ i h. c .before .before .loop .inv .2 i (lt-of-lt-of-le h (c .before .loop-test .left));
+    survival-is = λ i h. c .before .before .loop .inv .1 .holds i (lt-of-lt-of-le h (c .before .loop-test .left));
     retained-is = c .survival2 .ensures;
   },
 )
