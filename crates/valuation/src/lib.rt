@@ -1,4 +1,5 @@
 // Certificate deposits under seven rate scenarios: from what a filing says to its 568 numbers.
+pub mod factors;
 pub mod prices;
 
 // A deposit as its cash flows see it: coupon and shifted retail rate in hundredths of a percent a year, penalty in hundredths of a month,
