@@ -6,3 +6,4 @@ pub mod Exact
 pub mod Run
 pub mod Numbers
 pub mod Listed
+pub mod PlaceValues
