@@ -1,3 +1,4 @@
 pub mod ByteLaws
 pub mod RecordLaws
 pub mod StepLaws
+pub mod ClassLaws

@@ -1,6 +1,7 @@
 // A filing of certificate deposits, from its bytes to what it says.
 
 mod bytes;
+mod cells;
 mod records;
 
 // What an accepted filing says: the values of cells 601 to 661, the CD yields of months 1 to 120 and the retail rates of columns 1 to 3.
