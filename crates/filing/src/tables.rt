@@ -1,6 +1,8 @@
-// Cells of the schedule: the class of a cell and the limit of a class. The check tests both tables against the definitions, entry by entry.
+// The tables of the paper: the class of a cell, the limit of a class, the length of a kind and the rates on a sheet.
 ghost use mathlib.Core.Path.{_≡_};
+ghost use lib.ListN.{getD};
 ghost use Rattle.schedule.specs.Limits.{cellClass, classLimit};
+ghost use Rattle.filing.specs.Faults.{kindLength, sheetRates};
 
 // The classes of cells 601 to 661.
 const CLASSES: [usize; 61] = [
@@ -97,5 +99,26 @@ pub fn cell_class(cell: u64) -> usize
 pub fn class_limit(class: usize) -> u64
     ensures { λ r. ⌜ r ≡ classLimit class ⌝ }
 {
-    if class < 8 { LIMITS[class] } else { 0 }
+    entry_at(&LIMITS, class)
+}
+
+// The length of a record of a kind, in bytes: 0 where the kind is unknown.
+pub fn kind_length(kind: usize) -> u64
+    ensures { λ r. ⌜ r ≡ kindLength kind ⌝ }
+{
+    entry_at(&[0, 12, 242, 8], kind)
+}
+
+// How many rates a sheet of a kind holds.
+pub fn sheet_rates(kind: usize) -> u64
+    ensures { λ r. ⌜ r ≡ sheetRates kind ⌝ }
+{
+    entry_at(&[0, 0, 120, 3], kind)
+}
+
+// The entry at a place of a table: 0 past its end.
+fn entry_at(table: &[u64], i: usize) -> u64
+    ensures { λ r. ⌜ r ≡ getD (now (table .entry)) i 0 ⌝ }
+{
+    if i < table.len() { table[i] } else { 0 }
 }

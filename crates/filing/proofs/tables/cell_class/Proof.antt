@@ -11,8 +11,8 @@ use Rattle.lists.proofs.TableLaws.{table-at}
 use Rattle.schedule.specs.Cells.{position, positions, brokeredCell, penaltyBalanceCell, penaltyMonthsCell, unusedCells}
 use Rattle.schedule.specs.Limits.{cellClass}
 use Rattle.filing.proofs.ClassLaws.{class-outside}
-use Rattle.filing.proofs.cells.cell_class.Statement.{statement}
-use Rattle.filing.proofs.cells.cell_class.Tie as tie
+use Rattle.filing.proofs.tables.cell_class.Statement.{statement}
+use Rattle.filing.proofs.tables.cell_class.Tie as tie
 
 returns : tie.Need-returns
 returns c = sym (class-outside (c .before .args .cell) (inl (c .if1 .taken)))
