@@ -7,7 +7,7 @@ use mathlib.Core.Bool.{Bool, true, false, _&&_}
 use lib.Dec.{T, leb, eqb, leb→le, eqb→eq}
 use Rattle.lists.specs.Tables.{contains}
 use Rattle.lists.proofs.TableLaws.{allFrom, all-at}
-use Rattle.schedule.specs.Cells.{Position, position, positions, positionAt, brokeredCell, penaltyBalanceCell, penaltyMonthsCell, unusedCells}
+use Rattle.schedule.specs.Cells.{position, positions, positionAt, brokeredCell, penaltyBalanceCell, penaltyMonthsCell}
 use Rattle.schedule.specs.Limits.{cellClass}
 
 -- a cell is one of 601 to 661, and of a class
