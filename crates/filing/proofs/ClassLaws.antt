@@ -1,13 +1,13 @@
--- The cells outside 601 to 661 are not listed.
+-- The cells outside 601 to 661 are not listed, and the listed ones lie among them.
 -- Assumes nothing.
 use Prim.Native.Nat.{ℕ, _<_, _≤_}
 use native.Mathlib.Omega.{arith}
 use mathlib.Core.Path.{_≡_, refl}
-use mathlib.Core.Logic.{_⊎_, ⊎-elim}
+use mathlib.Core.Logic.{_⊎_, inl, inr, ⊎-elim}
 use mathlib.Core.Bool.{Bool, true, false, _&&_, _||_}
 use mathlib.Core.List.{List, [], _∷_, map}
-use borrow.Author.Tests.{ne-eqb}
-use lib.Dec.{T, leb, eqb, leb→le}
+use borrow.Author.Tests.{ltb-true, ltb-false, ne-eqb}
+use lib.Dec.{T, leb, ltb, eqb, leb→le}
 use Rattle.lists.specs.Tables.{contains}
 use Rattle.schedule.specs.Cells.{Position, position, positions, brokeredCell, penaltyBalanceCell, penaltyMonthsCell, totalCell, unusedCells}
 use Rattle.schedule.specs.Limits.{cellClass}
@@ -52,3 +52,15 @@ class-outside x o =
       outside-ne x totalCell o (omega arith) (omega arith),
       contains-outside unusedCells x tt o,
     )
+
+-- a listed cell is one of 601 to 661
+pub class-listed : (x : ℕ) → (cellClass x ≡ 0 → ⊥) → (601 ≤ x) × (x ≤ 661)
+class-listed x h = (from (ltb x 601) refl, to (ltb 661 x) refl)
+  where
+    from : (b : Bool) → ltb x 601 ≡ b → 601 ≤ x
+    from true e = absurd (h (class-outside x (inl (ltb-true x 601 e))))
+    from false e = ltb-false x 601 e
+
+    to : (b : Bool) → ltb 661 x ≡ b → x ≤ 661
+    to true e = absurd (h (class-outside x (inr (ltb-true 661 x e))))
+    to false e = ltb-false 661 x e

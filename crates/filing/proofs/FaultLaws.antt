@@ -18,7 +18,7 @@ neither true b e = (e, cc)
 neither false b e = (refl, e)
 
 -- 1 does not hold: the record ends within the bytes
-complete-ends : (s : List ℕ) (at : ℕ) → incomplete s at ≡ false → nextRecord s at ≤ length s
+pub complete-ends : (s : List ℕ) (at : ℕ) → incomplete s at ≡ false → nextRecord s at ≤ length s
 unfolding incomplete
 complete-ends s at h =
     let h1 = neither (ltb (length s) (at + 2)) (ltb (recordLength s at) 2 || ltb (length s) (nextRecord s at)) h in
@@ -26,7 +26,7 @@ complete-ends s at h =
     ltb-false (length s) (nextRecord s at) (h2 .1)
 
 -- 2 does not hold: the length is the kind's
-shaped-length : (s : List ℕ) (at : ℕ) → misshapen s at ≡ false → recordLength s at ≡ kindLength (recordKind s at)
+pub shaped-length : (s : List ℕ) (at : ℕ) → misshapen s at ≡ false → recordLength s at ≡ kindLength (recordKind s at)
 unfolding misshapen
 shaped-length s at h =
     eqb-true (recordLength s at) (kindLength (recordKind s at))

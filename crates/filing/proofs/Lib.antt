@@ -1,8 +1,11 @@
 pub mod ByteLaws
 pub mod RecordLaws
-pub mod FaultLaws
 pub mod StepLaws
 pub mod ClassLaws
+pub mod RateLaws
+pub mod FaultLaws
+pub mod RecordVerdictLaws
+pub mod OffsetLaws
 pub mod VerdictLaws
 pub mod AcceptedLaws
 pub mod Controls

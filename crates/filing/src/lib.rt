@@ -1,6 +1,7 @@
 // A filing of certificate deposits, from its bytes to what it says.
 
 mod bytes;
+mod faults;
 mod reader;
 mod records;
 mod tables;
