@@ -9,3 +9,5 @@ pub mod OffsetLaws
 pub mod VerdictLaws
 pub mod AcceptedLaws
 pub mod Controls
+pub mod ScanLaws
+pub mod ScanStateLaws

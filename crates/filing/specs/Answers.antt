@@ -9,19 +9,37 @@ use Rattle.filing.specs.declared.Answer.the-variants.{Accepted, RecordIn
 use Rattle.filing.specs.Faults.{faultNumber}
 use Rattle.filing.specs.Verdict.{Verdict, accepted, refused, firstFaulty}
 
--- the number and the place of an answer
+-- the number of an answer
+abbrev pub numberOf : Answer → ℕ
+numberOf Accepted = 0
+numberOf (RecordIncomplete offset) = 1
+numberOf (RecordMisshapen offset) = 2
+numberOf (CellUnlisted offset) = 3
+numberOf (Repeated offset) = 4
+numberOf (OverLimit offset) = 5
+numberOf (SheetMissing size) = 6
+numberOf (MonthsOutsideRow cell) = 7
+numberOf (AboveColumnSum cell) = 8
+numberOf (TotalDiffers cell) = 9
+numberOf (ListTooShort size) = 10
+
+-- the place of an answer
+abbrev pub placeOf : Answer → ℕ
+placeOf Accepted = 0
+placeOf (RecordIncomplete offset) = offset
+placeOf (RecordMisshapen offset) = offset
+placeOf (CellUnlisted offset) = offset
+placeOf (Repeated offset) = offset
+placeOf (OverLimit offset) = offset
+placeOf (SheetMissing size) = size
+placeOf (MonthsOutsideRow cell) = cell
+placeOf (AboveColumnSum cell) = cell
+placeOf (TotalDiffers cell) = cell
+placeOf (ListTooShort size) = size
+
+-- the verdict that an answer stands for
 unfoldable pub verdictOf : Answer → Verdict
-verdictOf Accepted = accepted
-verdictOf (RecordIncomplete offset) = refused 1 offset
-verdictOf (RecordMisshapen offset) = refused 2 offset
-verdictOf (CellUnlisted offset) = refused 3 offset
-verdictOf (Repeated offset) = refused 4 offset
-verdictOf (OverLimit offset) = refused 5 offset
-verdictOf (SheetMissing size) = refused 6 size
-verdictOf (MonthsOutsideRow cell) = refused 7 cell
-verdictOf (AboveColumnSum cell) = refused 8 cell
-verdictOf (TotalDiffers cell) = refused 9 cell
-verdictOf (ListTooShort size) = refused 10 size
+verdictOf a = record { number = numberOf a; place = placeOf a }
 
 -- the verdict on one record, by its first fault
 unfoldable pub recordVerdict : List ℕ → ℕ → Verdict

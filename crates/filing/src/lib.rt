@@ -1,9 +1,11 @@
 // A filing of certificate deposits, from its bytes to what it says.
 
+mod answers;
 mod bytes;
 mod faults;
 mod reader;
 mod records;
+mod scan;
 mod tables;
 
 // What an accepted filing says: the values of cells 601 to 661, the CD yields of months 1 to 120 and the retail rates of columns 1 to 3.

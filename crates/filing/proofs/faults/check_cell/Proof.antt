@@ -12,6 +12,7 @@ use lib.ListN.{length, getD}
 use Rattle.schedule.specs.Limits.{cellClass}
 use Rattle.filing.specs.Records.{recordCell, cellKey}
 use Rattle.filing.specs.Faults.{unlisted, repeated, overLimit}
+use Rattle.filing.specs.Verdict.{accepted, refused}
 use Rattle.filing.specs.Answers.{verdictOf}
 use Rattle.filing.proofs.ClassLaws.{class-listed}
 use Rattle.filing.proofs.OffsetLaws.{place-of-cell, noted-repeated}
@@ -56,7 +57,7 @@ listed c =
     }
 
 returns : tie.Need-returns
-unfolding verdictOf
+unfolding verdictOf accepted refused
 returns c =
     let start = c .before .before .before .before in
     sym
@@ -74,7 +75,7 @@ element-copy-out-if2 : tie.Need-element-copy-out-if2
 element-copy-out-if2 c = omega (arith, listed c .to-661)
 
 returns-2 : tie.Need-returns-2
-unfolding verdictOf
+unfolding verdictOf accepted refused
 returns-2 c =
     let start = c .before .before .before .before .before .before in
     let l = listed (c .before .before) in
@@ -98,7 +99,7 @@ limit c =
     cc (verdict.cell-over (start .args .s .now) (start .args .at) (start .pre .1 .0))
 
 returns-3 : tie.Need-returns-3
-unfolding verdictOf
+unfolding verdictOf accepted refused
 returns-3 c =
     let start = c .before .before .before .before .before .before .before .before .before in
     let l = listed (c .before .before .before .before .before) in
@@ -107,7 +108,7 @@ returns-3 c =
     (sym (l .noted) ∙ le-ltb _ _ (c .before .before .before .if2 .left)) (limit (c .before) ∙ lt-ltb _ _ (c .if3 .taken)))
 
 returns-4 : tie.Need-returns-4
-unfolding verdictOf
+unfolding verdictOf accepted refused
 returns-4 c =
     let start = c .before .before .before .before .before .before .before .before .before in
     let l = listed (c .before .before .before .before .before) in

@@ -5,6 +5,7 @@ use mathlib.Core.Bool.{false}
 use borrow.Author.Needs.{needs}
 use Rattle.filing.specs.Records.{recordLength, recordKind}
 use Rattle.filing.specs.Faults.{kindLength, misshapen}
+use Rattle.filing.specs.Verdict.{accepted, refused}
 use Rattle.filing.specs.Answers.{verdictOf}
 use Rattle.filing.proofs.RecordVerdictLaws.{verdict-misshapen, length-shaped, length-misshapen}
 use Rattle.filing.proofs.faults.check_record.Statement.{statement}
@@ -24,7 +25,7 @@ shaped : (c : tie.Else1) → misshapen (c .before .before .before .args .s .now)
 shaped c = length-shaped _ _ (sym (lengths (c .before) .0) ∙ c .if1 .left ∙ lengths (c .before) .1)
 
 returns : tie.Need-returns
-unfolding verdictOf
+unfolding verdictOf accepted refused
 returns c =
     sym
     (verdict-misshapen _ _ (c .before .before .before .pre .0)

@@ -11,6 +11,7 @@ use lib.Dec.{ltb}
 use lib.ListN.{length, getD}
 use Rattle.filing.specs.Records.{kindKey}
 use Rattle.filing.specs.Faults.{unlisted, repeated, overLimit}
+use Rattle.filing.specs.Verdict.{accepted, refused}
 use Rattle.filing.specs.Answers.{verdictOf}
 use Rattle.filing.proofs.RateLaws.{sheet-rates-le}
 use Rattle.filing.proofs.OffsetLaws.{place-of-kind, noted-repeated}
@@ -45,7 +46,7 @@ element-copy-out-if1 : tie.Need-element-copy-out-if1
 element-copy-out-if1 c = omega (arith, known (c .before))
 
 returns : tie.Need-returns
-unfolding verdictOf
+unfolding verdictOf accepted refused
 returns c =
     let start = c .before .before .before in
     sym
@@ -68,7 +69,7 @@ limit c =
     (verdict.sheet-over (start .args .s .now) (start .args .at) (λ e. start .pre .1 .0 .1 (start .pre .1 .0 .0 ∙ e)))
 
 returns-2 : tie.Need-returns-2
-unfolding verdictOf
+unfolding verdictOf accepted refused
 returns-2 c =
     let start = c .before .before .before .before .before .before in
     sym
@@ -76,7 +77,7 @@ returns-2 c =
     (sym (noted start) ∙ le-ltb _ _ (c .before .before .before .if1 .left)) (limit (c .before) ∙ c .if2 .taken))
 
 returns-3 : tie.Need-returns-3
-unfolding verdictOf
+unfolding verdictOf accepted refused
 returns-3 c =
     let start = c .before .before .before .before .before .before in
     sym
