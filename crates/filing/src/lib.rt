@@ -2,6 +2,7 @@
 
 mod answers;
 mod bytes;
+mod decode;
 mod faults;
 mod reader;
 mod records;
