@@ -7,3 +7,4 @@ pub mod Run
 pub mod Numbers
 pub mod Listed
 pub mod PlaceValues
+pub mod Promise
