@@ -1,3 +1,5 @@
 pub mod TermsLaws
 pub mod PriceLaws
 pub mod ValueLaws
+pub mod TotalLaws
+pub mod ListLaws
