@@ -3,3 +3,4 @@ pub mod PriceLaws
 pub mod ValueLaws
 pub mod TotalLaws
 pub mod ListLaws
+pub mod NumberLaws
