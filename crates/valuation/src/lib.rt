@@ -1,5 +1,6 @@
 // Certificate deposits under seven rate scenarios: from what a filing says to its 568 numbers.
 pub mod factors;
+pub mod filing_numbers;
 pub mod list;
 pub mod place_values;
 pub mod prices;
