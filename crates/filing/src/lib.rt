@@ -2,6 +2,7 @@
 
 mod answers;
 mod bytes;
+mod conditions;
 mod decode;
 mod faults;
 mod reader;
