@@ -14,3 +14,4 @@ pub mod ScanStateLaws
 pub mod ContentsLaws
 pub mod ConditionLaws
 pub mod BalanceLaws
+pub mod ReadLaws
