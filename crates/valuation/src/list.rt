@@ -8,7 +8,7 @@ ghost use Rattle.lists.specs.Tables.{table};
 ghost use Rattle.valuation.specs.Numbers.{numberCount};
 ghost use Rattle.valuation.specs.Listed.{WithinValues, placeNumberIn, totalNumberIn, numberIn};
 
-// The rest of the list is left as it was.
+// The first 568 places of the list become the numbers; the rest is left as it was.
 pub fn write_numbers(balances: &[u64; 36], lower: &[u64; 252], upper: &[u64; 252], list: &mut [u64])
     requires { ⌜ WithinValues (now lower) × WithinValues (now upper) ⌝ }
     requires { ⌜ numberCount ≤ length (now list) ⌝ }
