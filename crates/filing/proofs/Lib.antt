@@ -15,3 +15,4 @@ pub mod ContentsLaws
 pub mod ConditionLaws
 pub mod BalanceLaws
 pub mod ReadLaws
+pub mod AnswerLaws
