@@ -1,7 +1,8 @@
 // The thirty-six sub-balances of a filing.
 mod apportion;
+pub mod places;
 mod positions;
-mod split;
+pub mod split;
 
 // What a place of the thirty-six holds: the balance in thousands of dollars, its cell's WAC in hundredths of a percent a year and its cell's WARM
 // in months.
