@@ -51,6 +51,7 @@ place-tells = LL.tells T.the-type T′.the-laws
 pub places-tells : Tells Places (Is Places) placesVals
 places-tells = array-tells Place placeVals place-tells 36
 
+-- a place as a field of a struct, and by itself
 each-place : (xs : List SubBalance) (us : List Val)
     → shadow (each (T.the-field .row .Denot) (T.the-field .row .own) (map (T.the-field .into) xs) us)
     → shadow (each SubBalance (Place .own) xs us)
@@ -62,6 +63,18 @@ each-place (x ∷ xs) (u ∷ us) p = (p .0, each-place xs us (p .1))
 -- thirty-six places that are a field of a struct are thirty-six places
 pub places-of-field : (xs : List SubBalance) (vs : List Val) → Is (array-field T.the-field 36 .row) (map (T.the-field .into) xs) vs → Is Places xs vs
 places-of-field xs vs p = (p .0, ((p .1 .0 .0, sym (length-map xs (T.the-field .into)) ∙ p .1 .0 .1), each-place xs (p .0) (p .1 .1)))
+
+each-field : (xs : List SubBalance) (us : List Val)
+    → shadow (each SubBalance (Place .own) xs us)
+    → shadow (each (T.the-field .row .Denot) (T.the-field .row .own) (map (T.the-field .into) xs) us)
+each-field [] [] p = p
+each-field [] (u ∷ us) p = absurd p
+each-field (x ∷ xs) [] p = absurd p
+each-field (x ∷ xs) (u ∷ us) p = (p .0, each-field xs us (p .1))
+
+-- thirty-six places are thirty-six places as a field of a struct
+pub field-of-places : (xs : List SubBalance) (vs : List Val) → Is Places xs vs → Is (array-field T.the-field 36 .row) (map (T.the-field .into) xs) vs
+field-of-places xs vs p = (p .0, ((p .1 .0 .0, length-map xs (T.the-field .into) ∙ p .1 .0 .1), each-field xs (p .0) (p .1 .1)))
 
 module _ {M : Type 1} (𝓤 : URA M) (H : Heap 𝓤) (A : Atoms 𝓤) (W : Given 𝓤 H A) where
   pub place-typed : (d : SubBalance) → Is Place d (placeVals d) → Holds (hasTy T′.mir (placeVal d)) × WT (placeVal d)
