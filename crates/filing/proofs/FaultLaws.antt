@@ -18,7 +18,7 @@ neither true b e = (e, cc)
 neither false b e = (refl, e)
 
 -- 1 does not hold: the record ends within the bytes
-complete-ends : (s : List ℕ) (at : ℕ) → incomplete s at ≡ false → nextRecord s at ≤ length s
+pub complete-ends : (s : List ℕ) (at : ℕ) → incomplete s at ≡ false → nextRecord s at ≤ length s
 unfolding incomplete
 complete-ends s at h =
     let h1 = neither (ltb (length s) (at + 2)) (ltb (recordLength s at) 2 || ltb (length s) (nextRecord s at)) h in
@@ -26,7 +26,7 @@ complete-ends s at h =
     ltb-false (length s) (nextRecord s at) (h2 .1)
 
 -- 2 does not hold: the length is the kind's
-shaped-length : (s : List ℕ) (at : ℕ) → misshapen s at ≡ false → recordLength s at ≡ kindLength (recordKind s at)
+pub shaped-length : (s : List ℕ) (at : ℕ) → misshapen s at ≡ false → recordLength s at ≡ kindLength (recordKind s at)
 unfolding misshapen
 shaped-length s at h =
     eqb-true (recordLength s at) (kindLength (recordKind s at))
@@ -91,17 +91,36 @@ no-fault : (b : Bool) (n rest : ℕ) → cond b (suc n) rest ≡ 0 → (b ≡ fa
 no-fault true n rest e = absurd (omega arith)
 no-fault false n rest e = (refl, e)
 
-pub faultless-sound : (s : List ℕ) (at : ℕ) → faultNumber s at ≡ 0 → Sound s at
+-- a record whose fault number is 0: each of the tests 1 to 5 fails
+pub record Faultless (s : List ℕ) (at : ℕ) : Type 0 where
+  pub complete : incomplete s at ≡ false
+  pub shaped : misshapen s at ≡ false
+  pub listed : unlisted s at ≡ false
+  pub single : repeated s at ≡ false
+  pub limited : overLimit s at ≡ false
+
+pub faultless : (s : List ℕ) (at : ℕ) → faultNumber s at ≡ 0 → Faultless s at
 unfolding faultNumber
-faultless-sound s at h =
+faultless s at h =
     let h1 = no-fault (incomplete s at) 0 _ h in
     let h2 = no-fault (misshapen s at) 1 _ (h1 .1) in
     let h3 = no-fault (unlisted s at) 2 _ (h2 .1) in
     let h4 = no-fault (repeated s at) 3 _ (h3 .1) in
     let h5 = no-fault (overLimit s at) 4 _ (h4 .1) in
     record {
-      complete = complete-ends s at (h1 .0);
-      shaped = shaped-length s at (h2 .0);
-      value-limit = value-within s at (h5 .0);
-      rate-limit = rates-within s at (h5 .0);
+      complete = h1 .0;
+      shaped = h2 .0;
+      listed = h3 .0;
+      single = h4 .0;
+      limited = h5 .0;
+    }
+
+pub faultless-sound : (s : List ℕ) (at : ℕ) → faultNumber s at ≡ 0 → Sound s at
+faultless-sound s at h =
+    let f = faultless s at h in
+    record {
+      complete = complete-ends s at (f .complete);
+      shaped = shaped-length s at (f .shaped);
+      value-limit = value-within s at (f .limited);
+      rate-limit = rates-within s at (f .limited);
     }

@@ -1,7 +1,14 @@
 pub mod ByteLaws
 pub mod RecordLaws
-pub mod FaultLaws
 pub mod StepLaws
+pub mod ClassLaws
+pub mod RateLaws
+pub mod FaultLaws
+pub mod RecordVerdictLaws
+pub mod OffsetLaws
 pub mod VerdictLaws
 pub mod AcceptedLaws
 pub mod Controls
+pub mod ScanLaws
+pub mod ScanStateLaws
+pub mod ContentsLaws

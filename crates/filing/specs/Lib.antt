@@ -2,7 +2,9 @@ pub mod Bytes
 pub mod Records
 pub mod Faults
 pub mod Steps
+pub mod Offsets
 pub mod Contents
 pub mod Conditions
 pub mod Verdict
+pub mod Answers
 pub mod Valid

@@ -1,8 +1,13 @@
 // A filing of certificate deposits, from its bytes to what it says.
 
+mod answers;
 mod bytes;
+mod decode;
+mod faults;
 mod reader;
 mod records;
+mod scan;
+mod tables;
 
 // What an accepted filing says: the values of cells 601 to 661, the CD yields of months 1 to 120 and the retail rates of columns 1 to 3.
 // Cells are in their own units, yields and rates in hundredths of a percent a year.
@@ -24,4 +29,23 @@ pub enum Step {
     Incomplete,
     // Nothing: the offset is at the end, or past it.
     End,
+}
+
+// The answer on a filing: acceptance, or the first refusal and its place.
+pub enum Answer {
+    Accepted,
+    // At the record's offset.
+    RecordIncomplete(usize),
+    RecordMisshapen(usize),
+    CellUnlisted(usize),
+    Repeated(usize),
+    OverLimit(usize),
+    // At the input's length.
+    SheetMissing(usize),
+    // At the cell.
+    MonthsOutsideRow(usize),
+    AboveColumnSum(usize),
+    TotalDiffers(usize),
+    // At the list's length.
+    ListTooShort(usize),
 }

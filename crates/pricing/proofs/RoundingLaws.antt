@@ -31,3 +31,7 @@ floor-zero m d = rw (zero-mul, zero-div)
 pub quotient-le : (ρ : Rounding) (n d m : ℕ) → 0 < d → n ≤ m * d → quotient ρ n d ≤ m
 quotient-le down n d m pos h = le-of-mul-le-mul-right (le-trans (floor-le n d) h) pos
 quotient-le up n d m pos h = le-of-suc-le-suc (lt-of-mul-lt-mul-right d (omega (arith, ceiling-lt n d pos)))
+
+-- nothing divided is nothing, at either rounding
+pub quotient-zero : (ρ : Rounding) (m d : ℕ) → 0 < d → quotient ρ (0 * m) d ≡ 0
+quotient-zero ρ m d pos = let h : quotient ρ (0 * m) d ≤ 0 = quotient-le ρ (0 * m) d 0 pos (omega arith) in omega arith

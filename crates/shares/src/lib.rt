@@ -1,7 +1,7 @@
 // The thirty-six sub-balances of a filing.
 mod apportion;
 pub mod places;
-mod positions;
+pub mod positions;
 pub mod split;
 
 // What a place of the thirty-six holds: the balance in thousands of dollars, its cell's WAC in hundredths of a percent a year and its cell's WARM

@@ -1,3 +1,4 @@
 pub mod TermsLaws
 pub mod PriceLaws
+pub mod PlaceValueLaws
 pub mod ValueLaws

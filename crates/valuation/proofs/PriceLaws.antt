@@ -4,6 +4,7 @@ use mathlib.Core.Path.{_≡_, refl}
 use mathlib.Core.List.{List}
 use lib.Dec.{eqb}
 use lib.ListN.{getD}
+use native.Mathlib.Nat.{le-refl}
 use native.Mathlib.Numerals.{add-one}
 use native.Mathlib.Omega.{arith}
 use Rattle.withdrawal.specs.Tiers.{TierTable}
@@ -12,10 +13,11 @@ use Rattle.pricing.specs.declared.Run.{Run}
 use Rattle.pricing.specs.Rounding.{Rounding}
 use Rattle.pricing.specs.Run.{balanceBy, discountedBy}
 use Rattle.pricing.specs.Month.{runBy, nextRun, Small}
+use Rattle.pricing.proofs.LimitLaws.{discounted-limit}
 use Rattle.pricing.proofs.RunLaws.{run-suc, run-small}
 use Rattle.valuation.specs.declared.Deposit.{Deposit}
 use Rattle.valuation.specs.DepositTerms.{servicingCost, termsOf}
-use Rattle.valuation.specs.Deposits.{listed, DepositLimits, AtMostPar}
+use Rattle.valuation.specs.Deposits.{listed, listedPrice, DepositLimits, AtMostPar}
 use Rattle.valuation.proofs.TermsLaws.{terms-of-bounded}
 
 listed-suc : (factors : List ℕ) (first t : ℕ) → listed factors first (suc t) ≡ getD factors (first + t) 0
@@ -30,6 +32,13 @@ listed-le factors first h t = h (first + (t - 1))
 pub run-zero : (ρ : Rounding) (tiers : TierTable) (d : Deposit) (df : ℕ → ℕ) → record { balance = 1000000000; price = 0 } ≡ runBy ρ (termsOf tiers d) df 0
 unfolding runBy balanceBy discountedBy
 run-zero ρ tiers d df = refl
+
+-- the price of a deposit within the limits
+pub listed-price-limit : (ρ : Rounding) (tiers : TierTable) (d : Deposit) (factors : List ℕ) (first : ℕ) → DepositLimits d → AtMostPar factors → listedPrice ρ tiers d factors first ≤ 4533261346
+unfolding listedPrice termsOf
+listed-price-limit ρ tiers d factors first l p =
+    discounted-limit (termsOf tiers d) (listed factors first) (listed-le factors first p) (terms-of-bounded tiers d (l .coupon-le) (l .months-le))
+    (d .months) (le-refl (d .months)) ρ
 
 -- month t + 1 of a deposit: s is its servicing cost, q its survival, f its discount factor
 module _ (ρ : Rounding) (tiers : TierTable) (d : Deposit) (factors : List ℕ) (first t s q f : ℕ) (run : Run)

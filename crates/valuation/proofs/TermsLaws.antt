@@ -1,17 +1,23 @@
 -- The terms of each sub-balance of an accepted filing are within the limits of the run. Assumes nothing.
-use Prim.Native.Nat.{ℕ, _/_, _≤_, _<_}
-use lib.Dec.{lit≤}
+use Prim.Native.Nat.{ℕ, _/_, _%_, _≤_, _<_}
+use mathlib.Core.Path.{_≡_}
+use lib.Dec.{leb, lit≤}
 use native.Mathlib.Nat.{mul-le-mul-left}
 use native.Mathlib.Omega.{arith}
+use Rattle.schedule.specs.Shift.{shiftedRate}
 use Rattle.filing.specs.declared.Contents.{Contents}
+use Rattle.filing.specs.Contents.{retailRate}
 use Rattle.filing.specs.Valid.{Valid}
+use Rattle.shares.specs.declared.SubBalance.{SubBalance}
+use Rattle.shares.specs.Places.{placeAt}
 use Rattle.shares.specs.SubBalances.{positionOf, couponAt, monthsAt}
 use Rattle.withdrawal.specs.Tiers.{TierTable}
 use Rattle.withdrawal.specs.MonthSurvival.{Account, retail, brokered, accountOf}
 use Rattle.withdrawal.proofs.MonthSurvivalLaws.{monthSurvival-le}
 use Rattle.pricing.specs.Bounded.{Bounded}
 use Rattle.valuation.specs.declared.Deposit.{Deposit}
-use Rattle.valuation.specs.DepositTerms.{depositAt, servicingCost, termsOf, filingTiers, termsAt}
+use Rattle.valuation.specs.Deposits.{DepositLimits}
+use Rattle.valuation.specs.DepositTerms.{isBrokered, penaltyAt, depositAt, servicingCost, termsOf, filingTiers, termsAt}
 
 servicing-le : (account : Account) → servicingCost account ≤ 175000
 unfolding servicingCost
@@ -41,3 +47,20 @@ pub terms-bounded : (k : Contents) → Valid k → (scenario place : ℕ) → pl
 unfolding termsAt depositAt
 terms-bounded k v scenario place h =
     terms-of-bounded (filingTiers k) (depositAt k scenario place) (coupon-limit k v place h) (months-limit k v place h)
+
+-- the deposit at a place, from what the place holds
+pub deposit-is : (k : Contents) (scenario place : ℕ) (p : SubBalance) (penalty rate : ℕ) → p ≡ placeAt k place → penalty ≡ penaltyAt k place → rate ≡ shiftedRate scenario (retailRate k (positionOf place .column))
+    → _≡_ {A = Deposit} (record { brokered = leb 2 (place % 4); coupon = p .coupon; penalty = penalty; rate = rate; months = p .«remaining_months» }) (depositAt k scenario place)
+unfolding depositAt isBrokered placeAt
+deposit-is k scenario place p penalty rate hp hpenalty hrate = rw (hp, hpenalty, hrate)
+
+-- and it is within the limits
+pub deposit-limits : (k : Contents) → Valid k → (scenario place : ℕ) → place < 36 → (d : Deposit) → d ≡ depositAt k scenario place → d .penalty ≤ 3600 → d .rate ≤ 2800 → DepositLimits d
+unfolding depositAt
+deposit-limits k v scenario place h d e hp hr =
+    record {
+      coupon-le = rw e (coupon-limit k v place h);
+      penalty-le = hp;
+      rate-le = hr;
+      months-le = rw e (months-limit k v place h);
+    }

@@ -1,7 +1,7 @@
 -- The deposit at each place of a filing in each scenario, and its terms (01:48-55, 01:59), from what the filing says. Definitions only.
 use Prim.Native.Nat.{ℕ, _*_, _%_}
-use mathlib.Core.Bool.{Bool, not, cond}
-use lib.Dec.{ltb, eqb}
+use mathlib.Core.Bool.{Bool, cond}
+use lib.Dec.{leb, eqb}
 use Rattle.schedule.specs.Cells.{penaltyMonthsCell}
 use Rattle.schedule.specs.Shift.{shiftedRate}
 use Rattle.filing.specs.declared.Contents.{Contents}
@@ -14,7 +14,7 @@ use Rattle.valuation.specs.declared.Deposit.{Deposit}
 
 -- the places of each four: retail with and without penalty, then brokered with and without (01:45)
 unfoldable pub isBrokered : ℕ → Bool
-isBrokered place = not (ltb (place % 4) 2)
+isBrokered place = leb 2 (place % 4)
 
 -- the penalty of a place, hundredths of a month: its column's, or 0 where the place is without penalty (01:49)
 unfoldable pub penaltyAt : Contents → ℕ → ℕ

@@ -6,3 +6,5 @@ pub mod Exact
 pub mod Run
 pub mod Numbers
 pub mod Listed
+pub mod PlaceValues
+pub mod Promise

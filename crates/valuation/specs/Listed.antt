@@ -1,6 +1,6 @@
 -- The 568 numbers from three lists: 36 balances, and lower and upper values by scenario and place. Definitions only.
 use Prim.Native.Nat.{ℕ, _+_, _*_, _-_, _/_, _%_}
-use mathlib.Core.Bool.{Bool, true, false, cond}
+use mathlib.Core.Bool.{Bool, cond}
 use mathlib.Core.List.{List}
 use lib.ListN.{getD}
 use lib.Dec.{ltb, eqb, leb}

@@ -1,5 +1,6 @@
 // Certificate deposits under seven rate scenarios: from what a filing says to its 568 numbers.
 pub mod factors;
+pub mod place_values;
 pub mod prices;
 
 // A deposit as its cash flows see it: coupon and shifted retail rate in hundredths of a percent a year, penalty in hundredths of a month,
@@ -16,4 +17,10 @@ pub struct Deposit {
 pub struct Bounds {
     pub lower: u64,
     pub upper: u64,
+}
+
+// Lower and upper values in dollars: place p of scenario s stands at 36 s + p.
+pub struct Values {
+    pub lower: [u64; 252],
+    pub upper: [u64; 252],
 }

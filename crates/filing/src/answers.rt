@@ -1,0 +1,42 @@
+// The paper's number and place of an answer.
+use crate::Answer;
+ghost use mathlib.Core.Path.{_≡_};
+ghost use Rattle.filing.specs.Answers.{numberOf, placeOf};
+
+// The number of a refusal, 0 for acceptance.
+pub fn number(answer: Answer) -> u64
+    ensures { λ r. ⌜ r ≡ numberOf answer ⌝ }
+{
+    match answer {
+        Answer::Accepted => 0,
+        Answer::RecordIncomplete(_) => 1,
+        Answer::RecordMisshapen(_) => 2,
+        Answer::CellUnlisted(_) => 3,
+        Answer::Repeated(_) => 4,
+        Answer::OverLimit(_) => 5,
+        Answer::SheetMissing(_) => 6,
+        Answer::MonthsOutsideRow(_) => 7,
+        Answer::AboveColumnSum(_) => 8,
+        Answer::TotalDiffers(_) => 9,
+        Answer::ListTooShort(_) => 10,
+    }
+}
+
+// The place of a refusal, 0 for acceptance.
+pub fn place(answer: Answer) -> usize
+    ensures { λ r. ⌜ r ≡ placeOf answer ⌝ }
+{
+    match answer {
+        Answer::Accepted => 0,
+        Answer::RecordIncomplete(at) => at,
+        Answer::RecordMisshapen(at) => at,
+        Answer::CellUnlisted(at) => at,
+        Answer::Repeated(at) => at,
+        Answer::OverLimit(at) => at,
+        Answer::SheetMissing(size) => size,
+        Answer::MonthsOutsideRow(cell) => cell,
+        Answer::AboveColumnSum(cell) => cell,
+        Answer::TotalDiffers(cell) => cell,
+        Answer::ListTooShort(size) => size,
+    }
+}

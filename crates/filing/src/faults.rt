@@ -1,0 +1,87 @@
+// The faults of one record: refusals 1 to 5, in the paper's order.
+use crate::Answer;
+use crate::records::record_cell;
+use crate::records::record_rate;
+use crate::records::record_value;
+use crate::tables::cell_class;
+use crate::tables::class_limit;
+use crate::tables::kind_length;
+use crate::tables::sheet_rates;
+ghost use mathlib.Core.Path.{_≡_};
+ghost use mathlib.Core.Bool.{false};
+ghost use Prim.Native.Nat.{_≤_};
+ghost use Rattle.filing.specs.Records.{recordKind, recordLength};
+ghost use Rattle.filing.specs.Faults.{incomplete, misshapen, rateOver};
+ghost use Rattle.filing.specs.Offsets.{offsetsBefore};
+ghost use Rattle.filing.specs.Answers.{verdictOf, recordVerdict};
+
+// The answer on a complete record, given its kind, its length and the offsets noted of the records before it.
+pub fn check_record(s: &[u8], at: usize, kind: u16, length: usize, first: &[usize; 65]) -> Answer
+    requires { ⌜ incomplete (now s) at ≡ false ⌝ }
+    requires { ⌜ kind ≡ recordKind (now s) at ⌝ }
+    requires { ⌜ length ≡ recordLength (now s) at ⌝ }
+    requires { ⌜ now first ≡ offsetsBefore (now s) at ⌝ }
+    ensures { λ r. ⌜ verdictOf r ≡ recordVerdict (now (s .entry)) at ⌝ }
+{
+    if length as u64 != kind_length(kind as usize) {
+        return Answer::RecordMisshapen(at);
+    }
+    if kind == 1 {
+        check_cell(s, at, first)
+    } else {
+        check_sheet(s, at, kind as usize, first)
+    }
+}
+
+// The answer on a record of kind 1 that has its kind's length.
+fn check_cell(s: &[u8], at: usize, first: &[usize; 65]) -> Answer
+    requires { ⌜ (incomplete (now s) at ≡ false) × (misshapen (now s) at ≡ false) ⌝ }
+    requires { ⌜ recordKind (now s) at ≡ 1 ⌝ }
+    requires { ⌜ now first ≡ offsetsBefore (now s) at ⌝ }
+    ensures { λ r. ⌜ verdictOf r ≡ recordVerdict (now (s .entry)) at ⌝ }
+{
+    let cell = record_cell(s, at);
+    let class = cell_class(cell);
+    if class == 0 {
+        return Answer::CellUnlisted(at);
+    }
+    let place = (cell - 597) as usize;
+    if first[place] < s.len() {
+        return Answer::Repeated(at);
+    }
+    if class_limit(class) < record_value(s, at) {
+        return Answer::OverLimit(at);
+    }
+    Answer::Accepted
+}
+
+// The answer on a sheet of rates that has its kind's length.
+fn check_sheet(s: &[u8], at: usize, kind: usize, first: &[usize; 65]) -> Answer
+    requires { ⌜ (incomplete (now s) at ≡ false) × (misshapen (now s) at ≡ false) ⌝ }
+    requires { ⌜ (kind ≡ recordKind (now s) at) × (kind ≡ 1 → ⊥) ⌝ }
+    requires { ⌜ now first ≡ offsetsBefore (now s) at ⌝ }
+    ensures { λ r. ⌜ verdictOf r ≡ recordVerdict (now (s .entry)) at ⌝ }
+{
+    if first[kind] < s.len() {
+        return Answer::Repeated(at);
+    }
+    if rate_over(s, at, sheet_rates(kind) as usize) {
+        return Answer::OverLimit(at);
+    }
+    Answer::Accepted
+}
+
+// One of a sheet's first n rates is over the limit.
+fn rate_over(s: &[u8], at: usize, n: usize) -> bool
+    requires { ⌜ n ≤ 120 ⌝ }
+    ensures { λ r. ⌜ r ≡ rateOver (now (s .entry)) at n ⌝ }
+{
+    let mut i = 0;
+    while i < n {
+        i += 1;
+        if 2500 < record_rate(s, at, i) {
+            return true;
+        }
+    }
+    false
+}
