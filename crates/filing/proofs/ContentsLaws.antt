@@ -79,11 +79,17 @@ table-eq base zero f g h = refl
 table-eq base (suc n) f g h =
     rw (h base (omega arith) (omega arith), table-eq (suc base) n f g (λ j l u. h j (omega arith) (omega arith)))
 
+-- the noted offset of a kind of sheet
+pub sheet-noted : (s : List ℕ) (kind : ℕ) → kind < 4 → getD (offsetsBefore s (length s)) kind 0 ≡ sheetOffset s kind
+unfolding sheetOffset
+sheet-noted s kind h =
+    offsets-end s kind (omega arith) ∙ ap (λ (k : ℕ). firstWithKey s k (length s)) (place-of-kind kind h)
+
 -- what the noted offsets of all records give is what the filing says
 pub contents-noted : (s : List ℕ) → contentsAt s (offsetsBefore s (length s)) ≡ contentsOf s
-unfolding contentsAt cellsAt contentsOf sheetOffset
+unfolding contentsAt cellsAt contentsOf
 contents-noted s =
     contents-eq
     (table-eq 601 61 (λ (n : ℕ). recordValue s (getD (offsetsBefore s (length s)) (n - 597) 0)) (cellValue s) (value-noted s))
-    (ap (λ (at : ℕ). tableFrom 1 120 (recordRate s at)) (offsets-end s 2 (lit< tt) ∙ ap (λ (k : ℕ). firstWithKey s k (length s)) (place-of-kind 2 (lit< tt))))
-    (ap (λ (at : ℕ). tableFrom 1 3 (recordRate s at)) (offsets-end s 3 (lit< tt) ∙ ap (λ (k : ℕ). firstWithKey s k (length s)) (place-of-kind 3 (lit< tt))))
+    (ap (λ (at : ℕ). tableFrom 1 120 (recordRate s at)) (sheet-noted s 2 (lit< tt)))
+    (ap (λ (at : ℕ). tableFrom 1 3 (recordRate s at)) (sheet-noted s 3 (lit< tt)))

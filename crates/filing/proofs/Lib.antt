@@ -12,3 +12,6 @@ pub mod Controls
 pub mod ScanLaws
 pub mod ScanStateLaws
 pub mod ContentsLaws
+pub mod ConditionLaws
+pub mod BalanceLaws
+pub mod ReadLaws

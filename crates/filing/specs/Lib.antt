@@ -7,4 +7,6 @@ pub mod Contents
 pub mod Conditions
 pub mod Verdict
 pub mod Answers
+pub mod Balances
+pub mod Readings
 pub mod Valid

@@ -39,6 +39,15 @@ module _ {ℓ} {A : Type ℓ} where
   table-stored f l n more v h hn e hv =
       rw (e, add-one, take-suc-set l n v hn, h, tableFrom-suc 0 n f, zero-add, hv)
 
+  tableFrom-ext : (s n : ℕ) (f g : ℕ → A) → ((i : ℕ) → i < s + n → f i ≡ g i) → tableFrom s n f ≡ tableFrom s n g
+  unfolding tableFrom
+  tableFrom-ext s zero f g h = refl
+  tableFrom-ext s (suc n) f g h = rw (h s (omega arith), tableFrom-ext (suc s) n f g (λ i l. h i (omega arith)))
+
+  -- functions that agree make the same table
+  pub table-ext : (n : ℕ) (f g : ℕ → A) → ((i : ℕ) → i < n → f i ≡ g i) → table n f ≡ table n g
+  table-ext n f g h = tableFrom-ext 0 n f g (λ i l. h i (omega arith))
+
   -- n lists of m elements each have m × n
   pub joined-length : (m s n : ℕ) (f : ℕ → List A) → ((i : ℕ) → length (f i) ≡ m) → length (joined (tableFrom s n f)) ≡ m * n
   unfolding tableFrom joined

@@ -7,29 +7,34 @@ use mathlib.Core.List.{List}
 use lib.Dec.{ltb, lit<}
 use lib.ListN.{getD}
 use borrow.Author.Tests.{lt-ltb, ne-eqb}
-use native.Mathlib.Nat.{le-refl, le-trans, lt-of-lt-of-le, not-suc-le-zero, le-of-suc-le-suc, le-max-left, le-max-right, eq-or-lt-of-le, eq-zero-or-pos, ne-of-gt}
+use native.Mathlib.Nat.{mul-le-mul, le-refl, le-trans, lt-of-lt-of-le, not-suc-le-zero, le-of-suc-le-suc, le-max-left, le-max-right, eq-or-lt-of-le, eq-zero-or-pos, ne-of-gt}
 use native.Mathlib.Omega.{arith}
-use Rattle.lists.proofs.TableLaws.{table-getD, table-le}
+use Rattle.lists.specs.Tables.{table}
+use Rattle.lists.proofs.TableLaws.{table-getD, table-le, table-ext}
 use Rattle.filing.specs.declared.Contents.{Contents}
 use Rattle.filing.specs.Contents.{cdYield}
 use Rattle.filing.specs.Valid.{Valid}
 use Rattle.shares.specs.declared.SubBalance.{SubBalance}
 use Rattle.shares.specs.SubBalances.{balanceAt, monthsAt}
+use Rattle.shares.proofs.SubBalanceLaws.{balanceAt-limit}
 use Rattle.shares.specs.Places.{placeAt, placesOf}
 use Rattle.withdrawal.specs.Tiers.{TierTable}
 use Rattle.pricing.specs.Rounding.{Rounding, down, up, quotient}
 use Rattle.pricing.specs.Run.{discountFactorBy, priceBy, valueBy}
-use Rattle.pricing.proofs.RoundingLaws.{quotient-zero}
-use Rattle.pricing.proofs.LimitLaws.{discount-limit}
+use Rattle.pricing.proofs.RoundingLaws.{quotient-le, quotient-zero}
+use Rattle.pricing.proofs.LimitLaws.{discount-limit, price-limit}
 use Rattle.pricing.proofs.RunLaws.{run-ext}
 use Rattle.valuation.specs.declared.Deposit.{Deposit}
 use Rattle.valuation.specs.declared.Bounds.{Bounds}
 use Rattle.valuation.specs.DepositTerms.{depositAt, termsOf, filingTiers, termsAt, monthYield}
 use Rattle.valuation.specs.Deposits.{listed, listedPrice, AtMostPar}
 use Rattle.valuation.specs.Factors.{factorAt, factorsBy, WithinRates}
-use Rattle.valuation.specs.PlaceValues.{noBalance, termOf, longestTo, longestTerm, listedValue, listedValues}
+use Rattle.valuation.specs.PlaceValues.{noBalance, termOf, longestTo, longestTerm, listedValue, listedValues, balancesIn}
+use Rattle.valuation.specs.Listed.{WithinValues, valuesBy, numberIn}
+use Rattle.valuation.specs.Numbers.{numbers, numberCount}
 use Rattle.valuation.specs.Run.{valueAt}
-use Rattle.valuation.proofs.TermsLaws.{months-limit}
+use Rattle.valuation.proofs.NumberLaws.{numbers-listed}
+use Rattle.valuation.proofs.TermsLaws.{months-limit, terms-bounded}
 
 -- the yields of an accepted filing are within the limit
 pub yields-within : (k : Contents) → Valid k → WithinRates (k .yields)
@@ -111,3 +116,21 @@ pub values-are : (k : Contents) → Valid k → (scenario place : ℕ) → scena
 unfolding listedValues
 values-are k v scenario place hs hp b tiers d lower upper r eb et ed el eu er =
     (rw (er, eb, et, ed, el) (place-value down k v scenario place hs hp), rw (er, eb, et, ed, eu) (place-value up k v scenario place hs hp))
+
+-- the balances of the places are the balances of the filing
+balances-are : (k : Contents) → balancesIn (placesOf k) ≡ table 36 (balanceAt k)
+unfolding balancesIn placeAt
+balances-are k = table-ext 36 _ (balanceAt k) (λ i h. rw (place-is k i h))
+
+-- no value of an accepted filing is above 5 × 10^12 dollars
+pub values-within : (ρ : Rounding) (k : Contents) → Valid k → WithinValues (valuesBy ρ k)
+unfolding valuesBy valueAt valueBy
+values-within ρ k v =
+    table-le 0 252 _ (5 * 10 ^ 12)
+    (λ j l u. quotient-le ρ _ (10 ^ 6) (5 * 10 ^ 12) (lit< tt)
+    (omega (arith, mul-le-mul (balanceAt-limit k v (j % 36) (omega arith)) (price-limit (termsAt k (j / 36) (j % 36)) (monthYield k (j / 36)) (terms-bounded k v (j / 36) (j % 36) (omega arith)) ρ))))
+
+-- the 568 numbers from the lists that the code has in hand
+pub numbers-are : (k : Contents) (ps : List SubBalance) (balances lower upper : List ℕ) → ps ≡ placesOf k → balances ≡ balancesIn ps → lower ≡ valuesBy down k → upper ≡ valuesBy up k
+    → table numberCount (numberIn balances lower upper) ≡ numbers k
+numbers-are k ps balances lower upper ep eb el eu = rw (eb, ep, balances-are k, el, eu) (numbers-listed k)

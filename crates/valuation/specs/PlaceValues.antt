@@ -4,6 +4,7 @@ use mathlib.Core.Bool.{cond}
 use mathlib.Core.List.{List}
 use lib.Dec.{eqb}
 use lib.ListN.{getD}
+use Rattle.lists.specs.Tables.{table}
 use Rattle.shares.specs.declared.SubBalance.{SubBalance}
 use Rattle.shares.specs.SubBalances.{subBalanceCount}
 use Rattle.withdrawal.specs.Tiers.{TierTable}
@@ -36,3 +37,7 @@ listedValue ρ balance tiers d factors first = quotient ρ (balance * listedPric
 unfoldable pub listedValues : ℕ → TierTable → Deposit → List ℕ → List ℕ → ℕ → Bounds
 listedValues balance tiers d lower upper first =
     record { lower = listedValue down balance tiers d lower first; upper = listedValue up balance tiers d upper first }
+
+-- the balances of the thirty-six places
+unfoldable pub balancesIn : List SubBalance → List ℕ
+balancesIn ps = table subBalanceCount (λ (i : ℕ). getD ps i noBalance .balance)

@@ -2,7 +2,7 @@
 -- Read off the list after the call: balances in thousands of dollars, values and totals in dollars.
 use Prim.Native.Nat.{ℕ, _+_, _*_, _≤_, _<_}
 use mathlib.Core.Path.{_≡_}
-use mathlib.Core.Bool.{Bool, cond}
+use mathlib.Core.Bool.{cond}
 use mathlib.Core.List.{List, _++_}
 use lib.Dec.{eqb}
 use lib.ListN.{length, getD, drop}
@@ -37,8 +37,8 @@ lowerIn list scenario place = getD list (15 * place + 2 * scenario + 1) 0
 unfoldable pub upperIn : List ℕ → ℕ → ℕ → ℕ
 upperIn list scenario place = getD list (15 * place + 2 * scenario + 2) 0
 
-unfoldable pub totalIn : List ℕ → ℕ → ℕ → ℕ
-totalIn list scenario r = getD list (540 + 4 * scenario + r) 0
+unfoldable pub totalNumber : List ℕ → ℕ → ℕ → ℕ
+totalNumber list scenario r = getD list (540 + 4 * scenario + r) 0
 
 -- what holds of the list after an accepted filing
 pub record Enclosed (s list : List ℕ) : Type 0 where
@@ -49,8 +49,8 @@ pub record Enclosed (s list : List ℕ) : Type 0 where
   pub value-encloses : (scenario place : ℕ) → scenario < 7 → place < 36 → Encloses (lowerIn list scenario place) (exactValueAt (contentsOf s) scenario place) (upperIn list scenario place)
   pub value-width : (scenario place : ℕ) → scenario < 7 → place < 36 → 250 * upperIn list scenario place ≤ 250 * lowerIn list scenario place + (balanceIn list place + 500)
   -- the same of the short and the long total
-  pub short-encloses : (scenario : ℕ) → scenario < 7 → Encloses (totalIn list scenario 0) (exactTotal isShort (contentsOf s) scenario) (totalIn list scenario 1)
-  pub long-encloses : (scenario : ℕ) → scenario < 7 → Encloses (totalIn list scenario 2) (exactTotal isLong (contentsOf s) scenario) (totalIn list scenario 3)
+  pub short-encloses : (scenario : ℕ) → scenario < 7 → Encloses (totalNumber list scenario 0) (exactTotal isShort (contentsOf s) scenario) (totalNumber list scenario 1)
+  pub long-encloses : (scenario : ℕ) → scenario < 7 → Encloses (totalNumber list scenario 2) (exactTotal isLong (contentsOf s) scenario) (totalNumber list scenario 3)
   -- the width over all thirty-six, against cell 645
   pub total-width : (scenario : ℕ) → scenario < 7 → 250 * sumWhere everywhere (upperIn list scenario) subBalanceCount ≤ 250 * sumWhere everywhere (lowerIn list scenario) subBalanceCount + (cell (contentsOf s) totalCell + 18000)
 

@@ -1,7 +1,10 @@
 // Certificate deposits under seven rate scenarios: from what a filing says to its 568 numbers.
 pub mod factors;
+pub mod filing_numbers;
+pub mod list;
 pub mod place_values;
 pub mod prices;
+pub mod totals;
 
 // A deposit as its cash flows see it: coupon and shifted retail rate in hundredths of a percent a year, penalty in hundredths of a month,
 // remaining months.
