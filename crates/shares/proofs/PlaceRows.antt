@@ -1,6 +1,6 @@
 -- Places and arrays of thirty-six of them as the program logic has them, for the proofs by hand: their rows, how their machine values are spelled,
 -- that those are typed, and that what they own is had for nothing. Assumes `Given`.
-use mathlib.Core.Path.{sym, _∙_}
+use mathlib.Core.Path.{sym, _∙_, subst}
 use Prim.Native.Nat.{ℕ}
 use mathlib.Core.List.{List, [], _∷_, map}
 use lib.Dec.{T as Holds}
@@ -50,6 +50,10 @@ place-tells = LL.tells T.the-type T′.the-laws
 
 pub places-tells : Tells Places (Is Places) placesVals
 places-tells = array-tells Place placeVals place-tells 36
+
+-- at their own machine values
+pub places-spelt : (xs : List SubBalance) (vs : List Val) → Is Places xs vs → Is Places xs (placesVals xs)
+places-spelt xs vs is = subst (Is Places xs) (places-tells xs vs is) is
 
 -- a place as a field of a struct, and by itself
 each-place : (xs : List SubBalance) (us : List Val)

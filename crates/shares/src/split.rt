@@ -1,9 +1,38 @@
 // The split of a filing into a list of places that the caller lends.
+use crate::Outcome;
+use crate::SplitPlaces;
 use crate::SubBalance;
+use crate::places::places_of;
+use filing::Answer;
+use filing::answers::number;
+use filing::read;
 ghost use mathlib.Core.Path.{_≡_};
 ghost use mathlib.Core.List.{_++_};
 ghost use Prim.Native.Nat.{_≤_};
-ghost use lib.ListN.{length, take, drop};
+ghost use lib.ListN.{length, take, drop, replicate};
+ghost use Rattle.shares.specs.Split.{noPlace, OutcomeOf, SplitOf};
+
+// Fills in the thirty-six places of a filing, nine positions ascending and four places each. A refusal changes no place, and the places past the
+// thirty-sixth are left.
+pub fn split(filing: &[u8], places: &mut [SubBalance]) -> Answer
+    ensures { λ r. ⌜ SplitOf (now (filing .entry)) (now (places .entry)) r (now (places .exit)) ⌝ }
+{
+    let outcome = outcome_of(filing, places.len());
+    fill(places, outcome.places, outcome.count);
+    outcome.answer
+}
+
+// The same on an array by value, for callers that hold no list.
+pub fn split_array(filing: &[u8], places: [SubBalance; 36]) -> SplitPlaces
+    ensures { λ r. ⌜ SplitOf (now (filing .entry)) places (r .answer) (r .places) ⌝ }
+{
+    let mut list = places;
+    let answer = split(filing, &mut list);
+    SplitPlaces {
+        answer,
+        places: list,
+    }
+}
 
 // Stores the first `count` of the places in the list, from its start on.
 fn fill(places: &mut [SubBalance], from: [SubBalance; 36], count: usize)
@@ -14,5 +43,42 @@ fn fill(places: &mut [SubBalance], from: [SubBalance; 36], count: usize)
     while i < count {
         places[i] = from[i];
         i += 1;
+    }
+}
+
+// What is made of a filing and a list of `size` places: a short list is refused before the filing is read.
+fn outcome_of(filing: &[u8], size: usize) -> Outcome
+    ensures { λ r. ⌜ OutcomeOf (now (filing .entry)) size r ⌝ }
+{
+    if size < 36 {
+        return refusal(Answer::ListTooShort(size));
+    }
+    let reading = read(filing);
+    let answer = reading.answer;
+    if number(answer) != 0 {
+        return refusal(answer);
+    }
+    let contents = reading.contents;
+    let places = places_of(contents);
+    Outcome {
+        answer,
+        places,
+        count: 36,
+    }
+}
+
+// A refusal writes no place.
+fn refusal(answer: Answer) -> Outcome
+    ensures { λ r. ⌜ (r .answer ≡ answer) × (r .places ≡ replicate 36 noPlace) × (r .count ≡ 0) ⌝ }
+{
+    let none = SubBalance {
+        balance: 0,
+        coupon: 0,
+        remaining_months: 0,
+    };
+    Outcome {
+        answer,
+        places: [none; 36],
+        count: 0,
     }
 }
