@@ -1,5 +1,8 @@
 // The thirty-six sub-balances of a filing.
+use filing::Answer;
+
 mod apportion;
+pub mod places;
 pub mod positions;
 pub mod split;
 
@@ -9,4 +12,17 @@ pub struct SubBalance {
     pub balance: u64,
     pub coupon: u64,
     pub remaining_months: u64,
+}
+
+// What is made of a filing and a list: the answer, the places to be written, and how many of them are, 36 or none.
+pub struct Outcome {
+    pub answer: Answer,
+    pub places: [SubBalance; 36],
+    pub count: usize,
+}
+
+// The answer on a filing and an array of places, and the array after the call.
+pub struct SplitPlaces {
+    pub answer: Answer,
+    pub places: [SubBalance; 36],
 }

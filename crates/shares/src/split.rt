@@ -1,88 +1,84 @@
-// The split of a filing's balances into the thirty-six sub-balances.
+// The split of a filing into a list of places that the caller lends.
+use crate::Outcome;
+use crate::SplitPlaces;
 use crate::SubBalance;
-use crate::apportion::row_shares;
-use crate::positions::balance_at;
-use crate::positions::cell_value;
-use crate::positions::column_at;
-use crate::positions::coupon_at;
-use crate::positions::months_at;
-use filing::Contents;
+use crate::places::places_of;
+use filing::Answer;
+use filing::answers::number;
+use filing::read;
 ghost use mathlib.Core.Path.{_≡_};
-ghost use Prim.Native.Nat.{_+_, _≤_, _<_};
-ghost use Rattle.schedule.specs.Cells.{positionAt};
-ghost use Rattle.filing.specs.Valid.{Valid};
-ghost use Rattle.shares.specs.SubBalances.{fourOf};
-ghost use Rattle.shares.specs.Rows.{columnSum};
-ghost use Rattle.shares.specs.Places.{placesOf};
+ghost use mathlib.Core.List.{_++_};
+ghost use Prim.Native.Nat.{_≤_};
+ghost use lib.ListN.{length, take, drop, replicate};
+ghost use Rattle.shares.specs.Split.{noPlace, OutcomeOf, SplitOf};
 
-// The thirty-six places of a filing: nine positions ascending, four places each.
-pub fn places_of(k: Contents) -> [SubBalance; 36]
-    requires { ⌜ Valid k ⌝ }
-    ensures { λ r. ⌜ r ≡ placesOf k ⌝ }
+// Fills in the thirty-six places of a filing, nine positions ascending and four places each. A refusal changes no place, and the places past the
+// thirty-sixth are left.
+pub fn split(filing: &[u8], places: &mut [SubBalance]) -> Answer
+    ensures { λ r. ⌜ SplitOf (now (filing .entry)) (now (places .entry)) r (now (places .exit)) ⌝ }
+{
+    let outcome = outcome_of(filing, places.len());
+    fill(places, outcome.places, outcome.count);
+    outcome.answer
+}
+
+// The same on an array by value, for callers that hold no list.
+pub fn split_array(filing: &[u8], places: [SubBalance; 36]) -> SplitPlaces
+    ensures { λ r. ⌜ SplitOf (now (filing .entry)) places (r .answer) (r .places) ⌝ }
+{
+    let mut list = places;
+    let answer = split(filing, &mut list);
+    SplitPlaces {
+        answer,
+        places: list,
+    }
+}
+
+// Stores the first `count` of the places in the list, from its start on.
+fn fill(places: &mut [SubBalance], from: [SubBalance; 36], count: usize)
+    requires { ⌜ (count ≤ 36) × (count ≤ length (now places)) ⌝ }
+    ensures { λ _. ⌜ now (places .exit) ≡ take count from ++ drop count (now (places .entry)) ⌝ }
+{
+    let mut i = 0;
+    while i < count {
+        places[i] = from[i];
+        i += 1;
+    }
+}
+
+// What is made of a filing and a list of `size` places: a short list is refused before the filing is read.
+fn outcome_of(filing: &[u8], size: usize) -> Outcome
+    ensures { λ r. ⌜ OutcomeOf (now (filing .entry)) size r ⌝ }
+{
+    if size < 36 {
+        return refusal(Answer::ListTooShort(size));
+    }
+    let reading = read(filing);
+    let answer = reading.answer;
+    if number(answer) != 0 {
+        return refusal(answer);
+    }
+    let contents = reading.contents;
+    let places = places_of(contents);
+    Outcome {
+        answer,
+        places,
+        count: 36,
+    }
+}
+
+// A refusal writes no place.
+fn refusal(answer: Answer) -> Outcome
+    ensures { λ r. ⌜ (r .answer ≡ answer) × (r .places ≡ replicate 36 noPlace) × (r .count ≡ 0) ⌝ }
 {
     let none = SubBalance {
         balance: 0,
         coupon: 0,
         remaining_months: 0,
     };
-    let mut places = [none; 36];
-    let mut i = 0;
-    while i < 9 {
-        let four = four_of(k, i);
-        let coupon = coupon_at(k, i);
-        let remaining_months = months_at(k, i);
-        let at = 4 * i;
-        places[at] = SubBalance {
-            balance: four[0],
-            coupon,
-            remaining_months,
-        };
-        places[at + 1] = SubBalance {
-            balance: four[1],
-            coupon,
-            remaining_months,
-        };
-        places[at + 2] = SubBalance {
-            balance: four[2],
-            coupon,
-            remaining_months,
-        };
-        places[at + 3] = SubBalance {
-            balance: four[3],
-            coupon,
-            remaining_months,
-        };
-        i += 1;
+    Outcome {
+        answer,
+        places: [none; 36],
+        count: 0,
     }
-    places
-}
-
-// The four sub-balances of a position.
-fn four_of(k: Contents, i: usize) -> [u64; 4]
-    requires { ⌜ Valid k × (i < 9) ⌝ }
-    ensures { λ r. ⌜ r ≡ fourOf k (positionAt i) ⌝ }
-{
-    let column = column_at(i);
-    let total = column_sum(k, column, 9);
-    let before = column_sum(k, column, i);
-    let balance = balance_at(k, i);
-    let brokered = cell_value(k, 649 + column);
-    let penalized = cell_value(k, 652 + column);
-    row_shares(total, before, balance, brokered, penalized)
-}
-
-// The sum of a column's balances at the positions before `end`.
-fn column_sum(k: Contents, column: usize, end: usize) -> u64
-    requires { ⌜ Valid k × (end ≤ 9) ⌝ }
-    ensures { λ r. ⌜ r ≡ columnSum k column end ⌝ }
-{
-    let mut sum = 0;
-    let mut i = 0;
-    while i < end {
-        if column_at(i) == column {
-            sum += balance_at(k, i);
-        }
-        i += 1;
-    }
-    sum
 }

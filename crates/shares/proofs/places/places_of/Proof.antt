@@ -11,8 +11,8 @@ use Rattle.lists.specs.Tables.{tableFrom, table}
 use Rattle.lists.proofs.TableLaws.{table-stored}
 use Rattle.shares.specs.Places.{placeAt, placesOf}
 use Rattle.shares.proofs.PlaceLaws.{place-of}
-use Rattle.shares.proofs.split.places_of.Statement.{statement}
-use Rattle.shares.proofs.split.places_of.Tie as tie
+use Rattle.shares.proofs.places.places_of.Statement.{statement}
+use Rattle.shares.proofs.places.places_of.Tie as tie
 
 abbrev Inv-loop : tie.InvT-loop
 Inv-loop k places₀ i₀ places i = (i ≤ 9) × (length places ≡ 36) × (take (4 * i) places ≡ table (4 * i) (placeAt k))

@@ -7,8 +7,8 @@ use native.Mathlib.Omega.{arith}
 use Rattle.lists.specs.Sums.{sumWhere}
 use Rattle.shares.specs.Rows.{columnSum}
 use Rattle.shares.proofs.RowLaws.{columnSum-in, columnSum-out}
-use Rattle.shares.proofs.split.column_sum.Statement.{statement}
-use Rattle.shares.proofs.split.column_sum.Tie as tie
+use Rattle.shares.proofs.places.column_sum.Statement.{statement}
+use Rattle.shares.proofs.places.column_sum.Tie as tie
 
 abbrev Inv-loop : tie.InvT-loop
 Inv-loop k column end sum₀ i₀ sum i = (i ≤ end) × (sum ≡ columnSum k column i) × (sum ≤ 999999999 * i)

@@ -5,8 +5,8 @@ use native.Mathlib.Omega.{arith}
 use Rattle.schedule.specs.Cells.{brokeredCell, penaltyBalanceCell}
 use Rattle.shares.proofs.SubBalanceLaws.{column-range}
 use Rattle.shares.proofs.RowLaws.{row-within, four-row}
-use Rattle.shares.proofs.split.four_of.Statement.{statement}
-use Rattle.shares.proofs.split.four_of.Tie as tie
+use Rattle.shares.proofs.places.four_of.Statement.{statement}
+use Rattle.shares.proofs.places.four_of.Tie as tie
 
 column-at-requires : tie.Need-column-at-requires
 column-at-requires c κs = search needs
