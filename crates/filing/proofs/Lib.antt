@@ -11,3 +11,4 @@ pub mod AcceptedLaws
 pub mod Controls
 pub mod ScanLaws
 pub mod ScanStateLaws
+pub mod VisitLaws

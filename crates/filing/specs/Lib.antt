@@ -7,4 +7,5 @@ pub mod Contents
 pub mod Conditions
 pub mod Verdict
 pub mod Answers
+pub mod Scans
 pub mod Valid
