@@ -12,3 +12,5 @@ pub mod Controls
 pub mod ScanLaws
 pub mod ScanStateLaws
 pub mod VisitLaws
+pub mod WalkLaws
+pub mod ReaderLaws
