@@ -14,3 +14,6 @@ pub mod ScanStateLaws
 pub mod VisitLaws
 pub mod WalkLaws
 pub mod ReaderLaws
+pub mod ContentsLaws
+pub mod ConditionLaws
+pub mod BalanceLaws

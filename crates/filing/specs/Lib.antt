@@ -8,4 +8,5 @@ pub mod Conditions
 pub mod Verdict
 pub mod Answers
 pub mod Scans
+pub mod Balances
 pub mod Valid

@@ -1,11 +1,12 @@
--- The offsets that reading a filing notes: for each cell and each kind of sheet, its first record. Definitions only.
+-- The offsets that reading a filing notes: for each cell and each kind of sheet, its first record; and what stands there. Definitions only.
 use Prim.Native.Nat.{ℕ, _+_, _-_}
 use mathlib.Core.Bool.{cond}
 use mathlib.Core.List.{List}
-use lib.ListN.{length}
+use lib.ListN.{length, getD}
 use lib.Dec.{ltb, eqb}
-use Rattle.lists.specs.Tables.{table}
-use Rattle.filing.specs.Records.{recordKind, recordCell, cellKey, kindKey, firstWithKey}
+use Rattle.lists.specs.Tables.{tableFrom, table}
+use Rattle.filing.specs.declared.Contents.{Contents}
+use Rattle.filing.specs.Records.{recordKind, recordCell, recordValue, recordRate, cellKey, kindKey, firstWithKey}
 
 -- the offset of the first record before `at` with a key, or the input's length where there is none
 unfoldable pub offsetBefore : List ℕ → ℕ → ℕ → ℕ
@@ -22,3 +23,16 @@ recordPlace s at = cond (eqb (recordKind s at) 1) (recordCell s at - 597) (recor
 -- the offsets noted of the records before `at`
 unfoldable pub offsetsBefore : List ℕ → ℕ → List ℕ
 offsetsBefore s at = table 65 (λ (i : ℕ). offsetBefore s (placeKey i) at)
+
+-- the cells from 601 on, each the value of the record at its noted offset
+unfoldable pub cellsAt : List ℕ → List ℕ → List ℕ
+cellsAt s first = tableFrom 601 61 (λ (n : ℕ). recordValue s (getD first (n - 597) 0))
+
+-- what the records at the noted offsets say
+unfoldable pub contentsAt : List ℕ → List ℕ → Contents
+contentsAt s first =
+    record {
+      cells = cellsAt s first;
+      yields = tableFrom 1 120 (recordRate s (getD first 2 0));
+      rates = tableFrom 1 3 (recordRate s (getD first 3 0));
+    }

@@ -2,6 +2,8 @@
 
 mod answers;
 mod bytes;
+mod conditions;
+mod decode;
 mod faults;
 mod reader;
 mod records;

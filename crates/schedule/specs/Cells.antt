@@ -42,9 +42,16 @@ positionAt i = getD positions i (position 0 0 0 0 0)
 unfoldable pub inColumn : ℕ → List Position
 inColumn column = those (λ (p : Position). eqb (p .column) column) positions
 
--- m months lie within the row (01:17-20)
+-- the least and the most remaining months of a row, 1 to 4 (01:17-20)
+abbrev pub leastMonths : ℕ → ℕ
+leastMonths row = getD (0 ∷ 1 ∷ 4 ∷ 13 ∷ 37 ∷ []) row 0
+
+abbrev pub mostMonths : ℕ → ℕ
+mostMonths row = getD (0 ∷ 3 ∷ 12 ∷ 36 ∷ 120 ∷ []) row 0
+
+-- m months lie within the row
 unfoldable pub withinRow : ℕ → ℕ → Bool
-withinRow row m = leb (getD (0 ∷ 1 ∷ 4 ∷ 13 ∷ 37 ∷ []) row 0) m && leb m (getD (0 ∷ 3 ∷ 12 ∷ 36 ∷ 120 ∷ []) row 0)
+withinRow row m = leb (leastMonths row) m && leb m (mostMonths row)
 
 -- the cells of a column, 1 to 3 (01:22): brokered balance and balance subject to penalty in thousands of dollars, penalty in hundredths of a month
 unfoldable pub brokeredCell : ℕ → ℕ

@@ -1,0 +1,185 @@
+-- The conditions 7 to 9: one position's months, a row of tests in turn, and what is left of an amount.
+-- Assumes nothing.
+use Prim.Native.Nat.{ℕ, zero, suc, _+_, _-_, _%_, _≤_, _<_}
+use native.Mathlib.Nat.{zero-add, sub-zero}
+use native.Mathlib.Numerals.{add-one}
+use native.Mathlib.Omega.{arith}
+use mathlib.Core.Path.{_≡_, refl, sym, ap, _∙_}
+use mathlib.Core.Bool.{Bool, true, false, cond, not, _&&_}
+use borrow.Author.Tests.{leb-true, leb-false, lt-ltb, le-ltb, le-leb, lt-leb, eq-eqb, ne-eqb}
+use lib.Dec.{leb, ltb, lit<}
+use lib.ListN.{getD}
+use Rattle.lists.specs.Tables.{tableFrom}
+use Rattle.lists.proofs.TableLaws.{table-at}
+use Rattle.schedule.specs.Cells.{Position, position, positions, positionAt, leastMonths, mostMonths, withinRow, brokeredCell, penaltyBalanceCell}
+use Rattle.schedule.proofs.CellLaws.{balance-cell, months-cell}
+use Rattle.filing.specs.declared.Contents.{Contents}
+use Rattle.filing.specs.declared.conditions.PositionCells.{PositionCells}
+use Rattle.filing.specs.Contents.{cell}
+use Rattle.filing.specs.Conditions.{monthsOutside, aboveColumn}
+use Rattle.filing.specs.Verdict.{Verdict, accepted, refused, monthsVerdict, columnVerdict, columnsVerdict}
+use Rattle.filing.specs.Balances.{positionCells}
+
+-- an entry of the code's table of a function
+pub entry-of : (f : ℕ → ℕ) (n i : ℕ) → i < n → getD (tableFrom 0 n f) i 0 ≡ f i
+entry-of f n i h = table-at 0 n f 0 i h ∙ ap f (zero-add i)
+
+-- a position's cells are equal where their parts are
+pub position-cells-eq : {a a′ b b′ c c′ d d′ e e′ : ℕ} → a ≡ a′ → b ≡ b′ → c ≡ c′ → d ≡ d′ → e ≡ e′
+    → _≡_ {A = PositionCells} (record { balance = a; months = b; column = c; least = d; most = e })
+    (record { balance = a′; months = b′; column = c′; least = d′; most = e′ })
+position-cells-eq p q r u v = rw (p, q, r, u, v)
+
+-- the parts of a position's cells, and where the cells lie
+pub record PositionIs (i : ℕ) (p : PositionCells) : Type 0 where
+  pub balance-is : p .balance ≡ positionAt i .balance
+  pub months-is : p .months ≡ positionAt i .months
+  pub column-is : p .column ≡ positionAt i .column
+  pub least-is : p .least ≡ leastMonths (positionAt i .row)
+  pub most-is : p .most ≡ mostMonths (positionAt i .row)
+  pub balance-within : (601 ≤ p .balance) × (p .balance ≤ 661)
+  pub months-within : (601 ≤ p .months) × (p .months ≤ 661)
+
+pub position-is : (i : ℕ) (p : PositionCells) → i < 9 → p ≡ positionCells (positionAt i) → PositionIs i p
+unfolding positionCells
+position-is i p h e =
+    let b : p .balance ≡ positionAt i .balance = ap (λ (q : PositionCells). q .balance) e in
+    let m : p .months ≡ positionAt i .months = ap (λ (q : PositionCells). q .months) e in
+    record {
+      balance-is = b;
+      months-is = m;
+      column-is = ap (λ (q : PositionCells). q .column) e;
+      least-is = ap (λ (q : PositionCells). q .least) e;
+      most-is = ap (λ (q : PositionCells). q .most) e;
+      balance-within = (omega (arith, balance-cell i h .from-601), omega (arith, balance-cell i h .to-661));
+      months-within = (omega (arith, months-cell i h .from-601), omega (arith, months-cell i h .to-661));
+    }
+
+not-leb : (m n : ℕ) (b : Bool) → leb m n ≡ b → not b ≡ ltb n m
+not-leb m n true e = sym (le-ltb n m (leb-true m n e))
+not-leb m n false e = sym (lt-ltb n m (leb-false m n e))
+
+module _ (k : Contents) (p : Position) where
+  pub outside-empty : cell k (p .balance) ≡ 0 → monthsOutside k p ≡ false
+  unfolding monthsOutside
+  outside-empty h = simp (eq-eqb (cell k (p .balance)) 0 h)
+
+  pub outside-below : (cell k (p .balance) ≡ 0 → ⊥) → cell k (p .months) < leastMonths (p .row) → monthsOutside k p ≡ true
+  unfolding monthsOutside withinRow
+  outside-below h l = simp (ne-eqb (cell k (p .balance)) 0 h, lt-leb (leastMonths (p .row)) (cell k (p .months)) l)
+
+  pub outside-above : (cell k (p .balance) ≡ 0 → ⊥) → leastMonths (p .row) ≤ cell k (p .months)
+      → monthsOutside k p ≡ ltb (mostMonths (p .row)) (cell k (p .months))
+  unfolding monthsOutside withinRow
+  outside-above h l =
+      simp (ne-eqb (cell k (p .balance)) 0 h, le-leb (leastMonths (p .row)) (cell k (p .months)) l)
+      (not-leb (cell k (p .months)) (mostMonths (p .row)) (leb (cell k (p .months)) (mostMonths (p .row))) refl)
+
+-- n tests in turn from the i-th on, the first that passes answering, else the verdict that follows
+unfoldable pub testsFrom : (ℕ → Bool) → (ℕ → Verdict) → ℕ → ℕ → Verdict → Verdict
+testsFrom test refusal i zero next = next
+testsFrom test refusal i (suc n) next = cond (test i) (refusal i) (testsFrom test refusal (suc i) n next)
+
+-- 7 and 8 as tests in turn
+abbrev pub monthsTest : Contents → ℕ → Bool
+monthsTest k i = monthsOutside k (positionAt i)
+
+abbrev pub monthsRefusal : ℕ → Verdict
+monthsRefusal i = refused 7 (positionAt i .months)
+
+pub months-tests : (k : Contents) (next : Verdict) → monthsVerdict k positions next ≡ testsFrom (monthsTest k) monthsRefusal 0 9 next
+unfolding monthsVerdict testsFrom position positions positionAt
+months-tests k next = refl
+
+abbrev pub columnsTest : Contents → ℕ → Bool
+columnsTest k i = aboveColumn k (i % 3 + 1) (i + 650)
+
+abbrev pub columnsRefusal : ℕ → Verdict
+columnsRefusal i = refused 8 (i + 650)
+
+pub columns-tests : (k : Contents) (next : Verdict) → columnsVerdict k next ≡ testsFrom (columnsTest k) columnsRefusal 0 6 next
+unfolding columnsVerdict columnVerdict brokeredCell penaltyBalanceCell testsFrom
+columns-tests k next = refl
+
+module _ (test : ℕ → Bool) (refusal : ℕ → Verdict) (next : Verdict) where
+  -- the first i of n tests failed
+  pub record Untested (n i : ℕ) : Type 0 where
+    pub within : i ≤ n
+    pub rest : testsFrom test refusal 0 n next ≡ testsFrom test refusal i (n - i) next
+
+  pub tests-start : (n : ℕ) → Untested n 0
+  tests-start n = record { within = omega arith; rest = rw sub-zero }
+
+  tests-left : (n i : ℕ) → i < n → testsFrom test refusal i (n - i) next ≡ cond (test i) (refusal i) (testsFrom test refusal (i + 1) (n - (i + 1)) next)
+  unfolding testsFrom
+  tests-left n i h =
+      let e : n - i ≡ suc (n - (i + 1)) = omega arith in
+      rw (e, add-one)
+
+  -- a test passes: it answers
+  pub tests-here : (n i : ℕ) → Untested n i → i < n → test i ≡ true → refusal i ≡ testsFrom test refusal 0 n next
+  tests-here n i u h e = sym (u .rest ∙ tests-left n i h ∙ simp e)
+
+  -- a test fails: the next one's turn
+  pub tests-next : (n i : ℕ) → Untested n i → i < n → test i ≡ false → Untested n (i + 1)
+  tests-next n i u h e = record { within = omega arith; rest = u .rest ∙ tests-left n i h ∙ simp e }
+
+  -- all tests fail: the verdict that follows
+  pub tests-done : (n i : ℕ) → Untested n i → n ≤ i → next ≡ testsFrom test refusal 0 n next
+  unfolding testsFrom
+  tests-done n i u h =
+      let e : n - i ≡ 0 = omega arith in
+      sym (u .rest ∙ rw e)
+
+-- one test more, before tests that pass or refuse
+one-passed : (b : Bool) (v rest rest′ next : Verdict) → 0 < v .number → (rest .number ≡ 0 → rest′ ≡ next) → cond b v rest .number ≡ 0
+    → cond b v rest′ ≡ next
+one-passed true v rest rest′ next p ih h = absurd (omega arith)
+one-passed false v rest rest′ next p ih h = ih h
+
+one-refused : (b : Bool) (v rest rest′ : Verdict) → ((rest .number ≡ 0 → ⊥) → rest ≡ rest′) → (cond b v rest .number ≡ 0 → ⊥)
+    → cond b v rest ≡ cond b v rest′
+one-refused true v rest rest′ ih h = refl
+one-refused false v rest rest′ ih h = ih h
+
+module _ (test : ℕ → Bool) (refusal : ℕ → Verdict) (next : Verdict) where
+  -- no test refuses: the verdict that follows
+  tests-passed : ((i : ℕ) → 0 < refusal i .number) → (i n : ℕ) → testsFrom test refusal i n accepted .number ≡ 0 → testsFrom test refusal i n next ≡ next
+  unfolding testsFrom
+  tests-passed p i zero h = refl
+  tests-passed p i (suc n) h =
+      one-passed (test i) (refusal i) (testsFrom test refusal (suc i) n accepted) (testsFrom test refusal (suc i) n next) next (p i)
+      (tests-passed p (suc i) n) h
+
+  -- a test refuses: the verdict that follows does not matter
+  tests-refused : (i n : ℕ) → (testsFrom test refusal i n accepted .number ≡ 0 → ⊥) → testsFrom test refusal i n accepted ≡ testsFrom test refusal i n next
+  unfolding testsFrom accepted
+  tests-refused i zero h = absurd (h refl)
+  tests-refused i (suc n) h =
+      one-refused (test i) (refusal i) (testsFrom test refusal (suc i) n accepted) (testsFrom test refusal (suc i) n next)
+      (tests-refused (suc i) n) h
+
+module _ (k : Contents) (next : Verdict) where
+  pub months-passed : monthsVerdict k positions accepted .number ≡ 0 → monthsVerdict k positions next ≡ next
+  unfolding refused
+  months-passed h =
+      months-tests k next
+      ∙ tests-passed (monthsTest k) monthsRefusal next (λ i. lit< tt) 0 9 (ap (λ (v : Verdict). v .number) (sym (months-tests k accepted)) ∙ h)
+
+  pub months-refused : (monthsVerdict k positions accepted .number ≡ 0 → ⊥) → monthsVerdict k positions accepted ≡ monthsVerdict k positions next
+  months-refused h =
+      months-tests k accepted
+      ∙ tests-refused (monthsTest k) monthsRefusal next 0 9 (λ e. h (ap (λ (v : Verdict). v .number) (months-tests k accepted) ∙ e))
+      ∙ sym (months-tests k next)
+
+  pub columns-passed : columnsVerdict k accepted .number ≡ 0 → columnsVerdict k next ≡ next
+  unfolding refused
+  columns-passed h =
+      columns-tests k next
+      ∙ tests-passed (columnsTest k) columnsRefusal next (λ i. lit< tt) 0 6 (ap (λ (v : Verdict). v .number) (sym (columns-tests k accepted)) ∙ h)
+
+  pub columns-refused : (columnsVerdict k accepted .number ≡ 0 → ⊥) → columnsVerdict k accepted ≡ columnsVerdict k next
+  columns-refused h =
+      columns-tests k accepted
+      ∙ tests-refused (columnsTest k) columnsRefusal next 0 6 (λ e. h (ap (λ (v : Verdict). v .number) (columns-tests k accepted) ∙ e))
+      ∙ sym (columns-tests k next)

@@ -1,0 +1,89 @@
+-- Tables filled one entry at a time, and the contents read from the noted offsets.
+-- Assumes nothing.
+use Prim.Native.Nat.{ℕ, zero, suc, _+_, _-_, _≤_, _<_}
+use native.Mathlib.Omega.{arith}
+use mathlib.Core.Path.{_≡_, refl, sym, ap, _∙_}
+use mathlib.Core.Bool.{Bool, true, false, cond}
+use mathlib.Core.List.{List}
+use borrow.Author.Tests.{eqb-true, eqb-false, ltb-false}
+use lib.Dec.{ltb, eqb, lit<}
+use lib.ListN.{length, getD, set, length-set}
+use lib.Seq.{getD-set-same, getD-set-other, ext-getD}
+use Rattle.lists.specs.Tables.{tableFrom}
+use Rattle.lists.proofs.TableLaws.{table-at, table-length}
+use Rattle.filing.specs.declared.Contents.{Contents}
+use Rattle.filing.specs.Records.{recordValue, recordRate, firstWithKey}
+use Rattle.filing.specs.Contents.{cellOffset, cellValue, sheetOffset, contentsOf}
+use Rattle.filing.specs.Offsets.{placeKey, offsetsBefore, cellsAt, contentsAt}
+use Rattle.filing.proofs.ByteLaws.{number-past}
+use Rattle.filing.proofs.OffsetLaws.{place-of-cell, place-of-kind, offsets-end}
+
+-- the first i of n entries are those of the function from `base` on
+pub record Filled (base n : ℕ) (f : ℕ → ℕ) (l : List ℕ) (i : ℕ) : Type 0 where
+  pub size : length l ≡ n
+  pub within : i ≤ n
+  pub entry : (k : ℕ) → k < i → getD l k 0 ≡ f (base + k)
+
+pub filled-none : (base n : ℕ) (f : ℕ → ℕ) (l : List ℕ) → length l ≡ n → Filled base n f l 0
+filled-none base n f l e = record { size = e; within = omega arith; entry = λ k h. absurd (omega arith) }
+
+-- entry k of a list of which the first i are filled, with entry i set to v
+set-entry : (f : ℕ → ℕ) (l : List ℕ) (base i v k : ℕ) (b : Bool) → eqb k i ≡ b → i < length l → v ≡ f (base + i) → k < i + 1
+    → ((j : ℕ) → j < i → getD l j 0 ≡ f (base + j))
+    → getD (set l i v) k 0 ≡ f (base + k)
+set-entry f l base i v k true q h e u filled =
+    let same = eqb-true k i q in
+    rw same (getD-set-same l i v 0 h ∙ e)
+set-entry f l base i v k false q h e u filled =
+    let other = eqb-false k i q in
+    getD-set-other l i k v 0 other ∙ filled k (omega arith)
+
+-- one entry more
+pub filled-more : (base n : ℕ) (f : ℕ → ℕ) (l : List ℕ) (i v : ℕ) → Filled base n f l i → i < n → v ≡ f (base + i)
+    → Filled base n f (set l i v) (i + 1)
+filled-more base n f l i v filled h e =
+    record {
+      size = length-set l i v ∙ filled .size;
+      within = omega arith;
+      entry = λ k u. set-entry f l base i v k (eqb k i) refl (omega (arith, filled .size)) e u (filled .entry);
+    }
+
+-- all entries
+pub filled-all : (base n : ℕ) (f : ℕ → ℕ) (l : List ℕ) (i : ℕ) → Filled base n f l i → n ≤ i → l ≡ tableFrom base n f
+filled-all base n f l i filled h =
+    ext-getD 0 l (tableFrom base n f) (filled .size ∙ sym (table-length base n f))
+    (λ k u. filled .entry k (omega (arith, filled .size)) ∙ sym (table-at base n f 0 k (omega (arith, filled .size))))
+
+-- contents are equal where their parts are
+pub contents-eq : {a a′ b b′ c c′ : List ℕ} → a ≡ a′ → b ≡ b′ → c ≡ c′
+    → _≡_ {A = Contents} (record { cells = a; yields = b; rates = c }) (record { cells = a′; yields = b′; rates = c′ })
+contents-eq p q r = rw (p, q, r)
+
+-- no record stands at the input's length, so a number read there is 0
+value-past : (s : List ℕ) (f : ℕ) (b : Bool) → ltb f (length s) ≡ b → recordValue s f ≡ cond b (recordValue s f) 0
+unfolding recordValue
+value-past s f true e = refl
+value-past s f false e = number-past s (f + 6) 8 (omega (arith, ltb-false f (length s) e))
+
+-- the value at a cell's noted offset
+value-noted : (s : List ℕ) (n : ℕ) → 601 ≤ n → n < 662 → recordValue s (getD (offsetsBefore s (length s)) (n - 597) 0) ≡ cellValue s n
+unfolding cellValue cellOffset
+value-noted s n l u =
+    ap (recordValue s) (offsets-end s (n - 597) (omega arith) ∙ ap (λ (k : ℕ). firstWithKey s k (length s)) (place-of-cell n l))
+    ∙ value-past s (cellOffset s n) (ltb (cellOffset s n) (length s)) refl
+
+-- tables of functions that agree are equal
+table-eq : (base n : ℕ) (f g : ℕ → ℕ) → ((j : ℕ) → base ≤ j → j < base + n → f j ≡ g j) → tableFrom base n f ≡ tableFrom base n g
+unfolding tableFrom
+table-eq base zero f g h = refl
+table-eq base (suc n) f g h =
+    rw (h base (omega arith) (omega arith), table-eq (suc base) n f g (λ j l u. h j (omega arith) (omega arith)))
+
+-- what the noted offsets of all records give is what the filing says
+pub contents-noted : (s : List ℕ) → contentsAt s (offsetsBefore s (length s)) ≡ contentsOf s
+unfolding contentsAt cellsAt contentsOf sheetOffset
+contents-noted s =
+    contents-eq
+    (table-eq 601 61 (λ (n : ℕ). recordValue s (getD (offsetsBefore s (length s)) (n - 597) 0)) (cellValue s) (value-noted s))
+    (ap (λ (at : ℕ). tableFrom 1 120 (recordRate s at)) (offsets-end s 2 (lit< tt) ∙ ap (λ (k : ℕ). firstWithKey s k (length s)) (place-of-kind 2 (lit< tt))))
+    (ap (λ (at : ℕ). tableFrom 1 3 (recordRate s at)) (offsets-end s 3 (lit< tt) ∙ ap (λ (k : ℕ). firstWithKey s k (length s)) (place-of-kind 3 (lit< tt))))

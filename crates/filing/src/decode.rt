@@ -1,0 +1,52 @@
+// What a filing says, read from the noted offsets of its records.
+use crate::Contents;
+use crate::records::record_rate;
+use crate::records::record_value;
+ghost use mathlib.Core.Path.{_≡_};
+ghost use Prim.Native.Nat.{_≤_};
+ghost use lib.ListN.{length};
+ghost use Rattle.lists.specs.Tables.{tableFrom};
+ghost use Rattle.filing.specs.Records.{recordRate};
+ghost use Rattle.filing.specs.Offsets.{cellsAt, contentsAt};
+
+// The cells, yields and rates at these offsets.
+pub fn contents_at(s: &[u8], first: &[usize; 65]) -> Contents
+    ensures { λ r. ⌜ r ≡ contentsAt (now (s .entry)) (now (first .entry)) ⌝ }
+{
+    let cells = cell_values(s, first);
+    let mut yields = [0; 120];
+    fill_rates(s, first[2], &mut yields);
+    let mut rates = [0; 3];
+    fill_rates(s, first[3], &mut rates);
+    Contents {
+        cells,
+        yields,
+        rates,
+    }
+}
+
+// The values of cells 601 to 661.
+fn cell_values(s: &[u8], first: &[usize; 65]) -> [u64; 61]
+    ensures { λ r. ⌜ r ≡ cellsAt (now (s .entry)) (now (first .entry)) ⌝ }
+{
+    let mut cells = [0; 61];
+    let mut i = 0;
+    while i < 61 {
+        let place = i + 4;
+        cells[i] = record_value(s, first[place]);
+        i += 1;
+    }
+    cells
+}
+
+// Fills in the rates of the sheet at an offset, from the first on.
+fn fill_rates(s: &[u8], at: usize, rates: &mut [u16])
+    requires { ⌜ length (now rates) ≤ 120 ⌝ }
+    ensures { λ r. ⌜ now (rates .exit) ≡ tableFrom 1 (length (now (rates .entry))) (recordRate (now (s .entry)) at) ⌝ }
+{
+    let mut i = 0;
+    while i < rates.len() {
+        rates[i] = record_rate(s, at, i + 1);
+        i += 1;
+    }
+}
