@@ -9,7 +9,7 @@ use borrow.Author.Tests.{ltb-true, ltb-false, leb-false, eqb-true, ne-eqb, not-f
 use lib.Dec.{T, leb, ltb, eqb}
 use lib.ListN.{length}
 use Rattle.lists.specs.Sums.{sum}
-use Rattle.lists.proofs.TableLaws.{table-at, table-le}
+use Rattle.lists.proofs.TableLaws.{tableFrom-getD, table-le}
 use Rattle.schedule.specs.Cells.{Position, positionAt, withinRow, brokeredCell, penaltyBalanceCell, penaltyMonthsCell, totalCell}
 use Rattle.schedule.specs.Limits.{cellClass, classLimit, rateLimit}
 use Rattle.schedule.proofs.CellLaws.{CellOf, balance-cell, coupon-cell, months-cell, penalty-months-cell}
@@ -29,7 +29,7 @@ cell-read : (s : List ℕ) (n : ℕ) → 601 ≤ n → n ≤ 661 → cell (conte
 unfolding cell contentsOf
 cell-read s n l u =
     let e : 601 + (n - 601) ≡ n = omega arith in
-    table-at 601 61 (cellValue s) 0 (n - 601) (omega arith) ∙ ap (cellValue s) e
+    tableFrom-getD 601 61 (cellValue s) (n - 601) 0 (omega arith) ∙ ap (cellValue s) e
 
 module _ (s : List ℕ) (a : Accepted s) where
   -- every record that a search finds is without a fault

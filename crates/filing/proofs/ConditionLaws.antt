@@ -10,7 +10,7 @@ use borrow.Author.Tests.{leb-true, leb-false, lt-ltb, le-ltb, le-leb, lt-leb, eq
 use lib.Dec.{leb, ltb, lit<}
 use lib.ListN.{getD}
 use Rattle.lists.specs.Tables.{tableFrom}
-use Rattle.lists.proofs.TableLaws.{table-at}
+use Rattle.lists.proofs.TableLaws.{table-getD}
 use Rattle.schedule.specs.Cells.{Position, position, positions, positionAt, leastMonths, mostMonths, withinRow, brokeredCell, penaltyBalanceCell}
 use Rattle.schedule.proofs.CellLaws.{balance-cell, months-cell}
 use Rattle.filing.specs.declared.Contents.{Contents}
@@ -22,7 +22,7 @@ use Rattle.filing.specs.Balances.{positionCells}
 
 -- an entry of the code's table of a function
 pub entry-of : (f : ℕ → ℕ) (n i : ℕ) → i < n → getD (tableFrom 0 n f) i 0 ≡ f i
-entry-of f n i h = table-at 0 n f 0 i h ∙ ap f (zero-add i)
+entry-of f n i h = table-getD n f i 0 h
 
 -- a position's cells are equal where their parts are
 pub position-cells-eq : {a a′ b b′ c c′ d d′ e e′ : ℕ} → a ≡ a′ → b ≡ b′ → c ≡ c′ → d ≡ d′ → e ≡ e′

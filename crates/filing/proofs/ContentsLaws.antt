@@ -10,11 +10,11 @@ use lib.Dec.{ltb, eqb, lit<}
 use lib.ListN.{length, getD, set, length-set}
 use lib.Seq.{getD-set-same, getD-set-other, ext-getD}
 use Rattle.lists.specs.Tables.{tableFrom}
-use Rattle.lists.proofs.TableLaws.{table-at, table-length}
+use Rattle.lists.proofs.TableLaws.{tableFrom-getD, table-length}
 use Rattle.filing.specs.declared.Contents.{Contents}
 use Rattle.filing.specs.Records.{recordValue, recordRate, firstWithKey}
 use Rattle.filing.specs.Contents.{cellOffset, cellValue, sheetOffset, contentsOf}
-use Rattle.filing.specs.Offsets.{placeKey, offsetsBefore, cellsAt, contentsAt}
+use Rattle.filing.specs.Offsets.{offsetsBefore, cellsAt, contentsAt}
 use Rattle.filing.proofs.ByteLaws.{number-past}
 use Rattle.filing.proofs.OffsetLaws.{place-of-cell, place-of-kind, offsets-end}
 
@@ -52,7 +52,7 @@ filled-more base n f l i v filled h e =
 pub filled-all : (base n : ℕ) (f : ℕ → ℕ) (l : List ℕ) (i : ℕ) → Filled base n f l i → n ≤ i → l ≡ tableFrom base n f
 filled-all base n f l i filled h =
     ext-getD 0 l (tableFrom base n f) (filled .size ∙ sym (table-length base n f))
-    (λ k u. filled .entry k (omega (arith, filled .size)) ∙ sym (table-at base n f 0 k (omega (arith, filled .size))))
+    (λ k u. filled .entry k (omega (arith, filled .size)) ∙ sym (tableFrom-getD base n f k 0 (omega (arith, filled .size))))
 
 -- contents are equal where their parts are
 pub contents-eq : {a a′ b b′ c c′ : List ℕ} → a ≡ a′ → b ≡ b′ → c ≡ c′
@@ -79,11 +79,17 @@ table-eq base zero f g h = refl
 table-eq base (suc n) f g h =
     rw (h base (omega arith) (omega arith), table-eq (suc base) n f g (λ j l u. h j (omega arith) (omega arith)))
 
+-- the noted offset of a kind of sheet
+pub sheet-noted : (s : List ℕ) (kind : ℕ) → kind < 4 → getD (offsetsBefore s (length s)) kind 0 ≡ sheetOffset s kind
+unfolding sheetOffset
+sheet-noted s kind h =
+    offsets-end s kind (omega arith) ∙ ap (λ (k : ℕ). firstWithKey s k (length s)) (place-of-kind kind h)
+
 -- what the noted offsets of all records give is what the filing says
 pub contents-noted : (s : List ℕ) → contentsAt s (offsetsBefore s (length s)) ≡ contentsOf s
-unfolding contentsAt cellsAt contentsOf sheetOffset
+unfolding contentsAt cellsAt contentsOf
 contents-noted s =
     contents-eq
     (table-eq 601 61 (λ (n : ℕ). recordValue s (getD (offsetsBefore s (length s)) (n - 597) 0)) (cellValue s) (value-noted s))
-    (ap (λ (at : ℕ). tableFrom 1 120 (recordRate s at)) (offsets-end s 2 (lit< tt) ∙ ap (λ (k : ℕ). firstWithKey s k (length s)) (place-of-kind 2 (lit< tt))))
-    (ap (λ (at : ℕ). tableFrom 1 3 (recordRate s at)) (offsets-end s 3 (lit< tt) ∙ ap (λ (k : ℕ). firstWithKey s k (length s)) (place-of-kind 3 (lit< tt))))
+    (ap (λ (at : ℕ). tableFrom 1 120 (recordRate s at)) (sheet-noted s 2 (lit< tt)))
+    (ap (λ (at : ℕ). tableFrom 1 3 (recordRate s at)) (sheet-noted s 3 (lit< tt)))

@@ -17,3 +17,4 @@ pub mod ReaderLaws
 pub mod ContentsLaws
 pub mod ConditionLaws
 pub mod BalanceLaws
+pub mod ReadLaws

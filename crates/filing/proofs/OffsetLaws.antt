@@ -12,7 +12,7 @@ use lib.ListN.{length, getD, set, replicate, length-set}
 use lib.Seq.{getD-set-same, getD-set-other, ext-getD}
 use Rattle.schedule.specs.Limits.{cellClass}
 use Rattle.lists.specs.Tables.{tableFrom}
-use Rattle.lists.proofs.TableLaws.{table-at, table-length}
+use Rattle.lists.proofs.TableLaws.{tableFrom-getD, table-length}
 use Rattle.filing.specs.Records.{recordKind, recordCell, nextRecord, searchRecords, firstRecord, cellKey, kindKey, recordKey, firstWithKey}
 use Rattle.filing.specs.Faults.{repeated}
 use Rattle.filing.specs.Offsets.{offsetBefore, placeKey, recordPlace, offsetsBefore}
@@ -87,7 +87,7 @@ faultless-place s at f = by (eqb (recordKind s at) 1) refl
 pub offsets-at : (s : List ℕ) (at i : ℕ) → i < 65 → getD (offsetsBefore s at) i 0 ≡ offsetBefore s (placeKey i) at
 unfolding offsetsBefore
 offsets-at s at i h =
-    table-at 0 65 (λ (j : ℕ). offsetBefore s (placeKey j) at) 0 i h ∙ ap (λ (j : ℕ). offsetBefore s (placeKey j) at) (zero-add i)
+    tableFrom-getD 0 65 (λ (j : ℕ). offsetBefore s (placeKey j) at) i 0 h ∙ ap (λ (j : ℕ). offsetBefore s (placeKey j) at) (zero-add i)
 
 within : (f at size : ℕ) (b : Bool) → ltb f at ≡ b → at ≤ size → ltb (cond b f size) size ≡ b
 within f at size true e h = lt-ltb f size (omega (arith, ltb-true f at e))

@@ -7,7 +7,7 @@ use mathlib.Core.Bool.{Bool, true, false, _||_}
 use mathlib.Core.List.{List, [], _∷_}
 use borrow.Author.Tests.{ltb-true, ltb-false, eq-eqb, ne-eqb}
 use lib.Dec.{ltb, eqb}
-use lib.ListN.{length, getD, List·getD-eq-default}
+use lib.ListN.{length, List·getD-eq-default}
 use Rattle.schedule.specs.Limits.{cellClass, classLimit}
 use Rattle.filing.specs.Records.{recordLength, recordKind, recordCell, recordValue, nextRecord, recordKey, cellKey, kindKey}
 use Rattle.filing.specs.Faults.{incomplete, kindLength, misshapen, unlisted, repeated, rateOver, sheetRates, overLimit, faultNumber}

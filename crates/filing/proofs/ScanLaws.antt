@@ -4,12 +4,12 @@
 use Prim.Native.Nat.{ℕ, zero, suc, _+_, _≤_, _<_}
 use native.Mathlib.Nat.{le-refl}
 use native.Mathlib.Omega.{arith}
-use mathlib.Core.Path.{_≡_, refl, sym, _∙_}
+use mathlib.Core.Path.{_≡_, refl, _∙_}
 use mathlib.Core.Bool.{Bool, true, false, cond}
 use mathlib.Core.List.{List}
 use borrow.Author.Tests.{le-leb, lt-leb, lt-ltb, le-ltb}
-use lib.Dec.{leb, ltb}
-use Rattle.filing.specs.Records.{recordLength, nextRecord, searchRecords, firstRecord}
+use lib.Dec.{ltb}
+use Rattle.filing.specs.Records.{nextRecord, searchRecords, firstRecord}
 
 -- `at` is reached from `from` record by record
 pub data Reached (s : List ℕ) : ℕ → ℕ → Type 0 where

@@ -15,7 +15,7 @@ use Rattle.filing.specs.Faults.{faultNumber}
 use Rattle.filing.specs.Offsets.{recordPlace, offsetsBefore}
 use Rattle.filing.specs.Verdict.{Verdict, accepted, refused, firstFaulty}
 use Rattle.filing.specs.Answers.{recordVerdict, recordsVerdict}
-use Rattle.filing.proofs.FaultLaws.{Faultless, faultless, complete-ends}
+use Rattle.filing.proofs.FaultLaws.{faultless, complete-ends}
 use Rattle.filing.proofs.ScanLaws.{Reached, here, reached-next, Ahead, ahead-start, ahead-here, ahead-next, ahead-done}
 use Rattle.filing.proofs.OffsetLaws.{offsets-start, offsets-next}
 

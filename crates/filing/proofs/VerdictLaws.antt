@@ -32,7 +32,7 @@ pub record Passed (s : List ℕ) : Type 0 where
   pub contents : contentsVerdict (contentsOf s) ≡ accepted
 
 -- the first faulty record has a fault, so its refusal has a number
-faulty-number : (s : List ℕ) → ltb (firstFaulty s) (length s) ≡ true → 0 < faultNumber s (firstFaulty s)
+pub faulty-number : (s : List ℕ) → ltb (firstFaulty s) (length s) ≡ true → 0 < faultNumber s (firstFaulty s)
 unfolding firstFaulty
 faulty-number s e =
     let h = first-passes s (λ (at : ℕ). not (eqb (faultNumber s at) 0)) (length s) (ltb-true (firstFaulty s) (length s) e) in

@@ -1,9 +1,9 @@
 -- What can be wrong with one record: refusals 1 to 5 (01:31-35), in that order. Definitions only.
 use Prim.Native.Nat.{ℕ, zero, suc, _+_}
-use mathlib.Core.Bool.{Bool, true, false, cond, not, _||_, _&&_}
+use mathlib.Core.Bool.{Bool, false, cond, not, _||_, _&&_}
 use mathlib.Core.List.{List, [], _∷_}
 use lib.ListN.{length, getD}
-use lib.Dec.{leb, ltb, eqb}
+use lib.Dec.{ltb, eqb}
 use Rattle.schedule.specs.Limits.{cellClass, classLimit, rateLimit}
 use Rattle.filing.specs.Records.{recordLength, recordKind, recordCell, recordValue, recordRate, nextRecord, recordKey, firstWithKey}
 

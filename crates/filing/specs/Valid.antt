@@ -3,7 +3,7 @@ use Prim.Native.Nat.{ℕ, _≤_, _<_}
 use mathlib.Core.Path.{_≡_}
 use lib.Dec.{T}
 use Rattle.lists.specs.Sums.{sum}
-use Rattle.schedule.specs.Cells.{Position, positionAt, withinRow, brokeredCell, penaltyBalanceCell, penaltyMonthsCell, totalCell}
+use Rattle.schedule.specs.Cells.{positionAt, withinRow, brokeredCell, penaltyBalanceCell, penaltyMonthsCell, totalCell}
 use Rattle.filing.specs.declared.Contents.{Contents}
 use Rattle.filing.specs.Contents.{cell, cdYield, retailRate}
 use Rattle.filing.specs.Conditions.{columnBalances, balances}

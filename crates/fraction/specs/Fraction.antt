@@ -1,6 +1,6 @@
 -- Exact fractions: a pair of whole numbers, numerator and denominator (document 01, "Shifts, withdrawals, months": "An exact figure is a
 -- pair of whole numbers"). Compared by cross products. Definitions only.
-use Prim.Native.Nat.{ℕ, zero, suc, _+_, _*_, _^_, _≤_, _<_}
+use Prim.Native.Nat.{ℕ, _+_, _*_, _≤_, _<_}
 
 -- numerator / denominator. Meant with a positive denominator: `Encloses` says so of the fraction that it speaks of
 pub record Fraction : Type 0 where

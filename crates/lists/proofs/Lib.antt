@@ -1,1 +1,5 @@
+pub mod EachLaws
+pub mod FillLaws
+pub mod SumLaws
 pub mod TableLaws
+pub mod TestLaws

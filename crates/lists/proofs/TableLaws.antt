@@ -1,57 +1,80 @@
--- Reading a list that a function makes, and a test over a range of numbers that is computed once and carried to each of them.
--- Assumes nothing.
-use Prim.Native.Nat.{ℕ, zero, suc, _+_, _-_, _≤_, _<_}
-use native.Mathlib.Nat.{add-zero, suc-add, add-suc, le-of-suc-le-suc, not-suc-le-zero}
+-- Laws of tables and of lists joined one after the other: their lengths, and what stands at a place. Assumes nothing.
+use Prim.Native.Nat.{ℕ, zero, suc, _+_, _*_, _≤_, _<_}
+use mathlib.Core.Path.{_≡_, refl, ap, sym, _∙_}
+use mathlib.Core.List.{List, [], _∷_, _++_}
+use native.Mathlib.Nat.{not-suc-le-zero, le-of-suc-le-suc, add-zero, zero-add, add-suc, suc-add, mul-zero, mul-suc}
+use native.Mathlib.Numerals.{add-one}
 use native.Mathlib.Omega.{arith}
-use mathlib.Core.Path.{_≡_, refl, ap, sym, _∙_, subst}
-use mathlib.Core.Bool.{Bool, true, false, _&&_}
-use lib.Dec.{T}
-use lib.ListN.{getD, length}
-use Rattle.lists.specs.Tables.{tableFrom}
+use lib.ListN.{length, getD, take, set, length-append, List·getD-append}
+use lib.Seq.{getD-append-add, take-suc-set}
+use Rattle.lists.specs.Tables.{tableFrom, table, joined}
 
--- the entry at place k is the function at i + k
-pub table-at {ℓ} : {A : Type ℓ} (i n : ℕ) (f : ℕ → A) (d : A) (k : ℕ) → k < n → getD (tableFrom i n f) k d ≡ f (i + k)
-unfolding tableFrom
-table-at i zero f d k h = absurd (not-suc-le-zero h)
-table-at i (suc n) f d zero h = ap f (sym (add-zero i))
-table-at i (suc n) f d (suc k) h =
-    table-at (suc i) n f d k (le-of-suc-le-suc h) ∙ ap f (suc-add i k ∙ sym (add-suc i k))
+module _ {ℓ} {A : Type ℓ} where
+  -- a table of n has n elements
+  pub table-length : (s n : ℕ) (f : ℕ → A) → length (tableFrom s n f) ≡ n
+  unfolding tableFrom
+  table-length s zero f = refl
+  table-length s (suc n) f = ap suc (table-length (suc s) n f)
 
--- a table has as many entries as it was made with
-pub table-length {ℓ} : {A : Type ℓ} (i n : ℕ) (f : ℕ → A) → length (tableFrom i n f) ≡ n
-unfolding tableFrom
-table-length i zero f = refl
-table-length i (suc n) f = ap suc (table-length (suc i) n f)
+  -- at place i of a table from s stands f (s + i)
+  pub tableFrom-getD : (s n : ℕ) (f : ℕ → A) (i : ℕ) (d : A) → i < n → getD (tableFrom s n f) i d ≡ f (s + i)
+  unfolding tableFrom
+  tableFrom-getD s zero f i d h = absurd (not-suc-le-zero h)
+  tableFrom-getD s (suc n) f zero d h = rw add-zero
+  tableFrom-getD s (suc n) f (suc i) d h = rw (tableFrom-getD (suc s) n f i d (le-of-suc-le-suc h), suc-add, ← add-suc)
+
+  -- at place i of a table stands f i
+  pub table-getD : (n : ℕ) (f : ℕ → A) (i : ℕ) (d : A) → i < n → getD (table n f) i d ≡ f i
+  table-getD n f i d h = tableFrom-getD 0 n f i d h ∙ ap f (zero-add i)
+
+  -- a table of one entry more
+  tableFrom-suc : (s n : ℕ) (f : ℕ → A) → tableFrom s (suc n) f ≡ tableFrom s n f ++ (f (s + n) ∷ [])
+  unfolding tableFrom
+  tableFrom-suc s zero f = rw add-zero
+  tableFrom-suc s (suc n) f = ap (λ (l : List A). f s ∷ l) (tableFrom-suc (suc s) n f ∙ rw (suc-add, ← add-suc))
+
+  -- a list whose first n elements are a table, with the next entry stored at n
+  pub table-stored : (f : ℕ → A) (l : List A) (n more : ℕ) (v : A) → take n l ≡ table n f → n < length l → more ≡ n + 1 → v ≡ f n
+      → take more (set l n v) ≡ table more f
+  table-stored f l n more v h hn e hv =
+      rw (e, add-one, take-suc-set l n v hn, h, tableFrom-suc 0 n f, zero-add, hv)
+
+  tableFrom-ext : (s n : ℕ) (f g : ℕ → A) → ((i : ℕ) → i < s + n → f i ≡ g i) → tableFrom s n f ≡ tableFrom s n g
+  unfolding tableFrom
+  tableFrom-ext s zero f g h = refl
+  tableFrom-ext s (suc n) f g h = rw (h s (omega arith), tableFrom-ext (suc s) n f g (λ i l. h i (omega arith)))
+
+  -- functions that agree make the same table
+  pub table-ext : (n : ℕ) (f g : ℕ → A) → ((i : ℕ) → i < n → f i ≡ g i) → table n f ≡ table n g
+  table-ext n f g h = tableFrom-ext 0 n f g (λ i l. h i (omega arith))
+
+  -- n lists of m elements each have m × n
+  pub joined-length : (m s n : ℕ) (f : ℕ → List A) → ((i : ℕ) → length (f i) ≡ m) → length (joined (tableFrom s n f)) ≡ m * n
+  unfolding tableFrom joined
+  joined-length m s zero f h = sym (mul-zero m)
+  joined-length m s (suc n) f h =
+      omega (arith, length-append (f s) (joined (tableFrom (suc s) n f)), h s, joined-length m (suc s) n f h, mul-suc m n)
+
+  joinedFrom-getD : (m s n : ℕ) (f : ℕ → List A) → ((i : ℕ) → length (f i) ≡ m) → (i r : ℕ) (d : A) → i < n → r < m
+      → getD (joined (tableFrom s n f)) (m * i + r) d ≡ getD (f (s + i)) r d
+  unfolding tableFrom joined
+  joinedFrom-getD m s zero f h i r d hi hr = absurd (not-suc-le-zero hi)
+  joinedFrom-getD m s (suc n) f h zero r d hi hr =
+      let hl : r < length (f s) = omega (arith, h s) in
+      let e : m * 0 + r ≡ r = omega arith in
+      rw (e, List·getD-append (f s) (joined (tableFrom (suc s) n f)) d r hl, add-zero)
+  joinedFrom-getD m s (suc n) f h (suc i) r d hi hr =
+      let e : m * suc i + r ≡ length (f s) + (m * i + r) = omega (arith, h s, mul-suc m i) in
+      rw (e, getD-append-add, joinedFrom-getD m (suc s) n f h i r d (le-of-suc-le-suc hi) hr, suc-add, ← add-suc)
+
+  -- of lists of m elements each, joined: at place m × i + r stands what the i-th has at r
+  pub joined-getD : (m n : ℕ) (f : ℕ → List A) → ((i : ℕ) → length (f i) ≡ m) → (i r : ℕ) (d : A) → i < n → r < m
+      → getD (joined (table n f)) (m * i + r) d ≡ getD (f i) r d
+  joined-getD m n f h i r d hi hr = joinedFrom-getD m 0 n f h i r d hi hr ∙ ap (λ (j : ℕ). getD (f j) r d) (zero-add i)
 
 -- what bounds each value of the function bounds each read, also one past the end, which gives 0
-pub table-le : (i n : ℕ) (f : ℕ → ℕ) (limit : ℕ) → ((j : ℕ) → i ≤ j → j < i + n → f j ≤ limit) → (k : ℕ) → getD (tableFrom i n f) k 0 ≤ limit
+pub table-le : (s n : ℕ) (f : ℕ → ℕ) (limit : ℕ) → ((j : ℕ) → s ≤ j → j < s + n → f j ≤ limit) → (i : ℕ) → getD (tableFrom s n f) i 0 ≤ limit
 unfolding tableFrom
-table-le i zero f limit h k = omega arith
-table-le i (suc n) f limit h zero = h i (omega arith) (omega arith)
-table-le i (suc n) f limit h (suc k) = table-le (suc i) n f limit (λ j l u. h j (omega arith) (omega arith)) k
-
--- the test passes at i, i + 1, .., n of them
-unfoldable pub allFrom : ℕ → ℕ → (ℕ → Bool) → Bool
-allFrom i zero test = true
-allFrom i (suc n) test = test i && allFrom (suc i) n test
-
-both-left : (a b : Bool) → T (a && b) → T a
-both-left true b t = tt
-both-left false b t = t
-
-both-right : (a b : Bool) → T (a && b) → T b
-both-right true b t = t
-both-right false b t = absurd t
-
-all-plus : (i n : ℕ) (test : ℕ → Bool) → T (allFrom i n test) → (k : ℕ) → k < n → T (test (i + k))
-unfolding allFrom
-all-plus i zero test t k h = absurd (not-suc-le-zero h)
-all-plus i (suc n) test t zero h = rw add-zero (both-left (test i) (allFrom (suc i) n test) t)
-all-plus i (suc n) test t (suc k) h =
-    rw (add-suc, ← suc-add) (all-plus (suc i) n test (both-right (test i) (allFrom (suc i) n test) t) k (le-of-suc-le-suc h))
-
--- a test that passes over a range passes at each of its numbers
-pub all-at : (i n : ℕ) (test : ℕ → Bool) → T (allFrom i n test) → (j : ℕ) → i ≤ j → j < i + n → T (test j)
-all-at i n test t j l u =
-    let e : i + (j - i) ≡ j = omega arith in
-    subst (λ (m : ℕ). T (test m)) e (all-plus i n test t (j - i) (omega arith))
+table-le s zero f limit h i = omega arith
+table-le s (suc n) f limit h zero = h s (omega arith) (omega arith)
+table-le s (suc n) f limit h (suc i) = table-le (suc s) n f limit (λ j l u. h j (omega arith) (omega arith)) i

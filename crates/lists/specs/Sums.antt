@@ -1,7 +1,7 @@
 -- Sums of whole numbers: of a list, of a function over the first n places, and of those places that pass a test.
 -- Definitions only.
 use Prim.Native.Nat.{ℕ, zero, suc, _+_}
-use mathlib.Core.Bool.{Bool, cond}
+use mathlib.Core.Bool.{Bool, true, cond}
 use mathlib.Core.List.{List, [], _∷_}
 
 -- x₀ + x₁ + ..
@@ -13,3 +13,7 @@ sum (x ∷ xs) = x + sum xs
 unfoldable pub sumWhere : (ℕ → Bool) → (ℕ → ℕ) → ℕ → ℕ
 sumWhere test f zero = 0
 sumWhere test f (suc n) = sumWhere test f n + cond (test n) (f n) 0
+
+-- the test that passes at every place
+abbrev pub everywhere : ℕ → Bool
+everywhere i = true

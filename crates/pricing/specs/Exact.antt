@@ -1,5 +1,6 @@
 -- The exact figures of a deposit (01:55-58; 003, Equations 6.A.1 to 6.A.7), as fractions. Nothing is rounded. Definitions only.
--- Balances, flows and the price are in billionths of the opening balance; discount factors in units.
+-- Balances, flows and the price are in billionths of the opening balance; discount factors in units. z t is the shifted CD yield of month t
+-- (01:49), hundredths of a percent a year.
 use Prim.Native.Nat.{ℕ, zero, suc, _+_, _*_, _-_, _^_}
 use mathlib.Core.Bool.{cond}
 use lib.Dec.{eqb}
@@ -25,17 +26,17 @@ exactDiscount z zero = whole 1
 exactDiscount z (suc n) = scaled (exactDiscount z n) 120000 (120000 + z)
 
 -- df of month t: month t's own yield in all of its t factors
-unfoldable pub exactDiscountFactor : Terms → ℕ → Fraction
-exactDiscountFactor k t = exactDiscount (k .yield t) t
+unfoldable pub exactDiscountFactor : (ℕ → ℕ) → ℕ → Fraction
+exactDiscountFactor z t = exactDiscount (z t) t
 
 -- the sum of flow × df over months 1 to t, Equation 6.A.1 (01:58)
-unfoldable pub exactPriceTo : Terms → ℕ → Fraction
-exactPriceTo k zero = whole 0
-exactPriceTo k (suc t) = plus (exactPriceTo k t) (product (exactFlow k t) (exactDiscountFactor k (suc t)))
+unfoldable pub exactPriceTo : Terms → (ℕ → ℕ) → ℕ → Fraction
+exactPriceTo k z zero = whole 0
+exactPriceTo k z (suc t) = plus (exactPriceTo k z t) (product (exactFlow k t) (exactDiscountFactor z (suc t)))
 
-unfoldable pub exactPrice : Terms → Fraction
-exactPrice k = exactPriceTo k (k .months)
+unfoldable pub exactPrice : Terms → (ℕ → ℕ) → Fraction
+exactPrice k z = exactPriceTo k z (k .months)
 
 -- value in dollars of a balance in thousands of dollars (01:58): balance × price / 10^6
-unfoldable pub exactValue : ℕ → Terms → Fraction
-exactValue balance k = scaled (exactPrice k) balance (10 ^ 6)
+unfoldable pub exactValue : ℕ → Terms → (ℕ → ℕ) → Fraction
+exactValue balance k z = scaled (exactPrice k z) balance (10 ^ 6)

@@ -2,3 +2,5 @@ pub mod Terms
 pub mod Exact
 pub mod Rounding
 pub mod Run
+pub mod Bounded
+pub mod Month

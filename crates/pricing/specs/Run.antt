@@ -1,5 +1,5 @@
 -- The whole-number run of a deposit (01:60), once over the rounding: down gives the lower figures, up the upper ones. Definitions only.
--- Balances, flows, discount factors and the price are in billionths.
+-- Balances, flows, discount factors and the price are in billionths. z t is the shifted CD yield of month t (01:49), hundredths of a percent a year.
 use Prim.Native.Nat.{ℕ, zero, suc, _+_, _*_, _-_, _^_}
 use mathlib.Core.Bool.{cond}
 use lib.Dec.{eqb}
@@ -25,17 +25,18 @@ discountBy ρ z zero = 10 ^ 9
 discountBy ρ z (suc n) = quotient ρ (discountBy ρ z n * 120000) (120000 + z)
 
 -- df of month t: month t's own yield in all of its t factors
-unfoldable pub discountFactorBy : Rounding → Terms → ℕ → ℕ
-discountFactorBy ρ k t = discountBy ρ (k .yield t) t
+unfoldable pub discountFactorBy : Rounding → (ℕ → ℕ) → ℕ → ℕ
+discountFactorBy ρ z t = discountBy ρ (z t) t
 
 -- the sum over months 1 to t of flow × df / 10^9, each product rounded
-unfoldable pub priceToBy : Rounding → Terms → ℕ → ℕ
-priceToBy ρ k zero = 0
-priceToBy ρ k (suc t) = priceToBy ρ k t + quotient ρ (flowBy ρ k t * discountFactorBy ρ k (suc t)) (10 ^ 9)
+unfoldable pub discountedBy : Rounding → Terms → (ℕ → ℕ) → ℕ → ℕ
+discountedBy ρ k df zero = 0
+discountedBy ρ k df (suc t) = discountedBy ρ k df t + quotient ρ (flowBy ρ k t * df (suc t)) (10 ^ 9)
 
-unfoldable pub priceBy : Rounding → Terms → ℕ
-priceBy ρ k = priceToBy ρ k (k .months)
+-- the price: all T months, by their discount factors
+unfoldable pub priceBy : Rounding → Terms → (ℕ → ℕ) → ℕ
+priceBy ρ k z = discountedBy ρ k (discountFactorBy ρ z) (k .months)
 
 -- value in dollars of a balance in thousands of dollars, rounded at the end
-unfoldable pub valueBy : Rounding → ℕ → Terms → ℕ
-valueBy ρ balance k = quotient ρ (balance * priceBy ρ k) (10 ^ 6)
+unfoldable pub valueBy : Rounding → ℕ → Terms → (ℕ → ℕ) → ℕ
+valueBy ρ balance k z = quotient ρ (balance * priceBy ρ k z) (10 ^ 6)

@@ -1,4 +1,4 @@
--- What the price of a deposit depends on. Definitions only.
+-- What the cash flows of a deposit depend on. Definitions only.
 use Prim.Native.Nat.{ℕ}
 
 pub record Terms : Type 0 where
@@ -10,5 +10,3 @@ pub record Terms : Type 0 where
   pub months : ℕ
   -- q of a month (01:50-53), billionths
   pub survival : ℕ → ℕ
-  -- z of a month, the shifted CD yield (01:49), hundredths of a percent a year
-  pub yield : ℕ → ℕ

@@ -6,7 +6,7 @@ use mathlib.Core.Path.{_≡_}
 use mathlib.Core.Bool.{Bool, true, false, _&&_}
 use lib.Dec.{T, leb, eqb, leb→le, eqb→eq}
 use Rattle.lists.specs.Tables.{contains}
-use Rattle.lists.proofs.TableLaws.{allFrom, all-at}
+use Rattle.lists.proofs.TestLaws.{allFrom, all-at}
 use Rattle.schedule.specs.Cells.{position, positions, positionAt, brokeredCell, penaltyBalanceCell, penaltyMonthsCell}
 use Rattle.schedule.specs.Limits.{cellClass}
 

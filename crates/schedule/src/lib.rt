@@ -1,1 +1,2 @@
 // Schedule CMR: its cells, and the rate scenarios.
+pub mod scenarios;

@@ -7,12 +7,14 @@ use Rattle.lists.specs.Sums.{sum}
 unfoldable pub cumulativeShare : ℕ → ℕ → ℕ → ℕ
 cumulativeShare amount total first = amount * first / total
 
+-- the share of a part that stands behind a sum of `before`
+abbrev pub shareBehind : ℕ → ℕ → ℕ → ℕ → ℕ
+shareBehind amount total before part = cumulativeShare amount total (before + part) - cumulativeShare amount total before
+
 -- the shares of the parts, the first of which stands behind a sum of `before`
 unfoldable pub sharesFrom : ℕ → ℕ → ℕ → List ℕ → List ℕ
 sharesFrom amount total before [] = []
-sharesFrom amount total before (x ∷ xs) =
-    (cumulativeShare amount total (before + x) - cumulativeShare amount total before)
-    ∷ sharesFrom amount total (before + x) xs
+sharesFrom amount total before (x ∷ xs) = shareBehind amount total before x ∷ sharesFrom amount total (before + x) xs
 
 -- the amount split over the parts, in their unit
 unfoldable pub apportion : ℕ → List ℕ → List ℕ

@@ -1,2 +1,4 @@
 pub mod Apportion
 pub mod SubBalances
+pub mod Rows
+pub mod Places

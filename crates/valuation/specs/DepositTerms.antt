@@ -1,53 +1,58 @@
--- The terms of each sub-balance of a filing in each scenario (01:48-55, 01:59), from what the filing says. Definitions only.
-use Prim.Native.Nat.{ℕ, _*_, _/_, _%_}
+-- The deposit at each place of a filing in each scenario, and its terms (01:48-55, 01:59), from what the filing says. Definitions only.
+use Prim.Native.Nat.{ℕ, _*_, _%_}
 use mathlib.Core.Bool.{Bool, cond}
-use lib.Dec.{ltb, eqb}
-use Rattle.schedule.specs.Cells.{Position, penaltyMonthsCell}
+use lib.Dec.{leb, eqb}
+use Rattle.schedule.specs.Cells.{penaltyMonthsCell}
 use Rattle.schedule.specs.Shift.{shiftedRate}
 use Rattle.filing.specs.declared.Contents.{Contents}
 use Rattle.filing.specs.Contents.{cell, cdYield, retailRate}
 use Rattle.shares.specs.SubBalances.{positionOf, couponAt, monthsAt}
 use Rattle.withdrawal.specs.Tiers.{TierTable, houseTiers}
-use Rattle.withdrawal.specs.MonthSurvival.{Account, retail, brokered, monthSurvival}
+use Rattle.withdrawal.specs.MonthSurvival.{Account, retail, brokered, accountOf, monthSurvival}
 use Rattle.pricing.specs.Terms.{Terms}
+use Rattle.valuation.specs.declared.Deposit.{Deposit}
 
--- the account of a place: retail with and without penalty, then brokered with and without (01:45)
-unfoldable pub accountAt : ℕ → Account
-accountAt place = cond (ltb (place % 4) 2) retail brokered
+-- the places of each four: retail with and without penalty, then brokered with and without (01:45)
+unfoldable pub isBrokered : ℕ → Bool
+isBrokered place = leb 2 (place % 4)
 
 -- the penalty of a place, hundredths of a month: its column's, or 0 where the place is without penalty (01:49)
 unfoldable pub penaltyAt : Contents → ℕ → ℕ
 penaltyAt k place = cond (eqb (place % 2) 0) (cell k (penaltyMonthsCell (positionOf place .column))) 0
 
--- the retail rate of a column in a scenario and a month, the same in every month, hundredths of a percent a year
-unfoldable pub monthRate : Contents → ℕ → ℕ → ℕ → ℕ
-monthRate k scenario column month = shiftedRate scenario (retailRate k column)
-
--- the CD yield of a month in a scenario, hundredths of a percent a year
-unfoldable pub monthYield : Contents → ℕ → ℕ → ℕ
-monthYield k scenario month = shiftedRate scenario (cdYield k month)
-
--- the tiers that a filing's retail deposits are withdrawn by
-unfoldable pub filingTiers : Contents → TierTable
-filingTiers k = houseTiers
-
--- q of a month at a place in a scenario, billionths
-unfoldable pub survivalAt : Contents → ℕ → ℕ → ℕ → ℕ
-survivalAt k place scenario month =
-    monthSurvival (filingTiers k) (accountAt place) (couponAt k place) (penaltyAt k place)
-    (monthRate k scenario (positionOf place .column) month) (monthsAt k place) month
+-- the deposit at a place, 0 to 35, in a scenario, 0 to 6, with its column's shifted retail rate
+unfoldable pub depositAt : Contents → ℕ → ℕ → Deposit
+depositAt k scenario place =
+    record {
+      brokered = isBrokered place;
+      coupon = couponAt k place;
+      penalty = penaltyAt k place;
+      rate = shiftedRate scenario (retailRate k (positionOf place .column));
+      months = monthsAt k place;
+    }
 
 -- a (01:55): the month's servicing cost, billionths of the balance
 unfoldable pub servicingCost : Account → ℕ
 servicingCost retail = 175000
 servicingCost brokered = 19000
 
-unfoldable pub termsAt : Contents → ℕ → ℕ → Terms
-termsAt k place scenario =
+-- the terms of a deposit, with the tiers by which retail deposits are withdrawn
+unfoldable pub termsOf : TierTable → Deposit → Terms
+termsOf tiers d =
     record {
-      growth = 25000 * couponAt k place;
-      servicing = servicingCost (accountAt place);
-      months = monthsAt k place;
-      survival = survivalAt k place scenario;
-      yield = monthYield k scenario;
+      growth = 25000 * d .coupon;
+      servicing = servicingCost (accountOf (d .brokered));
+      months = d .months;
+      survival = monthSurvival tiers (accountOf (d .brokered)) (d .coupon) (d .penalty) (d .rate) (d .months);
     }
+
+-- the tiers of a filing: the house's
+unfoldable pub filingTiers : Contents → TierTable
+filingTiers k = houseTiers
+
+unfoldable pub termsAt : Contents → ℕ → ℕ → Terms
+termsAt k scenario place = termsOf (filingTiers k) (depositAt k scenario place)
+
+-- the CD yield of a month in a scenario, hundredths of a percent a year
+unfoldable pub monthYield : Contents → ℕ → ℕ → ℕ
+monthYield k scenario month = shiftedRate scenario (cdYield k month)

@@ -6,11 +6,11 @@ use Rattle.fraction.specs.Totals.{totalWhere}
 use Rattle.filing.specs.declared.Contents.{Contents}
 use Rattle.shares.specs.SubBalances.{balanceAt, subBalanceCount}
 use Rattle.pricing.specs.Exact.{exactValue}
-use Rattle.valuation.specs.DepositTerms.{termsAt}
+use Rattle.valuation.specs.DepositTerms.{termsAt, monthYield}
 
 -- the exact value of the sub-balance at a place, 0 to 35, in a scenario, 0 to 6
 unfoldable pub exactValueAt : Contents → ℕ → ℕ → Fraction
-exactValueAt k scenario place = exactValue (balanceAt k place) (termsAt k place scenario)
+exactValueAt k scenario place = exactValue (balanceAt k place) (termsAt k scenario place) (monthYield k scenario)
 
 -- the exact total over the places that pass a test
 unfoldable pub exactTotal : (ℕ → Bool) → Contents → ℕ → Fraction

@@ -1,8 +1,7 @@
 -- Which places of the thirty-six the short and the long totals sum (01:61). Definitions only.
 use Prim.Native.Nat.{ℕ}
-use mathlib.Core.Bool.{Bool, true, not}
+use mathlib.Core.Bool.{Bool, not}
 use lib.Dec.{leb}
-use Rattle.schedule.specs.Cells.{Position}
 use Rattle.shares.specs.SubBalances.{positionOf}
 
 -- rows 1 and 2
@@ -12,7 +11,3 @@ isShort place = leb (positionOf place .row) 2
 -- rows 3 and 4
 unfoldable pub isLong : ℕ → Bool
 isLong place = not (isShort place)
-
--- all rows
-unfoldable pub isAny : ℕ → Bool
-isAny place = true

@@ -6,11 +6,11 @@ use Rattle.filing.specs.declared.Contents.{Contents}
 use Rattle.shares.specs.SubBalances.{balanceAt, subBalanceCount}
 use Rattle.pricing.specs.Rounding.{Rounding}
 use Rattle.pricing.specs.Run.{valueBy}
-use Rattle.valuation.specs.DepositTerms.{termsAt}
+use Rattle.valuation.specs.DepositTerms.{termsAt, monthYield}
 
 -- the value of the sub-balance at a place, 0 to 35, in a scenario, 0 to 6
 unfoldable pub valueAt : Rounding → Contents → ℕ → ℕ → ℕ
-valueAt ρ k scenario place = valueBy ρ (balanceAt k place) (termsAt k place scenario)
+valueAt ρ k scenario place = valueBy ρ (balanceAt k place) (termsAt k scenario place) (monthYield k scenario)
 
 -- the total over the places that pass a test
 unfoldable pub totalBy : Rounding → (ℕ → Bool) → Contents → ℕ → ℕ

@@ -1,8 +1,8 @@
 -- What a depositor gains and foregoes by withdrawing early (01:49), on one common scale. Definitions only.
 -- c: coupon, r: shifted retail rate, both in hundredths of a percent a year; p: penalty in hundredths of a month; n: months left, T - t.
-use Prim.Native.Nat.{ℕ, suc, _*_}
+use Prim.Native.Nat.{ℕ, _*_}
 use mathlib.Core.Bool.{Bool, false}
-use lib.Dec.{leb, ltb}
+use lib.Dec.{leb}
 use lib.IntN.{ℤ, pos, negsuc, _-ℤ_, _*ℤ_}
 
 -- (12,000,000 - c × p) × r × n - 120,000 × c × p, which may be negative

@@ -2,3 +2,5 @@ pub mod Gain
 pub mod Tiers
 pub mod Survival
 pub mod MonthSurvival
+pub mod TierArrays
+pub mod Incentives

@@ -1,6 +1,6 @@
 -- The share of a deposit that survives a month (01:50-53). Definitions only.
 use Prim.Native.Nat.{ℕ, suc, _-_, _^_}
-use mathlib.Core.Bool.{cond}
+use mathlib.Core.Bool.{Bool, cond}
 use lib.Dec.{ltb}
 use lib.IntN.{ℤ}
 use Rattle.withdrawal.specs.Gain.{gain, cost, atMost}
@@ -11,6 +11,10 @@ use Rattle.withdrawal.specs.Survival.{survival}
 pub data Account : Type 0 where
   retail : Account
   brokered : Account
+
+-- the account of a flag: brokered or not
+unfoldable pub accountOf : Bool → Account
+accountOf isBrokered = cond isBrokered brokered retail
 
 -- before the term's end, for a gain and a cost, billionths: retail by the tiers; brokered is withdrawn whole where the gain is above the cost
 unfoldable pub earlySurvival : TierTable → Account → ℤ → ℕ → ℕ

@@ -7,7 +7,7 @@ use mathlib.Core.Logic.{inl, inr}
 use mathlib.Core.Path.{_≡_, sym, ap, _∙_}
 use Prim.Native.Nat.{_+_, _-_}
 use Rattle.lists.specs.Tables.{tableFrom, contains}
-use Rattle.lists.proofs.TableLaws.{table-at}
+use Rattle.lists.proofs.TableLaws.{tableFrom-getD}
 use Rattle.schedule.specs.Cells.{position, positions, brokeredCell, penaltyBalanceCell, penaltyMonthsCell, unusedCells}
 use Rattle.schedule.specs.Limits.{cellClass}
 use Rattle.filing.proofs.ClassLaws.{class-outside}
@@ -31,7 +31,7 @@ unfolding tableFrom cellClass contains positions position brokeredCell penaltyBa
 returns-3 c =
     let n = c .before .before .args .cell in
     let e : 601 + (n - 601) ≡ n = omega arith in
-    table-at 601 61 cellClass 0 (n - 601) (omega arith) ∙ ap cellClass e
+    tableFrom-getD 601 61 cellClass (n - 601) 0 (omega arith) ∙ ap cellClass e
 
 pub cell-class-spec : {M : Type 1} → statement M
 cell-class-spec = tie.close (tie.spec returns returns-2 mul-result array-read-result returns-3)

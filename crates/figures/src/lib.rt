@@ -1,0 +1,1 @@
+// The checked figures of document 01, proved about the definitions. Nothing runs here.

@@ -1,0 +1,50 @@
+-- A test over a range of numbers, or over all entries of a list, is computed once and carried to each of them. Assumes nothing.
+use Prim.Native.Nat.{ℕ, zero, suc, _+_, _-_, _≤_, _<_, zero-le}
+use mathlib.Core.Path.{_≡_, subst}
+use mathlib.Core.Bool.{Bool, true, false, _&&_}
+use mathlib.Core.List.{List, [], _∷_}
+use native.Mathlib.Nat.{add-zero, suc-add, add-suc, le-of-suc-le-suc, not-suc-le-zero}
+use native.Mathlib.Omega.{arith}
+use lib.Dec.{T, leb, leb→le}
+use lib.ListN.{length, getD}
+
+-- both sides of a conjunction that holds
+pub both : (a b : Bool) → T (a && b) → T a × T b
+both true b t = (tt, t)
+both false b t = absurd t
+
+-- the test passes at i, i + 1, .., n of them
+unfoldable pub allFrom : ℕ → ℕ → (ℕ → Bool) → Bool
+allFrom i zero test = true
+allFrom i (suc n) test = test i && allFrom (suc i) n test
+
+all-plus : (i n : ℕ) (test : ℕ → Bool) → T (allFrom i n test) → (k : ℕ) → k < n → T (test (i + k))
+unfolding allFrom
+all-plus i zero test t k h = absurd (not-suc-le-zero h)
+all-plus i (suc n) test t zero h = rw add-zero (both (test i) (allFrom (suc i) n test) t .0)
+all-plus i (suc n) test t (suc k) h =
+    rw (add-suc, ← suc-add) (all-plus (suc i) n test (both (test i) (allFrom (suc i) n test) t .1) k (le-of-suc-le-suc h))
+
+-- a test that passes over a range passes at each of its numbers
+pub all-at : (i n : ℕ) (test : ℕ → Bool) → T (allFrom i n test) → (j : ℕ) → i ≤ j → j < i + n → T (test j)
+all-at i n test t j l u =
+    let e : i + (j - i) ≡ j = omega arith in
+    subst (λ (m : ℕ). T (test m)) e (all-plus i n test t (j - i) (omega arith))
+
+-- the test passes at each place of the list and its entry
+abbrev pub everyEntry : (ℕ → ℕ → Bool) → List ℕ → Bool
+everyEntry test [] = true
+everyEntry test (x ∷ xs) = test 0 x && everyEntry (λ i. test (suc i)) xs
+
+-- a test that passes at every entry passes at the entry k
+pub entry-passes : (test : ℕ → ℕ → Bool) (xs : List ℕ) → T (everyEntry test xs) → (k : ℕ) → k < length xs → T (test k (getD xs k 0))
+entry-passes test [] t k h = absurd (not-suc-le-zero h)
+entry-passes test (x ∷ xs) t zero h = both (test 0 x) (everyEntry (λ i. test (suc i)) xs) t .0
+entry-passes test (x ∷ xs) t (suc k) h =
+    entry-passes (λ i. test (suc i)) xs (both (test 0 x) (everyEntry (λ i. test (suc i)) xs) t .1) k (le-of-suc-le-suc h)
+
+-- entries that are all at most b: so is what is read at any place, past the end too
+pub entries-le : (xs : List ℕ) (b : ℕ) → T (everyEntry (λ i x. leb x b) xs) → (k : ℕ) → getD xs k 0 ≤ b
+entries-le [] b t k = zero-le
+entries-le (x ∷ xs) b t zero = leb→le x b (both (leb x b) (everyEntry (λ i y. leb y b) xs) t .0)
+entries-le (x ∷ xs) b t (suc k) = entries-le xs b (both (leb x b) (everyEntry (λ i y. leb y b) xs) t .1) k

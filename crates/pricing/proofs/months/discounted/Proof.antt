@@ -1,0 +1,26 @@
+-- `pricing::months::discounted` meets its contract. Assumes nothing.
+use Prim.Native.Nat.{_*_, _^_}
+use native.Mathlib.Nat.{mul-le-mul}
+use native.Mathlib.Omega.{arith}
+use lib.Dec.{lit<}
+use Rattle.pricing.specs.Rounding.{roundingOf}
+use Rattle.pricing.proofs.RoundingLaws.{quotient-le}
+use Rattle.pricing.proofs.months.discounted.Statement.{statement}
+use Rattle.pricing.proofs.months.discounted.Tie as tie
+
+mul-quotient : tie.Need-mul-quotient
+mul-quotient c = omega (arith, mul-le-mul (c .pre .0) (c .pre .1))
+
+quotient-requires : tie.Need-quotient-requires
+quotient-requires c κs = omega (arith, mul-le-mul (c .pre .0) (c .pre .1))
+
+returns : tie.Need-returns
+returns c = (
+  c .quotient .ensures,
+  rw (c .quotient .ensures)
+      (quotient-le (roundingOf (c .before .args .up)) (c .before .args .flow * c .before .args .factor) (10 ^ 9) 9200000000 (lit< tt)
+      (mul-le-mul (c .before .pre .0) (c .before .pre .1))),
+)
+
+pub discounted-spec : {M : Type 1} → statement M
+discounted-spec = tie.close (tie.spec mul-quotient quotient-requires returns)

@@ -1,0 +1,5 @@
+pub mod ApportionLaws
+pub mod PartLaws
+pub mod PlaceLaws
+pub mod RowLaws
+pub mod SubBalanceLaws

@@ -1,0 +1,15 @@
+-- The thirty-six places of a split filing (01:45). Definitions only.
+use Prim.Native.Nat.{ℕ}
+use mathlib.Core.List.{List}
+use Rattle.lists.specs.Tables.{table}
+use Rattle.filing.specs.declared.Contents.{Contents}
+use Rattle.shares.specs.declared.SubBalance.{SubBalance}
+use Rattle.shares.specs.SubBalances.{balanceAt, couponAt, monthsAt, subBalanceCount}
+
+-- what a place holds: its balance, its cell's coupon and its cell's remaining months
+unfoldable pub placeAt : Contents → ℕ → SubBalance
+placeAt k place = record { balance = balanceAt k place; coupon = couponAt k place; «remaining_months» = monthsAt k place }
+
+-- the thirty-six places, nine cells ascending and four for each
+unfoldable pub placesOf : Contents → List SubBalance
+placesOf k = table subBalanceCount (placeAt k)

@@ -1,0 +1,60 @@
+-- The months of a deposit with discount factors from a list. Assumes nothing.
+use Prim.Native.Nat.{ℕ, suc, _+_, _*_, _-_, _^_, _≤_, _<_}
+use mathlib.Core.Path.{_≡_, refl}
+use mathlib.Core.List.{List}
+use lib.Dec.{eqb}
+use lib.ListN.{getD}
+use native.Mathlib.Nat.{le-refl}
+use native.Mathlib.Numerals.{add-one}
+use native.Mathlib.Omega.{arith}
+use Rattle.withdrawal.specs.Tiers.{TierTable}
+use Rattle.withdrawal.specs.MonthSurvival.{accountOf, monthSurvival}
+use Rattle.pricing.specs.declared.Run.{Run}
+use Rattle.pricing.specs.Rounding.{Rounding}
+use Rattle.pricing.specs.Run.{balanceBy, discountedBy}
+use Rattle.pricing.specs.Month.{runBy, nextRun, Small}
+use Rattle.pricing.proofs.LimitLaws.{discounted-limit}
+use Rattle.pricing.proofs.RunLaws.{run-suc, run-small}
+use Rattle.valuation.specs.declared.Deposit.{Deposit}
+use Rattle.valuation.specs.DepositTerms.{servicingCost, termsOf}
+use Rattle.valuation.specs.Deposits.{listed, listedPrice, DepositLimits, AtMostPar}
+use Rattle.valuation.proofs.TermsLaws.{terms-of-bounded}
+
+listed-suc : (factors : List ℕ) (first t : ℕ) → listed factors first (suc t) ≡ getD factors (first + t) 0
+unfolding listed
+listed-suc factors first t = let e : suc t - 1 ≡ t = omega arith in rw e
+
+listed-le : (factors : List ℕ) (first : ℕ) → AtMostPar factors → (t : ℕ) → listed factors first t ≤ 10 ^ 9
+unfolding listed
+listed-le factors first h t = h (first + (t - 1))
+
+-- the run before any month
+pub run-zero : (ρ : Rounding) (tiers : TierTable) (d : Deposit) (df : ℕ → ℕ) → record { balance = 1000000000; price = 0 } ≡ runBy ρ (termsOf tiers d) df 0
+unfolding runBy balanceBy discountedBy
+run-zero ρ tiers d df = refl
+
+-- the price of a deposit within the limits
+pub listed-price-limit : (ρ : Rounding) (tiers : TierTable) (d : Deposit) (factors : List ℕ) (first : ℕ) → DepositLimits d → AtMostPar factors → listedPrice ρ tiers d factors first ≤ 4533261346
+unfolding listedPrice termsOf
+listed-price-limit ρ tiers d factors first l p =
+    discounted-limit (termsOf tiers d) (listed factors first) (listed-le factors first p) (terms-of-bounded tiers d (l .coupon-le) (l .months-le))
+    (d .months) (le-refl (d .months)) ρ
+
+-- month t + 1 of a deposit: s is its servicing cost, q its survival, f its discount factor
+module _ (ρ : Rounding) (tiers : TierTable) (d : Deposit) (factors : List ℕ) (first t s q f : ℕ) (run : Run)
+    (servicing : s ≡ servicingCost (accountOf (d .brokered)))
+    (survival : q ≡ monthSurvival tiers (accountOf (d .brokered)) (d .coupon) (d .penalty) (d .rate) (d .months) (t + 1))
+    (factor : f ≡ getD factors (first + t) 0)
+    (here : run ≡ runBy ρ (termsOf tiers d) (listed factors first) t)
+  where
+    -- the run after it
+    pub month-on : nextRun ρ (25000 * d .coupon) s q f (eqb (t + 1) (d .months)) run ≡ runBy ρ (termsOf tiers d) (listed factors first) (t + 1)
+    unfolding termsOf
+    month-on = rw (servicing, survival, factor, here, add-one, ← (listed-suc factors first t)) (run-suc ρ (termsOf tiers d) (listed factors first) t)
+
+    -- its sizes
+    pub month-small : DepositLimits d → AtMostPar factors → t < d .months → Small run (25000 * d .coupon) s q f
+    unfolding termsOf
+    month-small l p h =
+        rw (servicing, survival, factor, here, add-one, ← (listed-suc factors first t))
+        (run-small ρ (termsOf tiers d) (listed factors first) (terms-of-bounded tiers d (l .coupon-le) (l .months-le)) (listed-le factors first p) t h)

@@ -1,0 +1,83 @@
+-- The promise about the list of an accepted filing: what is read off it encloses the exact figures. Assumes nothing.
+use Prim.Native.Nat.{ℕ, _+_, _*_, _/_, _%_, _<_}
+use mathlib.Core.Path.{_≡_, refl, _∙_, ap}
+use mathlib.Core.List.{List, _++_}
+use native.Mathlib.Nat.{add-zero}
+use native.Mathlib.Omega.{arith}
+use lib.Dec.{lit<}
+use lib.ListN.{getD, List·getD-append}
+use Rattle.lists.specs.Sums.{sum, everywhere}
+use Rattle.lists.proofs.SumLaws.{sumWhere-ext}
+use Rattle.fraction.specs.Fraction.{Encloses}
+use Rattle.schedule.specs.Cells.{Position, positionAt}
+use Rattle.filing.specs.declared.Contents.{Contents}
+use Rattle.filing.specs.Contents.{contentsOf}
+use Rattle.filing.specs.Valid.{Valid}
+use Rattle.shares.specs.SubBalances.{fourOf, positionOf, balanceAt, subBalanceCount}
+use Rattle.shares.proofs.SubBalanceLaws.{four-sum, balanceAt-total}
+use Rattle.pricing.specs.Rounding.{down, up}
+use Rattle.valuation.specs.Rows.{isShort, isLong}
+use Rattle.valuation.specs.Exact.{exactTotal}
+use Rattle.valuation.specs.Run.{valueAt, totalBy}
+use Rattle.valuation.specs.Numbers.{numbers}
+use Rattle.valuation.specs.Promise.{balanceIn, lowerIn, upperIn, totalNumber, Enclosed}
+use Rattle.valuation.proofs.ValueLaws.{valueAt-encloses, valueAt-width, totalBy-encloses, all-width}
+use Rattle.valuation.proofs.NumberLaws.{numbers-length, balance-read, lower-read, upper-read, short-lower-read, short-upper-read, long-lower-read, long-upper-read}
+
+-- the first 568 of a longer list
+module _ (k : Contents) (rest : List ℕ) where
+  front : (i : ℕ) → i < 568 → getD (numbers k ++ rest) i 0 ≡ getD (numbers k) i 0
+  front i h = List·getD-append (numbers k) rest 0 i (rw (numbers-length k) h)
+
+  balance-in : (place : ℕ) → place < 36 → balanceIn (numbers k ++ rest) place ≡ balanceAt k place
+  unfolding balanceIn
+  balance-in place h = front (15 * place) (omega arith) ∙ balance-read k place h
+
+  lower-in : (scenario place : ℕ) → scenario < 7 → place < 36 → lowerIn (numbers k ++ rest) scenario place ≡ valueAt down k scenario place
+  unfolding lowerIn
+  lower-in scenario place hs hp = front (15 * place + 2 * scenario + 1) (omega arith) ∙ lower-read k scenario place hs hp
+
+  upper-in : (scenario place : ℕ) → scenario < 7 → place < 36 → upperIn (numbers k ++ rest) scenario place ≡ valueAt up k scenario place
+  unfolding upperIn
+  upper-in scenario place hs hp = front (15 * place + 2 * scenario + 2) (omega arith) ∙ upper-read k scenario place hs hp
+
+  totals-enclose : (scenario : ℕ) → scenario < 7 → (Encloses (totalNumber (numbers k ++ rest) scenario 0) (exactTotal isShort k scenario) (totalNumber (numbers k ++ rest) scenario 1)) × (Encloses (totalNumber (numbers k ++ rest) scenario 2) (exactTotal isLong k scenario) (totalNumber (numbers k ++ rest) scenario 3))
+  unfolding totalNumber
+  totals-enclose scenario h =
+      (rw (front (540 + 4 * scenario + 0) (omega arith), add-zero, front (540 + 4 * scenario + 1) (omega arith), short-lower-read k scenario h, short-upper-read k scenario h) (totalBy-encloses isShort k scenario), rw (front (540 + 4 * scenario + 2) (omega arith), front (540 + 4 * scenario + 3) (omega arith), long-lower-read k scenario h, long-upper-read k scenario h) (totalBy-encloses isLong k scenario))
+
+-- one of a position's four places
+four-place : (k : Contents) (i r : ℕ) → r < 4 → balanceAt k (4 * i + r) ≡ getD (fourOf k (positionAt i)) r 0
+unfolding balanceAt positionOf
+four-place k i r h =
+    let row : (4 * i + r) / 4 ≡ i = omega arith in
+    let kind : (4 * i + r) % 4 ≡ r = omega arith in
+    rw (row, kind)
+
+four-is : (k : Contents) (p : Position) → sum (fourOf k p) ≡ getD (fourOf k p) 0 0 + (getD (fourOf k p) 1 0 + (getD (fourOf k p) 2 0 + (getD (fourOf k p) 3 0 + 0)))
+unfolding sum fourOf
+four-is k p = refl
+
+-- a position's four places together
+four-places : (k : Contents) (i : ℕ) → balanceAt k (4 * i) + balanceAt k (4 * i + 1) + balanceAt k (4 * i + 2) + balanceAt k (4 * i + 3) ≡ sum (fourOf k (positionAt i))
+four-places k i =
+    let first : 4 * i ≡ 4 * i + 0 = omega arith in
+    omega
+    (arith, ap (balanceAt k) first, four-place k i 0 (lit< tt), four-place k i 1 (lit< tt), four-place k i 2 (lit< tt), four-place k i 3 (lit< tt), four-is k (positionAt i))
+
+-- what the list after an accepted filing holds
+pub enclosed : (s rest : List ℕ) → Valid (contentsOf s) → Enclosed s (numbers (contentsOf s) ++ rest)
+unfolding totalBy
+enclosed s rest v =
+    record {
+      shares-add-up = λ i h. rw (balance-in k rest (4 * i) (omega arith), balance-in k rest (4 * i + 1) (omega arith), balance-in k rest (4 * i + 2) (omega arith), balance-in k rest (4 * i + 3) (omega arith)) (four-places k i ∙ four-sum k (v .brokered-within) (v .penalized-within) i h);
+      shares-total = sumWhere-ext everywhere (balanceIn (numbers k ++ rest)) (balanceAt k) subBalanceCount (balance-in k rest) ∙ balanceAt-total k v;
+      value-encloses = λ scenario place hs hp. rw (lower-in k rest scenario place hs hp, upper-in k rest scenario place hs hp) (valueAt-encloses k scenario place);
+      value-width = λ scenario place hs hp. rw (lower-in k rest scenario place hs hp, upper-in k rest scenario place hs hp, balance-in k rest place hp) (valueAt-width k v scenario place hp);
+      short-encloses = λ scenario h. totals-enclose k rest scenario h .0;
+      long-encloses = λ scenario h. totals-enclose k rest scenario h .1;
+      total-width = λ scenario h. rw (sumWhere-ext everywhere (upperIn (numbers k ++ rest) scenario) (valueAt up k scenario) subBalanceCount (λ place hp. upper-in k rest scenario place h hp), sumWhere-ext everywhere (lowerIn (numbers k ++ rest) scenario) (valueAt down k scenario) subBalanceCount (λ place hp. lower-in k rest scenario place h hp)) (all-width k v scenario);
+    }
+  where
+    k : Contents
+    k = contentsOf s

@@ -1,0 +1,66 @@
+-- Values and totals of a filing: lower ≤ exact ≤ upper, and their widths (01:58). Assumes nothing.
+use Prim.Native.Nat.{ℕ, zero, suc, _+_, _*_, _≤_, _<_}
+use mathlib.Core.Path.{_≡_}
+use mathlib.Core.Bool.{Bool}
+use native.Mathlib.Omega.{arith}
+use Rattle.lists.specs.Sums.{sumWhere, everywhere}
+use Rattle.lists.proofs.SumLaws.{sumWhere-mono, sumWhere-add, sumWhere-mul, sumWhere-split}
+use Rattle.fraction.specs.Fraction.{Encloses}
+use Rattle.fraction.proofs.EnclosureLaws.{total-encloses}
+use Rattle.schedule.specs.Cells.{totalCell}
+use Rattle.filing.specs.declared.Contents.{Contents}
+use Rattle.filing.specs.Contents.{cell}
+use Rattle.filing.specs.Valid.{Valid}
+use Rattle.shares.specs.SubBalances.{balanceAt, subBalanceCount}
+use Rattle.shares.proofs.SubBalanceLaws.{balanceAt-total}
+use Rattle.pricing.specs.Rounding.{Rounding, down, up}
+use Rattle.pricing.proofs.EnclosureLaws.{value-encloses}
+use Rattle.pricing.proofs.WidthLaws.{value-width}
+use Rattle.valuation.specs.DepositTerms.{termsAt, monthYield}
+use Rattle.valuation.specs.Rows.{isShort, isLong}
+use Rattle.valuation.specs.Exact.{exactValueAt, exactTotal}
+use Rattle.valuation.specs.Run.{valueAt, totalBy}
+use Rattle.valuation.proofs.TermsLaws.{terms-bounded}
+
+-- lower ≤ exact ≤ upper for each place and scenario
+pub valueAt-encloses : (k : Contents) (scenario place : ℕ) → Encloses (valueAt down k scenario place) (exactValueAt k scenario place) (valueAt up k scenario place)
+unfolding valueAt exactValueAt
+valueAt-encloses k scenario place = value-encloses (balanceAt k place) (termsAt k scenario place) (monthYield k scenario)
+
+-- and for the total over any places
+pub totalBy-encloses : (test : ℕ → Bool) (k : Contents) (scenario : ℕ) → Encloses (totalBy down test k scenario) (exactTotal test k scenario) (totalBy up test k scenario)
+unfolding totalBy exactTotal
+totalBy-encloses test k scenario =
+    total-encloses test (valueAt down k scenario) (valueAt up k scenario) (exactValueAt k scenario) subBalanceCount (valueAt-encloses k scenario)
+
+-- 250 × (upper - lower) ≤ balance + 500
+pub valueAt-width : (k : Contents) → Valid k → (scenario place : ℕ) → place < 36 → 250 * valueAt up k scenario place ≤ 250 * valueAt down k scenario place + (balanceAt k place + 500)
+unfolding valueAt
+valueAt-width k v scenario place h = value-width (balanceAt k place) (termsAt k scenario place) (monthYield k scenario) (terms-bounded k v scenario place h)
+
+-- c at each of n places
+constant-sum : (c n : ℕ) → sumWhere everywhere (λ _. c) n ≡ c * n
+unfolding sumWhere
+constant-sum c zero = omega arith
+constant-sum c (suc n) = omega (arith, constant-sum c n)
+
+-- over all places: 250 × (sum of upper - sum of lower) ≤ total + 18,000
+pub all-width : (k : Contents) → Valid k → (scenario : ℕ) → 250 * totalBy up everywhere k scenario ≤ 250 * totalBy down everywhere k scenario + (cell k totalCell + 18000)
+unfolding totalBy
+all-width k v scenario =
+    omega
+    (arith, sumWhere-mono everywhere (λ (i : ℕ). 250 * u i) (λ (i : ℕ). 250 * l i + (b i + 500)) subBalanceCount (valueAt-width k v scenario), sumWhere-mul 250 everywhere u subBalanceCount, sumWhere-mul 250 everywhere l subBalanceCount, sumWhere-add everywhere (λ (i : ℕ). 250 * l i) (λ (i : ℕ). b i + 500) subBalanceCount, sumWhere-add everywhere b (λ (_ : ℕ). 500) subBalanceCount, constant-sum 500 subBalanceCount, balanceAt-total k v)
+  where
+    u : ℕ → ℕ
+    u = valueAt up k scenario
+
+    l : ℕ → ℕ
+    l = valueAt down k scenario
+
+    b : ℕ → ℕ
+    b = balanceAt k
+
+-- the short and the long total together are the total over all places
+pub short-and-long : (ρ : Rounding) (k : Contents) (scenario : ℕ) → totalBy ρ isShort k scenario + totalBy ρ isLong k scenario ≡ totalBy ρ everywhere k scenario
+unfolding totalBy isLong
+short-and-long ρ k scenario = sumWhere-split isShort (valueAt ρ k scenario) subBalanceCount

@@ -1,0 +1,114 @@
+-- `valuation::prices::price_of` meets its contract: after t months both runs are the definitions' runs. Assumes nothing.
+use Prim.Native.Nat.{_-_, _≤_}
+use mathlib.Core.Path.{_≡_, refl, _∙_}
+use native.Mathlib.Omega.{arith}
+use Rattle.withdrawal.specs.TierArrays.{tierTable}
+use Rattle.pricing.specs.Rounding.{down, up, roundingOf}
+use Rattle.pricing.specs.Month.{runBy}
+use Rattle.valuation.specs.DepositTerms.{termsOf}
+use Rattle.valuation.specs.Deposits.{listed, listedPrice, listedPrices}
+use Rattle.valuation.proofs.PriceLaws.{run-zero, month-on, month-small}
+use Rattle.valuation.proofs.prices.price_of.Statement.{statement}
+use Rattle.valuation.proofs.prices.price_of.Tie as tie
+
+abbrev Inv-loop : tie.InvT-loop
+Inv-loop d tiers lower upper first growth servicing months low₀ high₀ t₀ low high t =
+    (t ≤ d .months) × (low ≡ runBy down (termsOf (tierTable tiers) d) (listed lower first) t) × (high ≡ runBy up (termsOf (tierTable tiers) d) (listed upper first) t)
+
+abbrev μ-loop : tie.MeasureT-loop
+μ-loop d tiers lower upper first growth servicing months low₀ high₀ t₀ low high t = d .months - t
+
+mul-growth : tie.Need-mul-growth Inv-loop μ-loop
+mul-growth c = omega (arith, c .before .pre .0 .0 .coupon-le)
+
+servicing-cost-requires : tie.Need-servicing-cost-requires Inv-loop μ-loop
+servicing-cost-requires c κs = tt
+
+loop-holds : tie.Need-loop-holds Inv-loop μ-loop
+loop-holds c = (omega arith, run-zero down _ _ _, run-zero up _ _ _)
+
+add-month-survival : tie.Need-add-month-survival Inv-loop μ-loop
+add-month-survival c = omega arith
+
+month-survival-requires : tie.Need-month-survival-requires Inv-loop μ-loop
+month-survival-requires c κs = (c .before .before .before .before .pre .0 .1, omega arith)
+
+add-i : tie.Need-add-i Inv-loop μ-loop
+add-i c = omega arith
+
+add-last : tie.Need-add-last Inv-loop μ-loop
+add-last c = omega arith
+
+mul-next-month : tie.Need-mul-next-month Inv-loop μ-loop
+mul-next-month c = omega arith
+
+element-copy-out-next-month : tie.Need-element-copy-out-next-month Inv-loop μ-loop
+element-copy-out-next-month c = omega arith
+
+next-month-requires : tie.Need-next-month-requires Inv-loop μ-loop
+next-month-requires c κs =
+    month-small down (tierTable (c .before .before .before .before .before .before .args .tiers)) (c .before .before .before .before .before .before .args .d) (c .before .before .before .before .before .before .args .lower .now) (c .before .before .before .before .before .before .args .first) (c .before .before .before .loop .t) (c .before .before .before .before .servicing-cost .result)
+    (c .before .month-survival .result) _ (c .before .before .before .loop .low) (c .before .before .before .before .servicing-cost .ensures) (c .before .month-survival .ensures)
+    refl (c .before .before .before .loop .inv .1) (c .before .before .before .before .before .before .pre .0 .0) (c .before .before .before .before .before .before .pre .1 .0) (c .before .before .loop-test .taken)
+
+mul-next-month-2 : tie.Need-mul-next-month-2 Inv-loop μ-loop
+mul-next-month-2 c = omega arith
+
+element-copy-out-next-month-2 : tie.Need-element-copy-out-next-month-2 Inv-loop μ-loop
+element-copy-out-next-month-2 c = omega arith
+
+next-month-requires-2 : tie.Need-next-month-requires-2 Inv-loop μ-loop
+next-month-requires-2 c κs =
+    month-small up (tierTable (c .before .before .before .before .before .before .before .before .args .tiers)) (c .before .before .before .before .before .before .before .before .args .d) (c .before .before .before .before .before .before .before .before .args .upper .now) (c .before .before .before .before .before .before .before .before .args .first) (c .before .before .before .before .before .loop .t) (c .before .before .before .before .before .before .servicing-cost .result)
+    (c .before .before .before .month-survival .result) _ (c .before .before .before .before .before .loop .high) (c .before .before .before .before .before .before .servicing-cost .ensures) (c .before .before .before .month-survival .ensures)
+    refl (c .before .before .before .before .before .loop .inv .2) (c .before .before .before .before .before .before .before .before .pre .0 .0) (c .before .before .before .before .before .before .before .before .pre .1 .1) (c .before .before .before .before .loop-test .taken)
+
+add-t : tie.Need-add-t Inv-loop μ-loop
+add-t c = omega arith
+
+loop-less : tie.Need-loop-less Inv-loop μ-loop
+loop-less c = omega arith
+
+loop-again : tie.Need-loop-again Inv-loop μ-loop
+unfolding roundingOf
+loop-again c = (
+  omega arith,
+  (c .before .before .next-month .ensures ∙
+      month-on down (tierTable (c .before .before .before .before .before .before .before .before .before .args .tiers)) (c .before .before .before .before .before .before .before .before .before .args .d) (c .before .before .before .before .before .before .before .before .before .args .lower .now) (c .before .before .before .before .before .before .before .before .before .args .first) (c .before .before .before .before .before .before .loop .t) (c .before .before .before .before .before .before .before .servicing-cost .result)
+      (c .before .before .before .before .month-survival .result) _ (c .before .before .before .before .before .before .loop .low) (c .before .before .before .before .before .before .before .servicing-cost .ensures) (c .before .before .before .before .month-survival .ensures)
+      refl (c .before .before .before .before .before .before .loop .inv .1)),
+  (c .next-month2 .ensures ∙
+      month-on up (tierTable (c .before .before .before .before .before .before .before .before .before .args .tiers)) (c .before .before .before .before .before .before .before .before .before .args .d) (c .before .before .before .before .before .before .before .before .before .args .upper .now) (c .before .before .before .before .before .before .before .before .before .args .first) (c .before .before .before .before .before .before .loop .t) (c .before .before .before .before .before .before .before .servicing-cost .result)
+      (c .before .before .before .before .month-survival .result) _ (c .before .before .before .before .before .before .loop .high) (c .before .before .before .before .before .before .before .servicing-cost .ensures) (c .before .before .before .before .month-survival .ensures)
+      refl (c .before .before .before .before .before .before .loop .inv .2)),
+)
+
+returns : tie.Need-returns Inv-loop μ-loop
+unfolding listedPrices listedPrice runBy
+returns c =
+    let e : c .before .loop .t ≡ c .before .before .before .before .args .d .months = omega arith in
+    rw (c .before .loop .inv .1, c .before .loop .inv .2, e)
+
+pub price-of-spec : {M : Type 1} → statement M
+price-of-spec =
+    tie.close
+    (tie.spec
+    Inv-loop
+    μ-loop
+    mul-growth
+    servicing-cost-requires
+    loop-holds
+    add-month-survival
+    month-survival-requires
+    add-i
+    add-last
+    mul-next-month
+    element-copy-out-next-month
+    next-month-requires
+    mul-next-month-2
+    element-copy-out-next-month-2
+    next-month-requires-2
+    add-t
+    loop-less
+    loop-again
+    returns)

@@ -1,0 +1,43 @@
+-- Values from what a place holds, and the longest term that has to be discounted (01:60). Definitions only.
+use Prim.Native.Nat.{ℕ, zero, suc, _*_, _^_, max}
+use mathlib.Core.Bool.{cond}
+use mathlib.Core.List.{List}
+use lib.Dec.{eqb}
+use lib.ListN.{getD}
+use Rattle.lists.specs.Tables.{table}
+use Rattle.shares.specs.declared.SubBalance.{SubBalance}
+use Rattle.shares.specs.SubBalances.{subBalanceCount}
+use Rattle.withdrawal.specs.Tiers.{TierTable}
+use Rattle.pricing.specs.Rounding.{Rounding, down, up, quotient}
+use Rattle.valuation.specs.declared.Deposit.{Deposit}
+use Rattle.valuation.specs.declared.Bounds.{Bounds}
+use Rattle.valuation.specs.Deposits.{listedPrice}
+
+-- a place that holds nothing
+abbrev pub noBalance : SubBalance
+noBalance = record { balance = 0; coupon = 0; «remaining_months» = 0 }
+
+-- the remaining months of a place with a balance, 0 of one without
+unfoldable pub termOf : SubBalance → ℕ
+termOf p = cond (eqb (p .balance) 0) 0 (p .«remaining_months»)
+
+-- the longest such term among the first n places, and among the thirty-six
+unfoldable pub longestTo : List SubBalance → ℕ → ℕ
+longestTo ps zero = 0
+longestTo ps (suc n) = max (longestTo ps n) (termOf (getD ps n noBalance))
+
+unfoldable pub longestTerm : List SubBalance → ℕ
+longestTerm ps = longestTo ps subBalanceCount
+
+-- the value of a balance, dollars, at the price of a deposit with discount factors from a list
+unfoldable pub listedValue : Rounding → ℕ → TierTable → Deposit → List ℕ → ℕ → ℕ
+listedValue ρ balance tiers d factors first = quotient ρ (balance * listedPrice ρ tiers d factors first) (10 ^ 6)
+
+-- lower value by lower factors, upper value by upper factors
+unfoldable pub listedValues : ℕ → TierTable → Deposit → List ℕ → List ℕ → ℕ → Bounds
+listedValues balance tiers d lower upper first =
+    record { lower = listedValue down balance tiers d lower first; upper = listedValue up balance tiers d upper first }
+
+-- the balances of the thirty-six places
+unfoldable pub balancesIn : List SubBalance → List ℕ
+balancesIn ps = table subBalanceCount (λ (i : ℕ). getD ps i noBalance .balance)

@@ -1,0 +1,66 @@
+// The price of a deposit: its months walked once, with the lower and the upper run side by side.
+use crate::Bounds;
+use crate::Deposit;
+use pricing::Run;
+use pricing::months::next_month;
+use withdrawal::WithdrawalTiers;
+use withdrawal::month_survival;
+ghost use mathlib.Core.Path.{_≡_};
+ghost use Prim.Native.Nat.{_+_, _≤_};
+ghost use Rattle.withdrawal.specs.MonthSurvival.{accountOf};
+ghost use Rattle.withdrawal.specs.TierArrays.{tierTable, Usable};
+ghost use Rattle.valuation.specs.DepositTerms.{servicingCost};
+ghost use Rattle.valuation.specs.Deposits.{listedPrices, DepositLimits, AtMostPar};
+
+// Lower and upper price in billionths. Month 1's discount factors stand at place `first`.
+pub fn price_of(
+    d: Deposit,
+    tiers: WithdrawalTiers,
+    lower: &[u64; 840],
+    upper: &[u64; 840],
+    first: usize,
+) -> Bounds
+    requires { ⌜ DepositLimits d × Usable tiers × (first ≤ 720) ⌝ }
+    requires { ⌜ AtMostPar (now lower) × AtMostPar (now upper) ⌝ }
+    ensures { λ r. ⌜ r ≡ listedPrices (tierTable tiers) d (now (lower .entry)) (now (upper .entry)) first ⌝ }
+{
+    let growth = 25000 * d.coupon;
+    let servicing = servicing_cost(d.brokered);
+    let months = d.months;
+    let mut low = Run {
+        balance: 1000000000,
+        price: 0,
+    };
+    let mut high = Run {
+        balance: 1000000000,
+        price: 0,
+    };
+    let mut t: u64 = 0;
+    while t < months {
+        let survival = month_survival(
+            tiers,
+            d.brokered,
+            d.coupon,
+            d.penalty,
+            d.rate,
+            months,
+            t + 1,
+        );
+        let i = first + t as usize;
+        let last = t + 1 == months;
+        low = next_month(low, growth, servicing, survival, lower[i], last, false);
+        high = next_month(high, growth, servicing, survival, upper[i], last, true);
+        t += 1;
+    }
+    Bounds {
+        lower: low.price,
+        upper: high.price,
+    }
+}
+
+// The month's servicing cost in billionths of the balance.
+fn servicing_cost(brokered: bool) -> u64
+    ensures { λ r. ⌜ r ≡ servicingCost (accountOf brokered) ⌝ }
+{
+    if brokered { 19000 } else { 175000 }
+}

@@ -1,0 +1,4 @@
+pub mod SurvivalLaws
+pub mod GainLaws
+pub mod TierLaws
+pub mod MonthSurvivalLaws

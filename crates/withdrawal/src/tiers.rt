@@ -1,0 +1,68 @@
+// Tiers of annual withdrawal, tried from the highest edge.
+use crate::Incentive;
+use crate::WithdrawalTiers;
+ghost use mathlib.Core.Path.{_≡_};
+ghost use Prim.Native.Nat.{_≤_};
+ghost use Rattle.withdrawal.specs.Tiers.{reached, annualWithdrawal, houseTiers};
+ghost use Rattle.withdrawal.specs.Survival.{survival};
+ghost use Rattle.withdrawal.specs.TierArrays.{tierTable, tierTableOf, TiersFit, Usable};
+ghost use Rattle.withdrawal.specs.Incentives.{gainOf, Small};
+
+// q of a retail deposit before its term's end, in billionths: that of the first tier whose edge is reached.
+pub fn retail_survival(tiers: WithdrawalTiers, incentive: Incentive) -> u64
+    requires { ⌜ Usable tiers × Small incentive ⌝ }
+    ensures { λ r. ⌜ r ≡ survival (annualWithdrawal (tierTable tiers) (gainOf incentive) (incentive .cost)) ⌝ }
+{
+    let count = tiers.count;
+    let mut i: usize = 0;
+    while i < count {
+        if reaches(incentive, tiers.edges[i]) {
+            return tiers.survivals[i];
+        }
+        i += 1;
+    }
+    tiers.retained
+}
+
+// An edge in hundredths is reached: 100 times the gain is at least the edge times the cost.
+fn reaches(incentive: Incentive, edge: u64) -> bool
+    requires { ⌜ Small incentive × (edge ≤ 65535) ⌝ }
+    ensures { λ r. ⌜ r ≡ reached (gainOf incentive) (incentive .cost) edge ⌝ }
+{
+    edge * incentive.cost + 100 * incentive.forfeited <= 100 * incentive.earned
+}
+
+// The house's tiers.
+pub fn house() -> WithdrawalTiers
+    ensures { λ r. ⌜ (tierTable r ≡ houseTiers) × Usable r ⌝ }
+{
+    let edges = [150, 130, 115, 100, 80, 50, 0, 0, 0, 0, 0, 0, 0, 0, 0, 0];
+    let withdrawals = [550, 460, 320, 130, 75, 50, 0, 0, 0, 0, 0, 0, 0, 0, 0, 0];
+    with_survivals(6, edges, withdrawals, 40)
+}
+
+// Tiers with the survival of each withdrawal beside it: the table of survivals is read once for each tier, not once for each month.
+pub fn with_survivals(
+    count: usize,
+    edges: [u64; 16],
+    withdrawals: [u64; 16],
+    otherwise: u64,
+) -> WithdrawalTiers
+    requires { ⌜ TiersFit count edges withdrawals otherwise ⌝ }
+    ensures { λ r. ⌜ (tierTable r ≡ tierTableOf count edges withdrawals otherwise) × Usable r ⌝ }
+{
+    let mut survivals = [0u64; 16];
+    let mut i: usize = 0;
+    while i < count {
+        survivals[i] = crate::survival(withdrawals[i]);
+        i += 1;
+    }
+    WithdrawalTiers {
+        count,
+        edges,
+        withdrawals,
+        survivals,
+        otherwise,
+        retained: crate::survival(otherwise),
+    }
+}
