@@ -11,6 +11,9 @@ pub mod AcceptedLaws
 pub mod Controls
 pub mod ScanLaws
 pub mod ScanStateLaws
+pub mod VisitLaws
+pub mod WalkLaws
+pub mod ReaderLaws
 pub mod ContentsLaws
 pub mod ConditionLaws
 pub mod BalanceLaws
