@@ -15,3 +15,6 @@ pub mod ContentsLaws
 pub mod ConditionLaws
 pub mod BalanceLaws
 pub mod ReadLaws
+pub mod VisitLaws
+pub mod WalkLaws
+pub mod ReaderLaws

@@ -9,4 +9,5 @@ pub mod Verdict
 pub mod Answers
 pub mod Balances
 pub mod Readings
+pub mod Scans
 pub mod Valid
