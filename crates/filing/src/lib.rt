@@ -1,6 +1,6 @@
 // A filing of certificate deposits, from its bytes to what it says.
 
-mod answers;
+pub mod answers;
 mod bytes;
 mod conditions;
 mod decode;

@@ -2,9 +2,8 @@
 -- Assumes nothing.
 use Prim.Native.Nat.{_≤_, _-_}
 use native.Mathlib.Omega.{arith}
-use mathlib.Core.Path.{_≡_, refl, sym, _∙_}
+use mathlib.Core.Path.{_≡_, refl, sym}
 use mathlib.Core.Bool.{false}
-use borrow.Author.Needs.{needs}
 use Rattle.filing.specs.Faults.{rateOver}
 use Rattle.filing.proofs.RateLaws.{rate-over, rate-within}
 use Rattle.filing.proofs.faults.rate_over.Statement.{statement}

@@ -1,8 +1,8 @@
 -- `record_place` meets its contract: a sound record's cell is one of 601 to 661.
 -- Assumes nothing.
 use native.Mathlib.Omega.{arith}
-use mathlib.Core.Path.{_≡_, sym, ap, _∙_}
-use Prim.Native.Nat.{ℕ, _-_, _≤_}
+use mathlib.Core.Path.{sym, ap, _∙_}
+use Prim.Native.Nat.{ℕ, _-_}
 use borrow.Author.Needs.{needs}
 use Rattle.filing.proofs.FaultLaws.{faultless}
 use Rattle.filing.proofs.OffsetLaws.{cell-place, sheet-place, faultless-cell}
