@@ -60,6 +60,7 @@ module _ (k : Contents) (amount column : ℕ) where
     pub within : i ≤ 9
     pub balanced : amount + sumIn k column (drop i positions) ≡ left + sum (columnBalances k column)
 
+  -- before the first position nothing is taken off
   pub taking-start : Taking amount 0
   taking-start = record { within = omega arith; balanced = ap (λ (n : ℕ). amount + n) sum-all }
 
@@ -102,6 +103,7 @@ left-amount amount taken left false e h =
     let l : amount - taken ≡ left = cc in
     omega (arith, ltb-false amount taken e)
 
+-- an amount is what is left of it with what was taken
 pub amount-left : (amount taken left : ℕ) → leftAfter amount taken ≡ Amount left → amount ≡ left + taken
 unfolding leftAfter
 amount-left amount taken left h = left-amount amount taken left (ltb amount taken) refl h
@@ -110,6 +112,7 @@ left-short : (amount taken : ℕ) (b : Bool) → ltb amount taken ≡ b → cond
 left-short amount taken true e h = ltb-true amount taken e
 left-short amount taken false e h = let z : _≡_ {A = ℕ} 0 1 = cc in absurd (omega arith)
 
+-- an amount that does not cover another is less
 pub amount-short : (amount taken : ℕ) → leftAfter amount taken ≡ Short → amount < taken
 unfolding leftAfter
 amount-short amount taken h = left-short amount taken (ltb amount taken) refl h
@@ -125,10 +128,12 @@ above-left : (amount taken left : ℕ) (b : Bool) → ltb 0 left ≡ b → amoun
 above-left amount taken left true e h = sym (lt-ltb taken amount (omega (arith, ltb-true 0 left e)))
 above-left amount taken left false e h = sym (le-ltb taken amount (omega (arith, ltb-false 0 left e)))
 
+-- a cell is above its column where something of it is left
 pub left-above : (k : Contents) (column n left : ℕ) → cell k n ≡ left + sum (columnBalances k column) → ltb 0 left ≡ aboveColumn k column n
 unfolding aboveColumn
 left-above k column n left h = above-left (cell k n) (sum (columnBalances k column)) left (ltb 0 left) refl h
 
+-- a cell that does not cover its column is not above it
 pub short-above : (k : Contents) (column n : ℕ) → cell k n < sum (columnBalances k column) → false ≡ aboveColumn k column n
 unfolding aboveColumn
 short-above k column n h = sym (le-ltb (sum (columnBalances k column)) (cell k n) (omega arith))
@@ -137,10 +142,12 @@ differs-left : (amount taken left : ℕ) (b : Bool) → eqb left 0 ≡ b → amo
 differs-left amount taken left true e h = sym (eq-eqb amount taken (omega (arith, eqb-true left 0 e)))
 differs-left amount taken left false e h = sym (ne-eqb amount taken (λ q. eqb-false left 0 e (omega arith)))
 
+-- the total differs from the nine balances where something of it is left
 pub left-differs : (k : Contents) (left : ℕ) → cell k 645 ≡ left + sum (balances k) → not (eqb left 0) ≡ totalDiffers k
 unfolding totalDiffers
 left-differs k left h = ap not (differs-left (cell k 645) (sum (balances k)) left (eqb left 0) refl h)
 
+-- a total that does not cover the nine balances differs from them
 pub short-differs : (k : Contents) → cell k 645 < sum (balances k) → true ≡ totalDiffers k
 unfolding totalDiffers
 short-differs k h = ap not (sym (ne-eqb (cell k 645) (sum (balances k)) (λ q. omega arith)))

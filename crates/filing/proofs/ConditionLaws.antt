@@ -40,6 +40,7 @@ pub record PositionIs (i : ℕ) (p : PositionCells) : Type 0 where
   pub balance-within : (601 ≤ p .balance) × (p .balance ≤ 661)
   pub months-within : (601 ≤ p .months) × (p .months ≤ 661)
 
+-- the cells that the code has for a position are the position's own
 pub position-is : (i : ℕ) (p : PositionCells) → i < 9 → p ≡ positionCells (positionAt i) → PositionIs i p
 unfolding positionCells
 position-is i p h e =
@@ -60,14 +61,17 @@ not-leb m n true e = sym (le-ltb n m (leb-true m n e))
 not-leb m n false e = sym (lt-ltb n m (leb-false m n e))
 
 module _ (k : Contents) (p : Position) where
+  -- no balance: 7 does not hold
   pub outside-empty : cell k (p .balance) ≡ 0 → monthsOutside k p ≡ false
   unfolding monthsOutside
   outside-empty h = simp (eq-eqb (cell k (p .balance)) 0 h)
 
+  -- a balance, and fewer months than the row's least: 7 holds
   pub outside-below : (cell k (p .balance) ≡ 0 → ⊥) → cell k (p .months) < leastMonths (p .row) → monthsOutside k p ≡ true
   unfolding monthsOutside withinRow
   outside-below h l = simp (ne-eqb (cell k (p .balance)) 0 h, lt-leb (leastMonths (p .row)) (cell k (p .months)) l)
 
+  -- a balance, and no fewer months than the row's least: 7 holds where they are more than its most
   pub outside-above : (cell k (p .balance) ≡ 0 → ⊥) → leastMonths (p .row) ≤ cell k (p .months)
       → monthsOutside k p ≡ ltb (mostMonths (p .row)) (cell k (p .months))
   unfolding monthsOutside withinRow
@@ -84,19 +88,24 @@ testsFrom test refusal i (suc n) next = cond (test i) (refusal i) (testsFrom tes
 abbrev pub monthsTest : Contents → ℕ → Bool
 monthsTest k i = monthsOutside k (positionAt i)
 
+-- the refusal of the i-th test of 7, at the WARM cell
 abbrev pub monthsRefusal : ℕ → Verdict
 monthsRefusal i = refused 7 (positionAt i .months)
 
+-- 7 is the nine tests in turn
 pub months-tests : (k : Contents) (next : Verdict) → monthsVerdict k positions next ≡ testsFrom (monthsTest k) monthsRefusal 0 9 next
 unfolding monthsVerdict testsFrom position positions positionAt
 months-tests k next = refl
 
+-- the i-th test of 8: cells 650 to 655, over columns 1 to 3 twice
 abbrev pub columnsTest : Contents → ℕ → Bool
 columnsTest k i = aboveColumn k (i % 3 + 1) (i + 650)
 
+-- the refusal of the i-th test of 8, at the cell
 abbrev pub columnsRefusal : ℕ → Verdict
 columnsRefusal i = refused 8 (i + 650)
 
+-- 8 is the six tests in turn
 pub columns-tests : (k : Contents) (next : Verdict) → columnsVerdict k next ≡ testsFrom (columnsTest k) columnsRefusal 0 6 next
 unfolding columnsVerdict columnVerdict brokeredCell penaltyBalanceCell testsFrom
 columns-tests k next = refl
@@ -107,6 +116,7 @@ module _ (test : ℕ → Bool) (refusal : ℕ → Verdict) (next : Verdict) wher
     pub within : i ≤ n
     pub rest : testsFrom test refusal 0 n next ≡ testsFrom test refusal i (n - i) next
 
+  -- before the first test
   pub tests-start : (n : ℕ) → Untested n 0
   tests-start n = record { within = omega arith; rest = rw sub-zero }
 
@@ -142,44 +152,65 @@ one-refused : (b : Bool) (v rest rest′ : Verdict) → ((rest .number ≡ 0 →
 one-refused true v rest rest′ ih h = refl
 one-refused false v rest rest′ ih h = ih h
 
-module _ (test : ℕ → Bool) (refusal : ℕ → Verdict) (next : Verdict) where
+tests-passed : (test : ℕ → Bool) (refusal : ℕ → Verdict) (next : Verdict) → ((i : ℕ) → 0 < refusal i .number) → (i n : ℕ)
+    → testsFrom test refusal i n accepted .number ≡ 0
+    → testsFrom test refusal i n next ≡ next
+unfolding testsFrom
+tests-passed test refusal next p i zero h = refl
+tests-passed test refusal next p i (suc n) h =
+    one-passed (test i) (refusal i) (testsFrom test refusal (suc i) n accepted) (testsFrom test refusal (suc i) n next) next (p i)
+    (tests-passed test refusal next p (suc i) n) h
+
+tests-refused : (test : ℕ → Bool) (refusal : ℕ → Verdict) (next : Verdict) (i n : ℕ)
+    → (testsFrom test refusal i n accepted .number ≡ 0 → ⊥)
+    → testsFrom test refusal i n accepted ≡ testsFrom test refusal i n next
+unfolding testsFrom accepted
+tests-refused test refusal next i zero h = absurd (h refl)
+tests-refused test refusal next i (suc n) h =
+    one-refused (test i) (refusal i) (testsFrom test refusal (suc i) n accepted) (testsFrom test refusal (suc i) n next)
+    (tests-refused test refusal next (suc i) n) h
+
+-- a condition that is n tests in turn, each with a numbered refusal, before the verdict that follows
+pub record Tests (condition : Verdict → Verdict) : Type 0 where
+  pub test : ℕ → Bool
+  pub refusal : ℕ → Verdict
+  pub count : ℕ
+  pub same : (next : Verdict) → condition next ≡ testsFrom test refusal 0 count next
+  pub numbered : (i : ℕ) → 0 < refusal i .number
+
+-- 7 and 8 are such conditions
+pub months-condition : (k : Contents) → Tests (monthsVerdict k positions)
+unfolding refused
+months-condition k =
+    record {
+      test = monthsTest k;
+      refusal = monthsRefusal;
+      count = 9;
+      same = months-tests k;
+      numbered = λ i. lit< tt;
+    }
+
+pub columns-condition : (k : Contents) → Tests (columnsVerdict k)
+unfolding refused
+columns-condition k =
+    record {
+      test = columnsTest k;
+      refusal = columnsRefusal;
+      count = 6;
+      same = columns-tests k;
+      numbered = λ i. lit< tt;
+    }
+
+module _ (condition : Verdict → Verdict) (t : Tests condition) (next : Verdict) where
   -- no test refuses: the verdict that follows
-  tests-passed : ((i : ℕ) → 0 < refusal i .number) → (i n : ℕ) → testsFrom test refusal i n accepted .number ≡ 0 → testsFrom test refusal i n next ≡ next
-  unfolding testsFrom
-  tests-passed p i zero h = refl
-  tests-passed p i (suc n) h =
-      one-passed (test i) (refusal i) (testsFrom test refusal (suc i) n accepted) (testsFrom test refusal (suc i) n next) next (p i)
-      (tests-passed p (suc i) n) h
+  pub condition-passed : condition accepted .number ≡ 0 → condition next ≡ next
+  condition-passed h =
+      t .same next
+      ∙ tests-passed (t .test) (t .refusal) next (t .numbered) 0 (t .count) (ap (λ (v : Verdict). v .number) (sym (t .same accepted)) ∙ h)
 
   -- a test refuses: the verdict that follows does not matter
-  tests-refused : (i n : ℕ) → (testsFrom test refusal i n accepted .number ≡ 0 → ⊥) → testsFrom test refusal i n accepted ≡ testsFrom test refusal i n next
-  unfolding testsFrom accepted
-  tests-refused i zero h = absurd (h refl)
-  tests-refused i (suc n) h =
-      one-refused (test i) (refusal i) (testsFrom test refusal (suc i) n accepted) (testsFrom test refusal (suc i) n next)
-      (tests-refused (suc i) n) h
-
-module _ (k : Contents) (next : Verdict) where
-  pub months-passed : monthsVerdict k positions accepted .number ≡ 0 → monthsVerdict k positions next ≡ next
-  unfolding refused
-  months-passed h =
-      months-tests k next
-      ∙ tests-passed (monthsTest k) monthsRefusal next (λ i. lit< tt) 0 9 (ap (λ (v : Verdict). v .number) (sym (months-tests k accepted)) ∙ h)
-
-  pub months-refused : (monthsVerdict k positions accepted .number ≡ 0 → ⊥) → monthsVerdict k positions accepted ≡ monthsVerdict k positions next
-  months-refused h =
-      months-tests k accepted
-      ∙ tests-refused (monthsTest k) monthsRefusal next 0 9 (λ e. h (ap (λ (v : Verdict). v .number) (months-tests k accepted) ∙ e))
-      ∙ sym (months-tests k next)
-
-  pub columns-passed : columnsVerdict k accepted .number ≡ 0 → columnsVerdict k next ≡ next
-  unfolding refused
-  columns-passed h =
-      columns-tests k next
-      ∙ tests-passed (columnsTest k) columnsRefusal next (λ i. lit< tt) 0 6 (ap (λ (v : Verdict). v .number) (sym (columns-tests k accepted)) ∙ h)
-
-  pub columns-refused : (columnsVerdict k accepted .number ≡ 0 → ⊥) → columnsVerdict k accepted ≡ columnsVerdict k next
-  columns-refused h =
-      columns-tests k accepted
-      ∙ tests-refused (columnsTest k) columnsRefusal next 0 6 (λ e. h (ap (λ (v : Verdict). v .number) (columns-tests k accepted) ∙ e))
-      ∙ sym (columns-tests k next)
+  pub condition-refused : (condition accepted .number ≡ 0 → ⊥) → condition accepted ≡ condition next
+  condition-refused h =
+      t .same accepted
+      ∙ tests-refused (t .test) (t .refusal) next 0 (t .count) (λ e. h (ap (λ (v : Verdict). v .number) (t .same accepted) ∙ e))
+      ∙ sym (t .same next)

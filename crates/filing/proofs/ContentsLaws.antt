@@ -24,6 +24,7 @@ pub record Filled (base n : ℕ) (f : ℕ → ℕ) (l : List ℕ) (i : ℕ) : Ty
   pub within : i ≤ n
   pub entry : (k : ℕ) → k < i → getD l k 0 ≡ f (base + k)
 
+-- nothing filled yet
 pub filled-none : (base n : ℕ) (f : ℕ → ℕ) (l : List ℕ) → length l ≡ n → Filled base n f l 0
 filled-none base n f l e = record { size = e; within = omega arith; entry = λ k h. absurd (omega arith) }
 

@@ -99,6 +99,7 @@ pub record Faultless (s : List ℕ) (at : ℕ) : Type 0 where
   pub single : repeated s at ≡ false
   pub limited : overLimit s at ≡ false
 
+-- a fault number of 0 says that no test passed
 pub faultless : (s : List ℕ) (at : ℕ) → faultNumber s at ≡ 0 → Faultless s at
 unfolding faultNumber
 faultless s at h =

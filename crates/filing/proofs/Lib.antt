@@ -5,11 +5,8 @@ pub mod ClassLaws
 pub mod RateLaws
 pub mod FaultLaws
 pub mod RecordVerdictLaws
-pub mod OffsetLaws
-pub mod VerdictLaws
-pub mod AcceptedLaws
-pub mod Controls
 pub mod ScanLaws
+pub mod OffsetLaws
 pub mod ScanStateLaws
 pub mod VisitLaws
 pub mod WalkLaws
@@ -19,3 +16,6 @@ pub mod ConditionLaws
 pub mod BalanceLaws
 pub mod ReadLaws
 pub mod AnswerLaws
+pub mod VerdictLaws
+pub mod AcceptedLaws
+pub mod Controls

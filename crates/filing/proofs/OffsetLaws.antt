@@ -29,6 +29,7 @@ place-of-cell n h =
     let e : n - 597 + 597 ≡ n = omega arith in
     simp (le-ltb (n - 597) 4 (omega arith), e)
 
+-- the place of a kind of sheet is its number
 pub place-of-kind : (k : ℕ) → k < 4 → placeKey k ≡ kindKey k
 unfolding placeKey
 place-of-kind k h = simp (lt-ltb k 4 h)
@@ -41,7 +42,7 @@ place-key-injective i j true false e = absurd (omega arith)
 place-key-injective i j false true e = absurd (omega arith)
 place-key-injective i j false false e = omega arith
 
-pub place-injective : (i j : ℕ) → placeKey i ≡ placeKey j → i ≡ j
+place-injective : (i j : ℕ) → placeKey i ≡ placeKey j → i ≡ j
 unfolding placeKey
 place-injective i j e = place-key-injective i j (ltb i 4) (ltb j 4) e
 
@@ -50,6 +51,7 @@ pub cell-place : (s : List ℕ) (at : ℕ) → recordKind s at ≡ 1 → recordP
 unfolding recordPlace
 cell-place s at k = simp (eq-eqb (recordKind s at) 1 k)
 
+-- the place of a sheet's record
 pub sheet-place : (s : List ℕ) (at : ℕ) → (recordKind s at ≡ 1 → ⊥) → recordPlace s at ≡ recordKind s at
 unfolding recordPlace
 sheet-place s at k = simp (ne-eqb (recordKind s at) 1 k)
@@ -64,6 +66,7 @@ pub record HasPlace (s : List ℕ) (at : ℕ) : Type 0 where
   pub below : recordPlace s at < 65
   pub key : placeKey (recordPlace s at) ≡ recordKey s at
 
+-- by kind: a listed cell has a place among the cells, a sheet among the sheets
 pub faultless-place : (s : List ℕ) (at : ℕ) → Faultless s at → HasPlace s at
 faultless-place s at f = by (eqb (recordKind s at) 1) refl
   where
@@ -84,7 +87,7 @@ faultless-place s at f = by (eqb (recordKind s at) 1) refl
         }
 
 -- what is noted at a place
-pub offsets-at : (s : List ℕ) (at i : ℕ) → i < 65 → getD (offsetsBefore s at) i 0 ≡ offsetBefore s (placeKey i) at
+offsets-at : (s : List ℕ) (at i : ℕ) → i < 65 → getD (offsetsBefore s at) i 0 ≡ offsetBefore s (placeKey i) at
 unfolding offsetsBefore
 offsets-at s at i h =
     tableFrom-getD 0 65 (λ (j : ℕ). offsetBefore s (placeKey j) at) i 0 h ∙ ap (λ (j : ℕ). offsetBefore s (placeKey j) at) (zero-add i)
@@ -122,7 +125,7 @@ pub offsets-start : (s : List ℕ) → replicate 65 (length s) ≡ offsetsBefore
 unfolding offsetsBefore tableFrom offsetBefore firstWithKey firstRecord searchRecords
 offsets-start s = refl
 
-pub offsets-length : (s : List ℕ) (at : ℕ) → length (offsetsBefore s at) ≡ 65
+offsets-length : (s : List ℕ) (at : ℕ) → length (offsetsBefore s at) ≡ 65
 unfolding offsetsBefore
 offsets-length s at = table-length 0 65 (λ (i : ℕ). offsetBefore s (placeKey i) at)
 

@@ -55,6 +55,7 @@ module _ (s : List ℕ) where
     unfolding sheetMissing
     filing-no-yields h = sym (filing-then ∙ simp (le-leb (length s) (sheetOffset s 2) h))
 
+    -- the yields are there and the retail rates are not: 6
     pub filing-no-rates : sheetOffset s 2 < length s → length s ≤ sheetOffset s 3 → refused 6 (length s) ≡ filingVerdict s
     unfolding sheetMissing
     filing-no-rates h l = sym (filing-then ∙ simp (lt-leb (length s) (sheetOffset s 2) h, le-leb (length s) (sheetOffset s 3) l))
@@ -69,6 +70,7 @@ module _ (s : List ℕ) where
   unfolding readContents
   contents-refused h = sym (simp (ne-eqb (filingVerdict s .number) 0 h))
 
+  -- an accepted filing gives what it says
   pub contents-accepted : filingVerdict s .number ≡ 0 → contentsOf s ≡ readContents s
   unfolding readContents
   contents-accepted h = sym (simp (eq-eqb (filingVerdict s .number) 0 h))

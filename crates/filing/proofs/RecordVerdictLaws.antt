@@ -23,6 +23,7 @@ kind-known kind false e h =
     absurd (omega (arith, List·getD-eq-default {A = ℕ} (0 ∷ 12 ∷ 242 ∷ 8 ∷ []) 0 {n = kind} (ltb-false kind 4 e)))
 
 module _ (s : List ℕ) (at : ℕ) where
+  -- 1 holds
   pub verdict-incomplete : incomplete s at ≡ true → recordVerdict s at ≡ refused 1 at
   unfolding recordVerdict faultNumber
   verdict-incomplete a = simp a
@@ -36,23 +37,28 @@ module _ (s : List ℕ) (at : ℕ) where
       (ltb-false (length s) (at + 2) (h1 .0), ltb-false (recordLength s at) 2 (h2 .0))
 
   module _ (complete : incomplete s at ≡ false) where
+    -- 1 does not hold, and 2 does
     pub verdict-misshapen : misshapen s at ≡ true → recordVerdict s at ≡ refused 2 at
     unfolding recordVerdict faultNumber
     verdict-misshapen b = simp (complete, b)
 
+    -- 3 is the first that holds
     pub verdict-unlisted : misshapen s at ≡ false → unlisted s at ≡ true → recordVerdict s at ≡ refused 3 at
     unfolding recordVerdict faultNumber
     verdict-unlisted b c = simp (complete, b, c)
 
+    -- 4 is the first that holds
     pub verdict-repeated : misshapen s at ≡ false → unlisted s at ≡ false → repeated s at ≡ true → recordVerdict s at ≡ refused 4 at
     unfolding recordVerdict faultNumber
     verdict-repeated b c d = simp (complete, b, c, d)
 
+    -- 5 is the first that holds
     pub verdict-over : misshapen s at ≡ false → unlisted s at ≡ false → repeated s at ≡ false → overLimit s at ≡ true
         → recordVerdict s at ≡ refused 5 at
     unfolding recordVerdict faultNumber
     verdict-over b c d e = simp (complete, b, c, d, e)
 
+    -- none holds
     pub verdict-sound : misshapen s at ≡ false → unlisted s at ≡ false → repeated s at ≡ false → overLimit s at ≡ false
         → recordVerdict s at ≡ accepted
     unfolding recordVerdict faultNumber
@@ -63,6 +69,7 @@ module _ (s : List ℕ) (at : ℕ) where
   unfolding misshapen
   length-shaped e = simp (eq-eqb (recordLength s at) (kindLength (recordKind s at)) e)
 
+  -- another length than the kind's: 2 holds
   pub length-misshapen : (recordLength s at ≡ kindLength (recordKind s at) → ⊥) → misshapen s at ≡ true
   unfolding misshapen
   length-misshapen h = simp (ne-eqb (recordLength s at) (kindLength (recordKind s at)) h)
@@ -77,10 +84,12 @@ module _ (s : List ℕ) (at : ℕ) where
   unfolding unlisted
   cell-unlisted k = simp (eq-eqb (recordKind s at) 1 k)
 
+  -- for kind 1, 5 is the value over the limit of its cell's class
   pub cell-over : recordKind s at ≡ 1 → overLimit s at ≡ ltb (classLimit (cellClass (recordCell s at))) (recordValue s at)
   unfolding overLimit
   cell-over k = simp (eq-eqb (recordKind s at) 1 k)
 
+  -- for kind 1, the key is the cell's
   pub cell-key : recordKind s at ≡ 1 → recordKey s at ≡ cellKey (recordCell s at)
   unfolding recordKey
   cell-key k = simp (eq-eqb (recordKind s at) 1 k)
@@ -90,10 +99,12 @@ module _ (s : List ℕ) (at : ℕ) where
   unfolding unlisted
   sheet-unlisted k = simp (ne-eqb (recordKind s at) 1 k)
 
+  -- for a sheet, 5 is a rate over the limit
   pub sheet-over : (recordKind s at ≡ 1 → ⊥) → overLimit s at ≡ rateOver s at (sheetRates (recordKind s at))
   unfolding overLimit
   sheet-over k = simp (ne-eqb (recordKind s at) 1 k)
 
+  -- for a sheet, the key is its kind's
   pub sheet-key : (recordKind s at ≡ 1 → ⊥) → recordKey s at ≡ kindKey (recordKind s at)
   unfolding recordKey
   sheet-key k = simp (ne-eqb (recordKind s at) 1 k)

@@ -92,10 +92,12 @@ module _ (s : List ℕ) where
       pub enough : end ≤ at + steps
       pub gives : firstRecord s test end ≡ searchRecords s test end at steps
 
+    -- start: the whole search is ahead
     pub ahead-start : (end : ℕ) → Ahead end 0
     unfolding firstRecord
     ahead-start end = record { steps = end; enough = omega arith; gives = refl }
 
+    -- here: the record at hand passes the test, and is the first that does
     pub ahead-here : (end at : ℕ) → Ahead end at → at < end → test at ≡ true → firstRecord s test end ≡ at
     ahead-here end at a h e = a .gives ∙ found (a .steps) (a .enough)
       where
@@ -103,6 +105,7 @@ module _ (s : List ℕ) where
         found zero p = absurd (omega arith)
         found (suc n) p = search-here end at n h e
 
+    -- next: the record at hand fails the test, and the search goes on after it
     pub ahead-next : (end at : ℕ) → Ahead end at → at < end → test at ≡ false → Ahead end (nextRecord s at)
     ahead-next end at a h e = later (a .steps) (a .enough) (a .gives)
       where
@@ -110,5 +113,6 @@ module _ (s : List ℕ) where
         later zero p g = absurd (omega arith)
         later (suc n) p g = record { steps = n; enough = omega (arith, next-lt at); gives = g ∙ search-later end at n h e }
 
+    -- done: no record passed the test
     pub ahead-done : (end at : ℕ) → Ahead end at → end ≤ at → firstRecord s test end ≡ end
     ahead-done end at a h = a .gives ∙ search-end end at (a .steps) h

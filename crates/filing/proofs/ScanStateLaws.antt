@@ -43,6 +43,7 @@ pub record Scanned (s first : List ℕ) (verdict : Verdict) : Type 0 where
   pub verdict-is : verdict ≡ recordsVerdict s
   pub offsets-are : first ≡ offsetsBefore s (firstFaulty s)
 
+-- start: nothing is read
 pub scanning-start : (s : List ℕ) → Scanning s (replicate 65 (length s)) 0
 scanning-start s =
     record {
@@ -53,6 +54,7 @@ scanning-start s =
     }
 
 module _ (s first : List ℕ) (at : ℕ) (state : Scanning s first at) where
+  -- next: a faultless record is read, and its offset noted
   pub scanning-next : at < length s → faultNumber s at ≡ 0 → Scanning s (set first (recordPlace s at) at) (nextRecord s at)
   scanning-next l n =
       let f = faultless s at n in
@@ -63,6 +65,7 @@ module _ (s first : List ℕ) (at : ℕ) (state : Scanning s first at) where
         noted = rw (state .noted) (offsets-next s at (state .reached) f);
       }
 
+  -- here: a faulty record ends the scan with its verdict
   pub scanning-faulty : at < length s → (faultNumber s at ≡ 0 → ⊥) → Scanned s first (recordVerdict s at)
   unfolding firstFaulty recordsVerdict
   scanning-faulty l h =
@@ -73,6 +76,7 @@ module _ (s first : List ℕ) (at : ℕ) (state : Scanning s first at) where
         offsets-are = rw found (state .noted);
       }
 
+  -- done: all records are read, and none is faulty
   pub scanning-done : length s ≤ at → Scanned s first accepted
   unfolding firstFaulty recordsVerdict
   scanning-done l =

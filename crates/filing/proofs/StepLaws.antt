@@ -14,6 +14,7 @@ use Rattle.filing.specs.Faults.{incomplete}
 use Rattle.filing.specs.Steps.{stepAt}
 
 module _ (s : List ℕ) (at : ℕ) where
+  -- nothing stands at the end or past it
   pub step-end : length s ≤ at → stepAt s at ≡ End
   unfolding stepAt
   step-end h = simp (le-leb (length s) at h)
@@ -23,18 +24,21 @@ module _ (s : List ℕ) (at : ℕ) where
   unfolding stepAt incomplete
   step-no-length h a = simp (lt-leb (length s) at h, lt-ltb (length s) (at + 2) a)
 
+  -- a length below 2 leaves no room for the kind
   pub step-no-kind : at + 2 ≤ length s → recordLength s at < 2 → stepAt s at ≡ Incomplete
   unfolding stepAt incomplete
   step-no-kind a b =
       let h : at < length s = omega arith in
       simp (lt-leb (length s) at h, le-ltb (length s) (at + 2) a, lt-ltb (recordLength s at) 2 b)
 
+  -- the record runs past the end
   pub step-no-body : at + 2 ≤ length s → 2 ≤ recordLength s at → length s < nextRecord s at → stepAt s at ≡ Incomplete
   unfolding stepAt incomplete
   step-no-body a b c =
       let h : at < length s = omega arith in
       simp (lt-leb (length s) at h, le-ltb (length s) (at + 2) a, le-ltb (recordLength s at) 2 b, lt-ltb (length s) (nextRecord s at) c)
 
+  -- a record that ends within the bytes
   pub step-record : at + 2 ≤ length s → 2 ≤ recordLength s at → nextRecord s at ≤ length s
       → stepAt s at ≡ Record (recordKind s at) (recordLength s at) (nextRecord s at)
   unfolding stepAt incomplete
@@ -65,12 +69,14 @@ step-whole true b k l n k′ l′ n′ e = record { begun = cc; whole = cc; kind
 step-whole false true k l n k′ l′ n′ e = record { begun = cc; whole = cc; kind-is = cc; length-is = cc; next-is = cc }
 step-whole false false k l n k′ l′ n′ e = record { begun = refl; whole = refl; kind-is = cc; length-is = cc; next-is = cc }
 
+-- nothing stands here: the offset is at the end or past it
 pub end-past : (s : List ℕ) (at : ℕ) → stepAt s at ≡ End → length s ≤ at
 unfolding stepAt
 end-past s at e =
     leb-true (length s) at
     (step-ended (leb (length s) at) (incomplete s at) (recordKind s at) (recordLength s at) (nextRecord s at) e)
 
+-- an incomplete record stands here: it has fault 1
 pub incomplete-at : (s : List ℕ) (at : ℕ) → stepAt s at ≡ Incomplete → (at < length s) × (incomplete s at ≡ true)
 unfolding stepAt
 incomplete-at s at e =
@@ -85,6 +91,7 @@ pub record StandsAt (s : List ℕ) (at kind size next : ℕ) : Type 0 where
   pub length-is : size ≡ recordLength s at
   pub next-is : next ≡ nextRecord s at
 
+-- a record stands here: its kind, length and end are those of the bytes
 pub record-stands : (s : List ℕ) (at kind size next : ℕ) → stepAt s at ≡ Record kind size next → StandsAt s at kind size next
 unfolding stepAt
 record-stands s at kind size next e =

@@ -4,7 +4,7 @@ use mathlib.Core.Path.{_≡_, sym, ap, _∙_}
 use Rattle.schedule.specs.Cells.{positions}
 use Rattle.filing.specs.Verdict.{Verdict, accepted, refused, monthsVerdict, columnsVerdict, totalVerdict, contentsVerdict}
 use Rattle.filing.specs.Answers.{verdictOf}
-use Rattle.filing.proofs.ConditionLaws.{months-passed, months-refused, columns-passed, columns-refused}
+use Rattle.filing.proofs.ConditionLaws.{months-condition, columns-condition, condition-passed, condition-refused}
 use borrow.Author.Needs.{needs}
 use Rattle.filing.proofs.conditions.check_contents.Statement.{statement}
 use Rattle.filing.proofs.conditions.check_contents.Tie as tie
@@ -25,13 +25,13 @@ after-months : (c : tie.Else1)
     → contentsVerdict (c .before .before .before .args .k)
     ≡ columnsVerdict (c .before .before .before .args .k) (totalVerdict (c .before .before .before .args .k))
 unfolding contentsVerdict
-after-months c = months-passed (c .before .before .before .args .k) _ (sym (months-number (c .before)) ∙ c .if1 .left)
+after-months c = condition-passed _ (months-condition (c .before .before .before .args .k)) _ (sym (months-number (c .before)) ∙ c .if1 .left)
 
 returns : tie.Need-returns
 unfolding contentsVerdict
 returns c =
     c .before .before .check-months .ensures
-    ∙ months-refused (c .before .before .before .args .k) _ (λ e. c .if1 .taken (months-number (c .before) ∙ e))
+    ∙ condition-refused _ (months-condition (c .before .before .before .args .k)) _ (λ e. c .if1 .taken (months-number (c .before) ∙ e))
 
 check-columns-requires : tie.Need-check-columns-requires
 check-columns-requires c κs = search needs
@@ -51,12 +51,12 @@ after-columns : (c : tie.Else2)
     ≡ totalVerdict (c .before .before .before .before .before .before .args .k)
 after-columns c =
     after-months (c .before .before .before)
-    ∙ columns-passed (c .before .before .before .before .before .before .args .k) _ (sym (columns-number (c .before)) ∙ c .if2 .left)
+    ∙ condition-passed _ (columns-condition (c .before .before .before .before .before .before .args .k)) _ (sym (columns-number (c .before)) ∙ c .if2 .left)
 
 returns-2 : tie.Need-returns-2
 returns-2 c =
     c .before .before .check-columns .ensures
-    ∙ columns-refused (c .before .before .before .before .before .before .args .k) _ (λ e. c .if2 .taken (columns-number (c .before) ∙ e))
+    ∙ condition-refused _ (columns-condition (c .before .before .before .before .before .before .args .k)) _ (λ e. c .if2 .taken (columns-number (c .before) ∙ e))
     ∙ sym (after-months (c .before .before .before))
 
 total-differs-requires : tie.Need-total-differs-requires
