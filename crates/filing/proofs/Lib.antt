@@ -11,7 +11,11 @@ pub mod AcceptedLaws
 pub mod Controls
 pub mod ScanLaws
 pub mod ScanStateLaws
+pub mod VisitLaws
+pub mod WalkLaws
+pub mod ReaderLaws
 pub mod ContentsLaws
 pub mod ConditionLaws
 pub mod BalanceLaws
 pub mod ReadLaws
+pub mod AnswerLaws

@@ -7,6 +7,7 @@ pub mod Contents
 pub mod Conditions
 pub mod Verdict
 pub mod Answers
+pub mod Scans
 pub mod Balances
 pub mod Readings
 pub mod Valid

@@ -3,7 +3,6 @@ use crate::Answer;
 use crate::Contents;
 use crate::answers::number;
 ghost use mathlib.Core.Path.{_≡_};
-ghost use mathlib.Core.Bool.{Bool};
 ghost use Prim.Native.Nat.{_<_, _≤_};
 ghost use Rattle.lists.specs.Sums.{sum};
 ghost use Rattle.schedule.specs.Cells.{positions, positionAt};

@@ -35,10 +35,3 @@ impl<'a> Reader<'a> {
         }
     }
 }
-
-// What stands first in a filing.
-pub fn first_step(s: &[u8]) -> Step
-    ensures { λ t. ⌜ t ≡ stepAt (now (s .entry)) 0 ⌝ }
-{
-    Reader::new(s).step()
-}

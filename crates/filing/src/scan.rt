@@ -3,52 +3,90 @@ use crate::Answer;
 use crate::Step;
 use crate::answers::number;
 use crate::faults::check_record;
-use crate::records::record_at;
+use crate::reader::Reader;
 use crate::records::record_cell;
 ghost use mathlib.Core.Path.{_≡_};
 ghost use Rattle.filing.specs.Records.{recordKind};
 ghost use Rattle.filing.specs.Offsets.{recordPlace, offsetsBefore};
 ghost use Rattle.filing.specs.Faults.{faultNumber};
 ghost use Rattle.filing.specs.Verdict.{firstFaulty};
+ghost use Rattle.filing.specs.Steps.{stepAt};
 ghost use Rattle.filing.specs.Answers.{verdictOf, recordsVerdict};
+ghost use Rattle.filing.specs.Scans.{scanStart, Visited};
 
-// The answer on the records, with the offset of the first record of each cell and sheet before the first faulty one: the input's length
-// where there is none.
+// The answer on the records read, with the offset of the first record of each cell and sheet among them: the input's length where there is
+// none. The records before `at` are read, and `going` says that the next one is to be read.
 pub struct Scanned {
     pub answer: Answer,
     pub first: [usize; 65],
+    pub at: usize,
+    pub going: bool,
 }
 
-// Reads the records up to the first faulty one, each once.
+// Reads the records up to the first faulty one, each once: a reader moves over them.
 pub fn scan(s: &[u8]) -> Scanned
-    ensures { λ r. ⌜ verdictOf (r .answer) ≡ recordsVerdict (now (s .entry)) ⌝ }
-    ensures { λ r. ⌜ r .first ≡ offsetsBefore (now (s .entry)) (firstFaulty (now (s .entry))) ⌝ }
+    ensures { λ r. ⌜ (verdictOf (r .answer) ≡ recordsVerdict (now (s .entry)))
+        × (r .first ≡ offsetsBefore (now (s .entry)) (firstFaulty (now (s .entry)))) ⌝ }
 {
-    let mut first = [s.len(); 65];
-    let mut at = 0;
-    loop {
-        let step = record_at(s, at);
-        match step {
-            Step::End => {
+    let mut reader = Reader::new(s);
+    let mut scanned = start(s.len());
+    while scanned.going {
+        let step = reader.step();
+        scanned = visit(s, step, scanned);
+        reader = reader.moved(scanned.at);
+    }
+    scanned
+}
+
+// Before the first record.
+fn start(size: usize) -> Scanned
+    ensures { λ r. ⌜ r ≡ scanStart size ⌝ }
+{
+    Scanned {
+        answer: Answer::Accepted,
+        first: [size; 65],
+        at: 0,
+        going: true,
+    }
+}
+
+// One record more: what stands at the offset reached, after the records before it.
+fn visit(s: &[u8], step: Step, scanned: Scanned) -> Scanned
+    requires { ⌜ (scanned .first ≡ offsetsBefore (now s) (scanned .at)) × (step ≡ stepAt (now s) (scanned .at)) ⌝ }
+    ensures { λ r. ⌜ Visited (now (s .entry)) (scanned .first) (scanned .at) r ⌝ }
+{
+    let at = scanned.at;
+    let mut first = scanned.first;
+    match step {
+        Step::End => Scanned {
+            answer: Answer::Accepted,
+            first,
+            at,
+            going: false,
+        },
+        Step::Incomplete => Scanned {
+            answer: Answer::RecordIncomplete(at),
+            first,
+            at,
+            going: false,
+        },
+        Step::Record { kind, length, next } => {
+            let answer = check_record(s, at, kind, length, &first);
+            if number(answer) != 0 {
                 return Scanned {
-                    answer: Answer::Accepted,
+                    answer,
                     first,
+                    at,
+                    going: false,
                 };
             }
-            Step::Incomplete => {
-                return Scanned {
-                    answer: Answer::RecordIncomplete(at),
-                    first,
-                };
-            }
-            Step::Record { kind, length, next } => {
-                let answer = check_record(s, at, kind, length, &first);
-                if number(answer) != 0 {
-                    return Scanned { answer, first };
-                }
-                let place = record_place(s, at, kind);
-                first[place] = at;
-                at = next;
+            let place = record_place(s, at, kind);
+            first[place] = at;
+            Scanned {
+                answer,
+                first,
+                at: next,
+                going: true,
             }
         }
     }

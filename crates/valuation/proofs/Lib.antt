@@ -6,3 +6,4 @@ pub mod PromiseLaws
 pub mod TotalLaws
 pub mod ListLaws
 pub mod NumberLaws
+pub mod CallLaws

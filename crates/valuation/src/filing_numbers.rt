@@ -3,7 +3,7 @@ use crate::list::write_numbers;
 use crate::place_values::values_of;
 use filing::Contents;
 use shares::SubBalance;
-use shares::split::places_of;
+use shares::places::places_of;
 use withdrawal::tiers::house;
 ghost use mathlib.Core.Path.{_≡_};
 ghost use mathlib.Core.List.{_++_};

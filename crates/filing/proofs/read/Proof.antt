@@ -2,13 +2,12 @@
 -- Assumes nothing.
 use Prim.Native.Nat.{ℕ, _<_}
 use native.Mathlib.Omega.{arith}
-use mathlib.Core.Path.{_≡_, refl, sym, ap, _∙_}
+use mathlib.Core.Path.{_≡_, sym, ap, _∙_}
 use mathlib.Core.List.{List}
 use borrow.Author.Needs.{needs}
 use lib.Dec.{lit<}
 use lib.ListN.{length, getD}
 use Rattle.filing.specs.declared.Reading.{Reading}
-use Rattle.filing.specs.declared.Contents.{Contents}
 use Rattle.filing.specs.declared.Answer.{Answer}
 use Rattle.filing.specs.declared.Answer.the-variants.{SheetMissing}
 use Rattle.filing.specs.Contents.{sheetOffset, contentsOf}

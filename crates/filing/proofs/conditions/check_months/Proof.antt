@@ -3,7 +3,6 @@
 use Prim.Native.Nat.{_-_}
 use native.Mathlib.Omega.{arith}
 use mathlib.Core.Path.{sym, ap, _∙_}
-use borrow.Author.Needs.{needs}
 use Rattle.filing.specs.Verdict.{accepted, refused}
 use Rattle.filing.specs.Answers.{verdictOf}
 use Rattle.filing.proofs.ConditionLaws.{Untested, tests-start, tests-here, tests-next, tests-done, monthsTest, monthsRefusal, months-tests, position-is}

@@ -4,7 +4,6 @@ use Prim.Native.Nat.{ℕ, _-_}
 use native.Mathlib.Omega.{arith}
 use mathlib.Core.Logic.{⊎-elim}
 use mathlib.Core.Path.{_≡_, sym, ap, _∙_}
-use borrow.Author.Needs.{needs}
 use Rattle.schedule.specs.Cells.{positionAt}
 use Rattle.filing.specs.Contents.{cell}
 use Rattle.filing.proofs.ConditionLaws.{PositionIs, position-is}

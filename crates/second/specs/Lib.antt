@@ -1,0 +1,4 @@
+pub mod Whole
+pub mod Bytes
+pub mod Cells
+pub mod Pricing
