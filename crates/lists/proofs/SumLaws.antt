@@ -2,18 +2,12 @@
 use Prim.Native.Nat.{ℕ, zero, suc, _+_, _*_, _≤_, _<_}
 use mathlib.Core.Path.{_≡_, refl}
 use mathlib.Core.Bool.{Bool, true, false, cond, not}
-use mathlib.Core.List.{List, [], _∷_, _++_}
+use mathlib.Core.List.{List, [], _∷_}
 use native.Mathlib.Nat.{suc-add, lt-suc-self, lt-trans}
 use native.Mathlib.Omega.{arith}
 use lib.ListN.{getD, take}
 use lib.Seq.{take-nil}
 use Rattle.lists.specs.Sums.{sum, sumWhere, everywhere}
-
--- the sum of two lists, one after the other
-pub sum-append : (xs ys : List ℕ) → sum (xs ++ ys) ≡ sum xs + sum ys
-unfolding sum
-sum-append [] ys = omega arith
-sum-append (x ∷ xs) ys = omega (arith, sum-append xs ys)
 
 -- an element is at most the sum
 pub sum-getD-le : (xs : List ℕ) (i : ℕ) → getD xs i 0 ≤ sum xs
