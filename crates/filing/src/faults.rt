@@ -1,4 +1,5 @@
-// The faults of one record: refusals 1 to 5, in the paper's order.
+// The faults of one complete record: refusals 2 to 5, in the paper's order. Refusal 1 is an incomplete record, which the step tells.
+// The noted offsets have the kinds of sheet at places 0 to 3 and cells 601 to 661 at places 4 to 64.
 use crate::Answer;
 use crate::records::record_cell;
 use crate::records::record_rate;
