@@ -18,7 +18,7 @@ use Rattle.filing.specs.declared.conditions.PositionCells.{PositionCells
 use Rattle.filing.specs.Contents.{cell}
 use Rattle.filing.specs.Conditions.{monthsOutside, aboveColumn}
 use Rattle.filing.specs.Verdict.{Verdict, accepted, refused, monthsVerdict, columnVerdict, columnsVerdict}
-use Rattle.filing.specs.Balances.{positionCells}
+use Rattle.filing.specs.Inner.Balances.{positionCells}
 
 -- an entry of the code's table of a function
 pub entry-of : (f : ℕ → ℕ) (n i : ℕ) → i < n → getD (tableFrom 0 n f) i 0 ≡ f i

@@ -15,7 +15,7 @@ use Rattle.lists.proofs.FillLaws.{Filled}
 use Rattle.filing.specs.declared.Contents.{Contents}
 use Rattle.filing.specs.Records.{recordValue, recordRate, firstWithKey}
 use Rattle.filing.specs.Contents.{cellOffset, cellValue, sheetOffset, contentsOf}
-use Rattle.filing.specs.Offsets.{offsetsBefore, cellsAt, contentsAt}
+use Rattle.filing.specs.Inner.Offsets.{offsetsBefore, cellsAt, contentsAt}
 use Rattle.filing.proofs.ByteLaws.{number-past}
 use Rattle.filing.proofs.OffsetLaws.{place-of-cell, place-of-kind, offsets-end}
 

@@ -10,7 +10,7 @@ ghost use Rattle.filing.specs.Contents.{cell};
 ghost use Rattle.filing.specs.Conditions.{monthsOutside, columnBalances, aboveColumn, totalDiffers};
 ghost use Rattle.filing.specs.Verdict.{accepted, monthsVerdict, columnsVerdict, contentsVerdict};
 ghost use Rattle.filing.specs.Answers.{verdictOf};
-ghost use Rattle.filing.specs.Balances.{positionCells, leftAfter};
+ghost use Rattle.filing.specs.Inner.Balances.{positionCells, leftAfter};
 
 // One of the nine positions: the cells of its balance and its WARM, its column, and the least and the most months of its row.
 pub struct PositionCells {

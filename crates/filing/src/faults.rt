@@ -13,7 +13,7 @@ ghost use mathlib.Core.Bool.{false};
 ghost use Prim.Native.Nat.{_≤_};
 ghost use Rattle.filing.specs.Records.{recordKind, recordLength};
 ghost use Rattle.filing.specs.Faults.{incomplete, misshapen, rateOver};
-ghost use Rattle.filing.specs.Offsets.{offsetsBefore};
+ghost use Rattle.filing.specs.Inner.Offsets.{offsetsBefore};
 ghost use Rattle.filing.specs.Answers.{verdictOf, recordVerdict};
 
 // The answer on a complete record, given its kind, its length and the offsets noted of the records before it.

@@ -12,7 +12,7 @@ ghost use Prim.Native.Nat.{_+_, _≤_, _<_};
 ghost use Rattle.schedule.specs.Cells.{positionAt};
 ghost use Rattle.filing.specs.Valid.{Valid};
 ghost use Rattle.shares.specs.SubBalances.{fourOf};
-ghost use Rattle.shares.specs.Rows.{columnSum};
+ghost use Rattle.shares.specs.Inner.Rows.{columnSum};
 ghost use Rattle.shares.specs.Places.{placesOf};
 
 // The thirty-six places of a filing: nine positions ascending, four places each.

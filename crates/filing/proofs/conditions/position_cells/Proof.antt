@@ -3,7 +3,7 @@
 use Prim.Native.Nat.{ℕ}
 use Rattle.lists.specs.Tables.{tableFrom}
 use Rattle.schedule.specs.Cells.{position, positions, positionAt, leastMonths, mostMonths}
-use Rattle.filing.specs.Balances.{positionCells}
+use Rattle.filing.specs.Inner.Balances.{positionCells}
 use Rattle.filing.proofs.ConditionLaws.{entry-of, position-cells-eq}
 use borrow.Author.Needs.{needs}
 use Rattle.filing.proofs.conditions.position_cells.Statement.{statement}

@@ -6,7 +6,7 @@ use mathlib.Core.Path.{_≡_, ap, _∙_}
 use borrow.Author.Needs.{needs}
 use lib.ListN.{getD}
 use Rattle.filing.specs.Records.{recordValue}
-use Rattle.filing.specs.Offsets.{cellsAt}
+use Rattle.filing.specs.Inner.Offsets.{cellsAt}
 use Rattle.lists.proofs.FillLaws.{Filled, fill-none, fill-more}
 use Rattle.filing.proofs.ContentsLaws.{filled-from}
 use Rattle.filing.proofs.decode.cell_values.Statement.{statement}

@@ -5,7 +5,7 @@ use mathlib.Core.Path.{_≡_, refl, sym, _∙_}
 use mathlib.Core.Logic.{⊎-elim}
 use native.Mathlib.Omega.{arith}
 use Rattle.lists.specs.Sums.{sumWhere}
-use Rattle.shares.specs.Rows.{columnSum}
+use Rattle.shares.specs.Inner.Rows.{columnSum}
 use Rattle.shares.proofs.RowLaws.{columnSum-in, columnSum-out}
 use Rattle.shares.proofs.places.column_sum.Statement.{statement}
 use Rattle.shares.proofs.places.column_sum.Tie as tie
