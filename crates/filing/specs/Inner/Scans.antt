@@ -9,7 +9,7 @@ use Rattle.filing.specs.declared.Answer.the-variants.{Accepted}
 use Rattle.filing.specs.declared.scan.Scanned.{Scanned}
 use Rattle.filing.specs.Records.{nextRecord}
 use Rattle.filing.specs.Faults.{faultNumber}
-use Rattle.filing.specs.Offsets.{recordPlace}
+use Rattle.filing.specs.Inner.Offsets.{recordPlace}
 use Rattle.filing.specs.Verdict.{accepted}
 use Rattle.filing.specs.Answers.{verdictOf, recordVerdict}
 

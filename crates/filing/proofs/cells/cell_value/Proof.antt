@@ -3,8 +3,8 @@
 use borrow.Author.Needs.{needs}
 use mathlib.Core.Path.{refl}
 use Rattle.filing.specs.Contents.{cell}
-use Rattle.filing.proofs.conditions.cell_value.Statement.{statement}
-use Rattle.filing.proofs.conditions.cell_value.Tie as tie
+use Rattle.filing.proofs.cells.cell_value.Statement.{statement}
+use Rattle.filing.proofs.cells.cell_value.Tie as tie
 
 sub-i : tie.Need-sub-i
 sub-i c = search needs
