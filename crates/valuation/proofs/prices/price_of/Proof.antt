@@ -12,11 +12,11 @@ use Rattle.valuation.proofs.prices.price_of.Statement.{statement}
 use Rattle.valuation.proofs.prices.price_of.Tie as tie
 
 abbrev Inv-loop : tie.InvT-loop
-Inv-loop d tiers lower upper first growth servicing months low₀ high₀ t₀ low high t =
-    (t ≤ d .months) × (low ≡ runBy down (termsOf (tierTable tiers) d) (listed lower first) t) × (high ≡ runBy up (termsOf (tierTable tiers) d) (listed upper first) t)
+Inv-loop d tiers lower upper scenario growth servicing months low₀ high₀ t₀ low high t =
+    (t ≤ d .months) × (low ≡ runBy down (termsOf (tierTable tiers) d) (listed lower scenario) t) × (high ≡ runBy up (termsOf (tierTable tiers) d) (listed upper scenario) t)
 
 abbrev μ-loop : tie.MeasureT-loop
-μ-loop d tiers lower upper first growth servicing months low₀ high₀ t₀ low high t = d .months - t
+μ-loop d tiers lower upper scenario growth servicing months low₀ high₀ t₀ low high t = d .months - t
 
 mul-growth : tie.Need-mul-growth Inv-loop μ-loop
 mul-growth c = omega (arith, c .before .pre .0 .0 .coupon-le)
@@ -33,6 +33,9 @@ add-month-survival c = omega arith
 month-survival-requires : tie.Need-month-survival-requires Inv-loop μ-loop
 month-survival-requires c κs = (c .before .before .before .before .pre .0 .1, omega arith)
 
+mul-i : tie.Need-mul-i Inv-loop μ-loop
+mul-i c = omega arith
+
 add-i : tie.Need-add-i Inv-loop μ-loop
 add-i c = omega arith
 
@@ -47,7 +50,7 @@ element-copy-out-next-month c = omega arith
 
 next-month-requires : tie.Need-next-month-requires Inv-loop μ-loop
 next-month-requires c κs =
-    month-small down (tierTable (c .before .before .before .before .before .before .args .tiers)) (c .before .before .before .before .before .before .args .d) (c .before .before .before .before .before .before .args .lower .now) (c .before .before .before .before .before .before .args .first) (c .before .before .before .loop .t) (c .before .before .before .before .servicing-cost .result)
+    month-small down (tierTable (c .before .before .before .before .before .before .args .tiers)) (c .before .before .before .before .before .before .args .d) (c .before .before .before .before .before .before .args .lower .now) (c .before .before .before .before .before .before .args .scenario) (c .before .before .before .loop .t) (c .before .before .before .before .servicing-cost .result)
     (c .before .month-survival .result) _ (c .before .before .before .loop .low) (c .before .before .before .before .servicing-cost .ensures) (c .before .month-survival .ensures)
     refl (c .before .before .before .loop .inv .1) (c .before .before .before .before .before .before .pre .0 .0) (c .before .before .before .before .before .before .pre .1 .0) (c .before .before .loop-test .taken)
 
@@ -59,7 +62,7 @@ element-copy-out-next-month-2 c = omega arith
 
 next-month-requires-2 : tie.Need-next-month-requires-2 Inv-loop μ-loop
 next-month-requires-2 c κs =
-    month-small up (tierTable (c .before .before .before .before .before .before .before .before .args .tiers)) (c .before .before .before .before .before .before .before .before .args .d) (c .before .before .before .before .before .before .before .before .args .upper .now) (c .before .before .before .before .before .before .before .before .args .first) (c .before .before .before .before .before .loop .t) (c .before .before .before .before .before .before .servicing-cost .result)
+    month-small up (tierTable (c .before .before .before .before .before .before .before .before .args .tiers)) (c .before .before .before .before .before .before .before .before .args .d) (c .before .before .before .before .before .before .before .before .args .upper .now) (c .before .before .before .before .before .before .before .before .args .scenario) (c .before .before .before .before .before .loop .t) (c .before .before .before .before .before .before .servicing-cost .result)
     (c .before .before .before .month-survival .result) _ (c .before .before .before .before .before .loop .high) (c .before .before .before .before .before .before .servicing-cost .ensures) (c .before .before .before .month-survival .ensures)
     refl (c .before .before .before .before .before .loop .inv .2) (c .before .before .before .before .before .before .before .before .pre .0 .0) (c .before .before .before .before .before .before .before .before .pre .1 .1) (c .before .before .before .before .loop-test .taken)
 
@@ -74,11 +77,11 @@ unfolding roundingOf
 loop-again c = (
   omega arith,
   (c .before .before .next-month .ensures ∙
-      month-on down (tierTable (c .before .before .before .before .before .before .before .before .before .args .tiers)) (c .before .before .before .before .before .before .before .before .before .args .d) (c .before .before .before .before .before .before .before .before .before .args .lower .now) (c .before .before .before .before .before .before .before .before .before .args .first) (c .before .before .before .before .before .before .loop .t) (c .before .before .before .before .before .before .before .servicing-cost .result)
+      month-on down (tierTable (c .before .before .before .before .before .before .before .before .before .args .tiers)) (c .before .before .before .before .before .before .before .before .before .args .d) (c .before .before .before .before .before .before .before .before .before .args .lower .now) (c .before .before .before .before .before .before .before .before .before .args .scenario) (c .before .before .before .before .before .before .loop .t) (c .before .before .before .before .before .before .before .servicing-cost .result)
       (c .before .before .before .before .month-survival .result) _ (c .before .before .before .before .before .before .loop .low) (c .before .before .before .before .before .before .before .servicing-cost .ensures) (c .before .before .before .before .month-survival .ensures)
       refl (c .before .before .before .before .before .before .loop .inv .1)),
   (c .next-month2 .ensures ∙
-      month-on up (tierTable (c .before .before .before .before .before .before .before .before .before .args .tiers)) (c .before .before .before .before .before .before .before .before .before .args .d) (c .before .before .before .before .before .before .before .before .before .args .upper .now) (c .before .before .before .before .before .before .before .before .before .args .first) (c .before .before .before .before .before .before .loop .t) (c .before .before .before .before .before .before .before .servicing-cost .result)
+      month-on up (tierTable (c .before .before .before .before .before .before .before .before .before .args .tiers)) (c .before .before .before .before .before .before .before .before .before .args .d) (c .before .before .before .before .before .before .before .before .before .args .upper .now) (c .before .before .before .before .before .before .before .before .before .args .scenario) (c .before .before .before .before .before .before .loop .t) (c .before .before .before .before .before .before .before .servicing-cost .result)
       (c .before .before .before .before .month-survival .result) _ (c .before .before .before .before .before .before .loop .high) (c .before .before .before .before .before .before .before .servicing-cost .ensures) (c .before .before .before .before .month-survival .ensures)
       refl (c .before .before .before .before .before .before .loop .inv .2)),
 )
@@ -100,6 +103,7 @@ price-of-spec =
     loop-holds
     add-month-survival
     month-survival-requires
+    mul-i
     add-i
     add-last
     mul-next-month
