@@ -1,12 +1,11 @@
 -- A division by an unchanging number is a multiplication and a division by a power of 2. Assumes nothing.
-use Prim.Native.Nat.{ℕ, zero, suc, _+_, _*_, _-_, _/_, _%_, _^_, _≤_, _<_}
-use mathlib.Core.Path.{_≡_, refl, sym, ap, _∙_}
+use Prim.Native.Nat.{ℕ, suc, _+_, _*_, _/_, _%_, _^_, _≤_, _<_}
+use mathlib.Core.Path.{_≡_, refl, ap, _∙_}
 use mathlib.Core.List.{List}
-use lib.Dec.{lit<}
 use lib.ListN.{getD, replicate}
-use native.Mathlib.Nat.{le-trans, le-antisymm, mul-le-mul, mul-le-mul-right, lt-of-mul-lt-mul-right, le-of-suc-le-suc, div-add-mod'}
+use native.Mathlib.Nat.{le-antisymm, mul-le-mul, mul-le-mul-right, lt-of-mul-lt-mul-right, le-of-suc-le-suc, div-add-mod'}
 use native.Mathlib.Omega.{arith}
-use Rattle.lists.specs.Tables.{tableFrom, table}
+use Rattle.lists.specs.Tables.{tableFrom}
 use Rattle.lists.proofs.TableLaws.{table-getD, table-ext, table-le}
 use Rattle.pricing.specs.Rounding.{Rounding, down, up, quotient}
 use Rattle.pricing.specs.Run.{discountBy}

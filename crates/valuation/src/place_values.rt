@@ -12,7 +12,7 @@ use shares::positions::cell_value;
 use shares::positions::column_at;
 use withdrawal::WithdrawalTiers;
 ghost use mathlib.Core.Path.{_≡_};
-ghost use Prim.Native.Nat.{_*_, _≤_, _<_, max};
+ghost use Prim.Native.Nat.{_≤_, _<_, max};
 ghost use Rattle.schedule.specs.Shift.{shiftedRate};
 ghost use Rattle.filing.specs.Contents.{retailRate};
 ghost use Rattle.filing.specs.Valid.{Valid};

@@ -6,7 +6,7 @@ use pricing::months::next_month;
 use withdrawal::WithdrawalTiers;
 use withdrawal::month_survival;
 ghost use mathlib.Core.Path.{_≡_};
-ghost use Prim.Native.Nat.{_+_, _<_, _≤_};
+ghost use Prim.Native.Nat.{_+_, _<_};
 ghost use Rattle.withdrawal.specs.MonthSurvival.{accountOf};
 ghost use Rattle.withdrawal.specs.TierArrays.{tierTable, Usable};
 ghost use Rattle.valuation.specs.DepositTerms.{servicingCost};
