@@ -6,4 +6,5 @@ pub mod PaymentLaws
 pub mod DiscountLaws
 pub mod WidthLaws
 pub mod LimitLaws
+pub mod MultiplierLaws
 pub mod RunLaws

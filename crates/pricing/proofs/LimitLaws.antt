@@ -87,10 +87,6 @@ outflow-product-limit k b t h ρ =
     factor : {a : ℕ} (q : ℕ) → a ≤ 175000 → a + 10 ^ 9 - q ≤ 1000175000
     factor q ha = omega arith
 
--- df × 120,000
-pub discount-product-limit : (z n : ℕ) → z ≤ 2800 → (ρ : Rounding) → discountBy ρ z n * 120000 + (120000 + z) < 2 ^ 64
-discount-product-limit z n h ρ = omega (arith, discount-limit z n ρ)
-
 -- flow × df
 pub flow-product-limit : (k : Terms) (z : ℕ → ℕ) → Bounded k → (t : ℕ) → t < k .months → (ρ : Rounding)
     → flowBy ρ k t * discountFactorBy ρ z (suc t) + 10 ^ 9 < 2 ^ 64

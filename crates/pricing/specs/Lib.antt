@@ -2,5 +2,6 @@ pub mod Terms
 pub mod Exact
 pub mod Rounding
 pub mod Run
+pub mod Multipliers
 pub mod Bounded
 pub mod Month

@@ -1,4 +1,5 @@
 pub mod TermsLaws
+pub mod FactorLaws
 pub mod PriceLaws
 pub mod PlaceValueLaws
 pub mod ValueLaws

@@ -54,18 +54,16 @@ either-le false h = zero-le
 pub factors-at-most-par : (ρ : Rounding) (yields : List ℕ) (longest : ℕ) → AtMostPar (factorsBy ρ yields longest)
 unfolding factorsBy factorAt
 factors-at-most-par ρ yields longest =
-    table-le 0 840 (factorAt ρ yields longest) (10 ^ 9) (λ j l u. either-le (ltb (j % 120) longest) (discount-limit _ (suc (j % 120)) ρ))
+    table-le 0 840 (factorAt ρ yields longest) (10 ^ 9) (λ j l u. either-le (ltb (j / 7) longest) (discount-limit _ (suc (j / 7)) ρ))
 
 -- the factor of scenario s and month t + 1 in the list, within the longest term
-factor-is : (ρ : Rounding) (k : Contents) (longest scenario t : ℕ) → scenario < 7 → t < 120 → t < longest
-    → listed (factorsBy ρ (k .yields) longest) (120 * scenario) (suc t) ≡ discountFactorBy ρ (monthYield k scenario) (suc t)
+factor-is : (ρ : Rounding) (k : Contents) (longest scenario t : ℕ) → scenario < 7 → t < 120 → t < longest → listed (factorsBy ρ (k .yields) longest) scenario (suc t) ≡ discountFactorBy ρ (monthYield k scenario) (suc t)
 unfolding listed factorsBy factorAt discountFactorBy monthYield cdYield
 factor-is ρ k longest scenario t hs ht hl =
-    let at : 120 * scenario + (suc t - 1) ≡ 120 * scenario + t = omega arith in
-    let month : (120 * scenario + t) % 120 ≡ t = omega arith in
-    let number : (120 * scenario + t) / 120 ≡ scenario = omega arith in
     let before : suc t - 1 ≡ t = omega arith in
-    rw (at, table-getD 840 (factorAt ρ (k .yields) longest) (120 * scenario + t) 0 (omega arith), month, number, lt-ltb t longest hl, before)
+    let number : (7 * t + scenario) % 7 ≡ scenario = omega arith in
+    let month : (7 * t + scenario) / 7 ≡ t = omega arith in
+    rw (before, table-getD 840 (factorAt ρ (k .yields) longest) (7 * t + scenario) 0 (omega arith), month, number, lt-ltb t longest hl)
 
 -- a place's term is at most the longest
 longest-le : (ps : List SubBalance) (n i : ℕ) → i < n → termOf (getD ps i noBalance) ≤ longestTo ps n
@@ -89,10 +87,10 @@ months-le-longest k place h pos = le-trans held (longest-le (placesOf k) 36 plac
 
 -- the price by the list is the price by the yields
 price-is : (ρ : Rounding) (k : Contents) → Valid k → (scenario place : ℕ) → scenario < 7 → place < 36 → 0 < balanceAt k place
-    → listedPrice ρ (filingTiers k) (depositAt k scenario place) (factorsBy ρ (k .yields) (longestTerm (placesOf k))) (120 * scenario) ≡ priceBy ρ (termsAt k scenario place) (monthYield k scenario)
+    → listedPrice ρ (filingTiers k) (depositAt k scenario place) (factorsBy ρ (k .yields) (longestTerm (placesOf k))) scenario ≡ priceBy ρ (termsAt k scenario place) (monthYield k scenario)
 unfolding listedPrice priceBy termsAt depositAt termsOf
 price-is ρ k v scenario place hs hp pos =
-    run-ext ρ (termsOf (filingTiers k) (depositAt k scenario place)) (listed (factorsBy ρ (k .yields) (longestTerm (placesOf k))) (120 * scenario))
+    run-ext ρ (termsOf (filingTiers k) (depositAt k scenario place)) (listed (factorsBy ρ (k .yields) (longestTerm (placesOf k))) scenario)
     (discountFactorBy ρ (monthYield k scenario)) (monthsAt k place)
     (λ t l. factor-is ρ k (longestTerm (placesOf k)) scenario t hs (lt-of-lt-of-le l (months-limit k v place hp)) (lt-of-lt-of-le l (months-le-longest k place hp pos)))
 
@@ -102,18 +100,17 @@ no-value ρ balance x y e = rw e (quotient-zero ρ x (10 ^ 6) (lit< tt) ∙ sym 
 
 -- the value by the list is the value of the place
 pub place-value : (ρ : Rounding) (k : Contents) → Valid k → (scenario place : ℕ) → scenario < 7 → place < 36
-    → listedValue ρ (balanceAt k place) (filingTiers k) (depositAt k scenario place) (factorsBy ρ (k .yields) (longestTerm (placesOf k))) (120 * scenario) ≡ valueAt ρ k scenario place
+    → listedValue ρ (balanceAt k place) (filingTiers k) (depositAt k scenario place) (factorsBy ρ (k .yields) (longestTerm (placesOf k))) scenario ≡ valueAt ρ k scenario place
 unfolding listedValue valueAt valueBy
 place-value ρ k v scenario place hs hp =
     ⊎-elim (no-value ρ (balanceAt k place) _ _) (λ pos. rw (price-is ρ k v scenario place hs hp pos))
     (eq-zero-or-pos (balanceAt k place))
 
 -- lower and upper value of a place, from what the code has in hand
-pub values-are : (k : Contents) → Valid k → (scenario place : ℕ) → scenario < 7 → place < 36
-    → (b : ℕ) (tiers : TierTable) (d : Deposit) (lower upper : List ℕ) (r : Bounds)
+pub values-are : (k : Contents) → Valid k → (scenario place : ℕ) → scenario < 7 → place < 36 → (b : ℕ) (tiers : TierTable) (d : Deposit) (lower upper : List ℕ) (r : Bounds)
     → b ≡ balanceAt k place → tiers ≡ filingTiers k → d ≡ depositAt k scenario place
     → lower ≡ factorsBy down (k .yields) (longestTerm (placesOf k)) → upper ≡ factorsBy up (k .yields) (longestTerm (placesOf k))
-    → r ≡ listedValues b tiers d lower upper (120 * scenario)
+    → r ≡ listedValues b tiers d lower upper scenario
     → (r .lower ≡ valueAt down k scenario place) × (r .upper ≡ valueAt up k scenario place)
 unfolding listedValues
 values-are k v scenario place hs hp b tiers d lower upper r eb et ed el eu er =
@@ -133,7 +130,6 @@ values-within ρ k v =
     (omega (arith, mul-le-mul (balanceAt-limit k v (j % 36) (omega arith)) (price-limit (termsAt k (j / 36) (j % 36)) (monthYield k (j / 36)) (terms-bounded k v (j / 36) (j % 36) (omega arith)) ρ))))
 
 -- the 568 numbers from the lists that the code has in hand
-pub numbers-are : (k : Contents) (ps : List SubBalance) (balances lower upper : List ℕ) → ps ≡ placesOf k → balances ≡ balancesIn ps
-    → lower ≡ valuesBy down k → upper ≡ valuesBy up k
+pub numbers-are : (k : Contents) (ps : List SubBalance) (balances lower upper : List ℕ) → ps ≡ placesOf k → balances ≡ balancesIn ps → lower ≡ valuesBy down k → upper ≡ valuesBy up k
     → table numberCount (numberIn balances lower upper) ≡ numbers k
 numbers-are k ps balances lower upper ep eb el eu = rw (eb, ep, balances-are k, el, eu) (numbers-listed k)

@@ -31,12 +31,12 @@ longestTerm ps = longestTo ps subBalanceCount
 
 -- the value of a balance, dollars, at the price of a deposit with discount factors from a list
 unfoldable pub listedValue : Rounding → ℕ → TierTable → Deposit → List ℕ → ℕ → ℕ
-listedValue ρ balance tiers d factors first = quotient ρ (balance * listedPrice ρ tiers d factors first) (10 ^ 6)
+listedValue ρ balance tiers d factors scenario = quotient ρ (balance * listedPrice ρ tiers d factors scenario) (10 ^ 6)
 
 -- lower value by lower factors, upper value by upper factors
 unfoldable pub listedValues : ℕ → TierTable → Deposit → List ℕ → List ℕ → ℕ → Bounds
-listedValues balance tiers d lower upper first =
-    record { lower = listedValue down balance tiers d lower first; upper = listedValue up balance tiers d upper first }
+listedValues balance tiers d lower upper scenario =
+    record { lower = listedValue down balance tiers d lower scenario; upper = listedValue up balance tiers d upper scenario }
 
 -- the balances of the thirty-six places
 unfoldable pub balancesIn : List SubBalance → List ℕ

@@ -2,7 +2,7 @@
 use crate::Bounds;
 use crate::Deposit;
 use crate::Values;
-use crate::factors::discount_factors;
+use crate::factors::factor_table;
 use crate::prices::price_of;
 use filing::Contents;
 use filing::cells::cell_value;
@@ -12,7 +12,7 @@ use schedule::scenarios::Scenario;
 use shares::SubBalance;
 use withdrawal::WithdrawalTiers;
 ghost use mathlib.Core.Path.{_≡_};
-ghost use Prim.Native.Nat.{_*_, _≤_, _<_, max};
+ghost use Prim.Native.Nat.{_≤_, _<_, max};
 ghost use Rattle.schedule.specs.Shift.{shiftedRate};
 ghost use Rattle.filing.specs.Contents.{retailRate};
 ghost use Rattle.filing.specs.Valid.{Valid};
@@ -33,8 +33,8 @@ pub fn values_of(k: Contents, places: [SubBalance; 36], tiers: WithdrawalTiers) 
 {
     let yields = k.yields;
     let longest = longest_term(places);
-    let low_factors = discount_factors(&yields, longest, false);
-    let high_factors = discount_factors(&yields, longest, true);
+    let low_factors = factor_table(&yields, longest, false);
+    let high_factors = factor_table(&yields, longest, true);
     let mut lower = [0u64; 252];
     let mut upper = [0u64; 252];
     let mut i: usize = 0;
@@ -69,12 +69,12 @@ fn value_bounds(
 ) -> Bounds
     requires { ⌜ (balance ≤ 999999999) × DepositLimits d × Usable tiers × (scenario < 7) ⌝ }
     requires { ⌜ AtMostPar (now lower) × AtMostPar (now upper) ⌝ }
-    ensures { λ r. ⌜ r ≡ listedValues balance (tierTable tiers) d (now (lower .entry)) (now (upper .entry)) (120 * scenario) ⌝ }
+    ensures { λ r. ⌜ r ≡ listedValues balance (tierTable tiers) d (now (lower .entry)) (now (upper .entry)) scenario ⌝ }
 {
     if balance == 0 {
         return Bounds { lower: 0, upper: 0 };
     }
-    let price = price_of(d, tiers, lower, upper, 120 * scenario);
+    let price = price_of(d, tiers, lower, upper, scenario);
     Bounds {
         lower: value_of(balance, price.lower, false),
         upper: value_of(balance, price.upper, true),

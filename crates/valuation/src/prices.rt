@@ -6,23 +6,23 @@ use pricing::months::next_month;
 use withdrawal::WithdrawalTiers;
 use withdrawal::month_survival;
 ghost use mathlib.Core.Path.{_≡_};
-ghost use Prim.Native.Nat.{_+_, _≤_};
+ghost use Prim.Native.Nat.{_+_, _<_};
 ghost use Rattle.withdrawal.specs.MonthSurvival.{accountOf};
 ghost use Rattle.withdrawal.specs.TierArrays.{tierTable, Usable};
 ghost use Rattle.valuation.specs.DepositTerms.{servicingCost};
 ghost use Rattle.valuation.specs.Deposits.{listedPrices, DepositLimits, AtMostPar};
 
-// Lower and upper price in billionths. Month 1's discount factors stand at place `first`.
+// Lower and upper price in billionths. Seven discount factors stand for each month, one for each scenario.
 pub fn price_of(
     d: Deposit,
     tiers: WithdrawalTiers,
     lower: &[u64; 840],
     upper: &[u64; 840],
-    first: usize,
+    scenario: usize,
 ) -> Bounds
-    requires { ⌜ DepositLimits d × Usable tiers × (first ≤ 720) ⌝ }
+    requires { ⌜ DepositLimits d × Usable tiers × (scenario < 7) ⌝ }
     requires { ⌜ AtMostPar (now lower) × AtMostPar (now upper) ⌝ }
-    ensures { λ r. ⌜ r ≡ listedPrices (tierTable tiers) d (now (lower .entry)) (now (upper .entry)) first ⌝ }
+    ensures { λ r. ⌜ r ≡ listedPrices (tierTable tiers) d (now (lower .entry)) (now (upper .entry)) scenario ⌝ }
 {
     let growth = 25000 * d.coupon;
     let servicing = servicing_cost(d.brokered);
@@ -50,7 +50,7 @@ pub fn price_of(
         );
         let survival = month.survival;
         tier = month.tier;
-        let i = first + t as usize;
+        let i = 7 * t as usize + scenario;
         let last = t + 1 == months;
         low = next_month(low, growth, servicing, survival, lower[i], last, false);
         high = next_month(high, growth, servicing, survival, upper[i], last, true);

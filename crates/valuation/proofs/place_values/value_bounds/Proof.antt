@@ -17,9 +17,6 @@ unfolding listedValue listedValues
 returns c =
     rw (c .if1 .taken, quotient-zero down _ (10 ^ 6) (lit< tt), quotient-zero up _ (10 ^ 6) (lit< tt))
 
-mul-price-of : tie.Need-mul-price-of
-mul-price-of c = search needs
-
 price-of-requires : tie.Need-price-of-requires
 price-of-requires c κs = search needs
 
@@ -44,7 +41,6 @@ value-bounds-spec =
     tie.close
     (tie.spec
     returns
-    mul-price-of
     price-of-requires
     value-of-requires
     value-of-requires-2

@@ -26,11 +26,11 @@ abbrev μ-loop : tie.MeasureT-loop
 longest-term-requires : tie.Need-longest-term-requires Inv-loop μ-loop
 longest-term-requires c κs = tt
 
-discount-factors-requires : tie.Need-discount-factors-requires Inv-loop μ-loop
-discount-factors-requires c κs = let s = c .before .before .before in yields-within (s .args .k) (s .pre .0 .0)
+factor-table-requires : tie.Need-factor-table-requires Inv-loop μ-loop
+factor-table-requires c κs = let s = c .before .before .before in yields-within (s .args .k) (s .pre .0 .0)
 
-discount-factors-requires-2 : tie.Need-discount-factors-requires-2 Inv-loop μ-loop
-discount-factors-requires-2 c κs = let s = c .before .before .before .before .before in yields-within (s .args .k) (s .pre .0 .0)
+factor-table-requires-2 : tie.Need-factor-table-requires-2 Inv-loop μ-loop
+factor-table-requires-2 c κs = let s = c .before .before .before .before .before in yields-within (s .args .k) (s .pre .0 .0)
 
 loop-holds : tie.Need-loop-holds Inv-loop μ-loop
 loop-holds c = (omega arith, fill-none _ 0 0 252, fill-none _ 0 0 252)
@@ -53,7 +53,7 @@ value-bounds-requires c κs =
     let s = c .before .before .before .before .before .before .before .before .before .before .before .before in
     let at = c .before .before .before .before .before .loop .i % 36 in (
       (rw (s .pre .0 .1, place-is (s .args .k) at (omega arith)) (balanceAt-limit (s .args .k) (s .pre .0 .0) at (omega arith)), c .before .before .deposit-of .ensures .1, s .pre .1 .1, omega arith),
-      (rw (c .before .before .before .before .before .before .before .before .discount-factors .ensures) (factors-at-most-par _ _ _), rw (c .before .before .before .before .before .before .discount-factors2 .ensures) (factors-at-most-par _ _ _)),
+      (rw (c .before .before .before .before .before .before .before .before .factor-table .ensures) (factors-at-most-par _ _ _), rw (c .before .before .before .before .before .before .factor-table2 .ensures) (factors-at-most-par _ _ _)),
     )
 
 mul-lower : tie.Need-mul-lower Inv-loop μ-loop
@@ -84,8 +84,8 @@ loop-again c =
     let at : l .i % 36 < 36 = omega arith in
     let v = values-are k (s .pre .0 .0) (l .i / 36) (l .i % 36) (omega arith) at _ (tierTable (s .args .tiers)) _ _ _ (c .value-bounds .result)
     (rw (s .pre .0 .1, place-is k (l .i % 36) at)) (s .pre .1 .0) (c .before .before .before .deposit-of .ensures .0)
-    (c .before .before .before .before .before .before .before .before .before .discount-factors .ensures ∙ ap (λ (n : ℕ). factorsBy down (k .yields) n) longest)
-    (c .before .before .before .before .before .before .before .discount-factors2 .ensures ∙ ap (λ (n : ℕ). factorsBy up (k .yields) n) longest) (c .value-bounds .ensures) in
+    (c .before .before .before .before .before .before .before .before .before .factor-table .ensures ∙ ap (λ (n : ℕ). factorsBy down (k .yields) n) longest)
+    (c .before .before .before .before .before .before .before .factor-table2 .ensures ∙ ap (λ (n : ℕ). factorsBy up (k .yields) n) longest) (c .value-bounds .ensures) in
     (omega arith, fill-more (λ (j : ℕ). valueAt down k (j / 36) (j % 36)) 0 252 (l .i) (l .lower) _ (omega arith) (v .0) (l .inv .1), fill-more (λ (j : ℕ). valueAt up k (j / 36) (j % 36)) 0 252 (l .i) (l .upper) _ (omega arith) (v .1) (l .inv .2))
 
 returns : tie.Need-returns Inv-loop μ-loop
@@ -101,8 +101,8 @@ values-of-spec =
     Inv-loop
     μ-loop
     longest-term-requires
-    discount-factors-requires
-    discount-factors-requires-2
+    factor-table-requires
+    factor-table-requires-2
     loop-holds
     mul-place
     array-copy-out-place

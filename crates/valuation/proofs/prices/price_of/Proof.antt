@@ -13,12 +13,12 @@ use Rattle.valuation.proofs.prices.price_of.Statement.{statement}
 use Rattle.valuation.proofs.prices.price_of.Tie as tie
 
 abbrev Inv-loop : tie.InvT-loop
-Inv-loop d tiers lower upper first growth servicing months low₀ high₀ tier₀ t₀ low high tier t =
-    (t ≤ d .months) × (low ≡ runBy down (termsOf (tierTable tiers) d) (listed lower first) t) × (high ≡ runBy up (termsOf (tierTable tiers) d) (listed upper first) t)
+Inv-loop d tiers lower upper scenario growth servicing months low₀ high₀ tier₀ t₀ low high tier t =
+    (t ≤ d .months) × (low ≡ runBy down (termsOf (tierTable tiers) d) (listed lower scenario) t) × (high ≡ runBy up (termsOf (tierTable tiers) d) (listed upper scenario) t)
     × (tier ≤ tiers .count) × NoneUpTo tiers (d .coupon) (d .penalty) (d .rate) (d .months - t) tier
 
 abbrev μ-loop : tie.MeasureT-loop
-μ-loop d tiers lower upper first growth servicing months low₀ high₀ tier₀ t₀ low high tier t = d .months - t
+μ-loop d tiers lower upper scenario growth servicing months low₀ high₀ tier₀ t₀ low high tier t = d .months - t
 
 mul-growth : tie.Need-mul-growth Inv-loop μ-loop
 mul-growth c = omega (arith, c .before .pre .0 .0 .coupon-le)
@@ -38,6 +38,9 @@ month-survival-requires c κs =
     let l = c .before .loop in
     ((s .pre .0 .1, l .inv .3, λ m h1 h2. l .inv .4 m h1 (omega arith)), omega arith)
 
+mul-i : tie.Need-mul-i Inv-loop μ-loop
+mul-i c = omega arith
+
 add-i : tie.Need-add-i Inv-loop μ-loop
 add-i c = omega arith
 
@@ -52,7 +55,7 @@ element-copy-out-next-month c = omega arith
 
 next-month-requires : tie.Need-next-month-requires Inv-loop μ-loop
 next-month-requires c κs =
-    month-small down (tierTable (c .before .before .before .before .before .before .args .tiers)) (c .before .before .before .before .before .before .args .d) (c .before .before .before .before .before .before .args .lower .now) (c .before .before .before .before .before .before .args .first) (c .before .before .before .loop .t) (c .before .before .before .before .servicing-cost .result)
+    month-small down (tierTable (c .before .before .before .before .before .before .args .tiers)) (c .before .before .before .before .before .before .args .d) (c .before .before .before .before .before .before .args .lower .now) (c .before .before .before .before .before .before .args .scenario) (c .before .before .before .loop .t) (c .before .before .before .before .servicing-cost .result)
     (c .before .month-survival .result .survival) _ (c .before .before .before .loop .low) (c .before .before .before .before .servicing-cost .ensures) (c .before .month-survival .ensures .0)
     refl (c .before .before .before .loop .inv .1) (c .before .before .before .before .before .before .pre .0 .0) (c .before .before .before .before .before .before .pre .1 .0) (c .before .before .loop-test .taken)
 
@@ -64,7 +67,7 @@ element-copy-out-next-month-2 c = omega arith
 
 next-month-requires-2 : tie.Need-next-month-requires-2 Inv-loop μ-loop
 next-month-requires-2 c κs =
-    month-small up (tierTable (c .before .before .before .before .before .before .before .before .args .tiers)) (c .before .before .before .before .before .before .before .before .args .d) (c .before .before .before .before .before .before .before .before .args .upper .now) (c .before .before .before .before .before .before .before .before .args .first) (c .before .before .before .before .before .loop .t) (c .before .before .before .before .before .before .servicing-cost .result)
+    month-small up (tierTable (c .before .before .before .before .before .before .before .before .args .tiers)) (c .before .before .before .before .before .before .before .before .args .d) (c .before .before .before .before .before .before .before .before .args .upper .now) (c .before .before .before .before .before .before .before .before .args .scenario) (c .before .before .before .before .before .loop .t) (c .before .before .before .before .before .before .servicing-cost .result)
     (c .before .before .before .month-survival .result .survival) _ (c .before .before .before .before .before .loop .high) (c .before .before .before .before .before .before .servicing-cost .ensures) (c .before .before .before .month-survival .ensures .0)
     refl (c .before .before .before .before .before .loop .inv .2) (c .before .before .before .before .before .before .before .before .pre .0 .0) (c .before .before .before .before .before .before .before .before .pre .1 .1) (c .before .before .before .before .loop-test .taken)
 
@@ -83,10 +86,10 @@ loop-again c =
     let month = c .before .before .before .before .month-survival in (
       omega arith,
       c .before .before .next-month .ensures ∙
-          month-on down (tierTable (a .tiers)) (a .d) (a .lower .now) (a .first) (l .t) (cost .result) (month .result .survival) _ (l .low) (cost .ensures) (month .ensures .0)
+          month-on down (tierTable (a .tiers)) (a .d) (a .lower .now) (a .scenario) (l .t) (cost .result) (month .result .survival) _ (l .low) (cost .ensures) (month .ensures .0)
           refl (l .inv .1),
       c .next-month2 .ensures ∙
-          month-on up (tierTable (a .tiers)) (a .d) (a .upper .now) (a .first) (l .t) (cost .result) (month .result .survival) _ (l .high) (cost .ensures) (month .ensures .0)
+          month-on up (tierTable (a .tiers)) (a .d) (a .upper .now) (a .scenario) (l .t) (cost .result) (month .result .survival) _ (l .high) (cost .ensures) (month .ensures .0)
           refl (l .inv .2),
       month .ensures .1 .0,
       month .ensures .1 .1,
@@ -109,6 +112,7 @@ price-of-spec =
     loop-holds
     add-month-survival
     month-survival-requires
+    mul-i
     add-i
     add-last
     mul-next-month
