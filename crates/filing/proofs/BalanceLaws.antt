@@ -18,7 +18,7 @@ use Rattle.filing.specs.declared.Contents.{Contents}
 use Rattle.filing.specs.declared.conditions.Left.the-variants.{Amount, Short}
 use Rattle.filing.specs.Contents.{cell}
 use Rattle.filing.specs.Conditions.{columnBalances, balances, aboveColumn, totalDiffers}
-use Rattle.filing.specs.Balances.{leftAfter}
+use Rattle.filing.specs.Inner.Balances.{leftAfter}
 
 -- the balances of those of some positions that are in a column
 unfoldable pub sumIn : Contents → ℕ → List Position → ℕ

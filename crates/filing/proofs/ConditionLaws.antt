@@ -8,9 +8,6 @@ use mathlib.Core.Path.{_≡_, refl, sym, ap, _∙_}
 use mathlib.Core.Bool.{Bool, true, false, cond, not}
 use borrow.Author.Tests.{leb-true, leb-false, lt-ltb, le-ltb, le-leb, lt-leb, eq-eqb, ne-eqb}
 use lib.Dec.{leb, ltb, lit<}
-use lib.ListN.{getD}
-use Rattle.lists.specs.Tables.{tableFrom}
-use Rattle.lists.proofs.TableLaws.{table-getD}
 use Rattle.schedule.specs.Cells.{Position, position, positions, positionAt, leastMonths, mostMonths, withinRow, brokeredCell, penaltyBalanceCell}
 use Rattle.schedule.proofs.CellLaws.{balance-cell, months-cell}
 use Rattle.filing.specs.declared.Contents.{Contents}
@@ -18,17 +15,7 @@ use Rattle.filing.specs.declared.conditions.PositionCells.{PositionCells
 use Rattle.filing.specs.Contents.{cell}
 use Rattle.filing.specs.Conditions.{monthsOutside, aboveColumn}
 use Rattle.filing.specs.Verdict.{Verdict, accepted, refused, monthsVerdict, columnVerdict, columnsVerdict}
-use Rattle.filing.specs.Balances.{positionCells}
-
--- an entry of the code's table of a function
-pub entry-of : (f : ℕ → ℕ) (n i : ℕ) → i < n → getD (tableFrom 0 n f) i 0 ≡ f i
-entry-of f n i h = table-getD n f i 0 h
-
--- a position's cells are equal where their parts are
-pub position-cells-eq : {a a′ b b′ c c′ d d′ e e′ : ℕ} → a ≡ a′ → b ≡ b′ → c ≡ c′ → d ≡ d′ → e ≡ e′
-    → _≡_ {A = PositionCells} (record { balance = a; months = b; column = c; least = d; most = e })
-    (record { balance = a′; months = b′; column = c′; least = d′; most = e′ })
-position-cells-eq p q r u v = rw (p, q, r, u, v)
+use Rattle.filing.specs.Inner.Balances.{positionCells}
 
 -- the parts of a position's cells, and where the cells lie
 pub record PositionIs (i : ℕ) (p : PositionCells) : Type 0 where

@@ -1,59 +1,29 @@
--- Tables filled one entry at a time, and the contents read from the noted offsets.
+-- The contents read from the noted offsets are what the filing says.
 -- Assumes nothing.
 use Prim.Native.Nat.{ℕ, zero, suc, _+_, _-_, _≤_, _<_}
 use native.Mathlib.Omega.{arith}
 use mathlib.Core.Path.{_≡_, refl, sym, ap, _∙_}
 use mathlib.Core.Bool.{Bool, true, false, cond}
 use mathlib.Core.List.{List}
-use borrow.Author.Tests.{eqb-true, eqb-false, ltb-false}
-use lib.Dec.{ltb, eqb, lit<}
-use lib.ListN.{length, getD, set, length-set}
-use lib.Seq.{getD-set-same, getD-set-other, ext-getD}
+use borrow.Author.Tests.{ltb-false}
+use lib.Dec.{ltb, lit<}
+use lib.ListN.{length, getD}
+use lib.Seq.{ext-getD}
 use Rattle.lists.specs.Tables.{tableFrom}
 use Rattle.lists.proofs.TableLaws.{tableFrom-getD, table-length}
+use Rattle.lists.proofs.FillLaws.{Filled}
 use Rattle.filing.specs.declared.Contents.{Contents}
 use Rattle.filing.specs.Records.{recordValue, recordRate, firstWithKey}
 use Rattle.filing.specs.Contents.{cellOffset, cellValue, sheetOffset, contentsOf}
-use Rattle.filing.specs.Offsets.{offsetsBefore, cellsAt, contentsAt}
+use Rattle.filing.specs.Inner.Offsets.{offsetsBefore, cellsAt, contentsAt}
 use Rattle.filing.proofs.ByteLaws.{number-past}
 use Rattle.filing.proofs.OffsetLaws.{place-of-cell, place-of-kind, offsets-end}
 
--- the first i of n entries are those of the function from `base` on
-pub record Filled (base n : ℕ) (f : ℕ → ℕ) (l : List ℕ) (i : ℕ) : Type 0 where
-  pub size : length l ≡ n
-  pub within : i ≤ n
-  pub entry : (k : ℕ) → k < i → getD l k 0 ≡ f (base + k)
-
--- nothing filled yet
-pub filled-none : (base n : ℕ) (f : ℕ → ℕ) (l : List ℕ) → length l ≡ n → Filled base n f l 0
-filled-none base n f l e = record { size = e; within = omega arith; entry = λ k h. absurd (omega arith) }
-
--- entry k of a list of which the first i are filled, with entry i set to v
-set-entry : (f : ℕ → ℕ) (l : List ℕ) (base i v k : ℕ) (b : Bool) → eqb k i ≡ b → i < length l → v ≡ f (base + i) → k < i + 1
-    → ((j : ℕ) → j < i → getD l j 0 ≡ f (base + j))
-    → getD (set l i v) k 0 ≡ f (base + k)
-set-entry f l base i v k true q h e u filled =
-    let same = eqb-true k i q in
-    rw same (getD-set-same l i v 0 h ∙ e)
-set-entry f l base i v k false q h e u filled =
-    let other = eqb-false k i q in
-    getD-set-other l i k v 0 other ∙ filled k (omega arith)
-
--- one entry more
-pub filled-more : (base n : ℕ) (f : ℕ → ℕ) (l : List ℕ) (i v : ℕ) → Filled base n f l i → i < n → v ≡ f (base + i)
-    → Filled base n f (set l i v) (i + 1)
-filled-more base n f l i v filled h e =
-    record {
-      size = length-set l i v ∙ filled .size;
-      within = omega arith;
-      entry = λ k u. set-entry f l base i v k (eqb k i) refl (omega (arith, filled .size)) e u (filled .entry);
-    }
-
--- all entries
-pub filled-all : (base n : ℕ) (f : ℕ → ℕ) (l : List ℕ) (i : ℕ) → Filled base n f l i → n ≤ i → l ≡ tableFrom base n f
-filled-all base n f l i filled h =
-    ext-getD 0 l (tableFrom base n f) (filled .size ∙ sym (table-length base n f))
-    (λ k u. filled .entry k (omega (arith, filled .size)) ∙ sym (tableFrom-getD base n f k 0 (omega (arith, filled .size))))
+-- a list that is filled with the values of a function from `base` on is its table from there
+pub filled-from : (base n : ℕ) (f : ℕ → ℕ) (l : List ℕ) → Filled (λ (i : ℕ). f (base + i)) 0 n n l → l ≡ tableFrom base n f
+filled-from base n f l filled =
+    ext-getD 0 l (tableFrom base n f) (filled .long ∙ sym (table-length base n f))
+    (λ i h. filled .holds i (omega (arith, filled .long)) ∙ sym (tableFrom-getD base n f i 0 (omega (arith, filled .long))))
 
 -- contents are equal where their parts are
 pub contents-eq : {a a′ b b′ c c′ : List ℕ} → a ≡ a′ → b ≡ b′ → c ≡ c′

@@ -15,7 +15,7 @@ use Rattle.lists.specs.Tables.{tableFrom}
 use Rattle.lists.proofs.TableLaws.{tableFrom-getD, table-length}
 use Rattle.filing.specs.Records.{recordKind, recordCell, nextRecord, searchRecords, firstRecord, cellKey, kindKey, recordKey, firstWithKey}
 use Rattle.filing.specs.Faults.{repeated}
-use Rattle.filing.specs.Offsets.{offsetBefore, placeKey, recordPlace, offsetsBefore}
+use Rattle.filing.specs.Inner.Offsets.{offsetBefore, placeKey, recordPlace, offsetsBefore}
 use Rattle.filing.proofs.ClassLaws.{class-listed}
 use Rattle.filing.proofs.FaultLaws.{Faultless}
 use Rattle.filing.proofs.RecordVerdictLaws.{shaped-kind, cell-unlisted, cell-key, sheet-key}

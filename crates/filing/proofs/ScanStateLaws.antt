@@ -12,7 +12,7 @@ use lib.Dec.{eqb}
 use lib.ListN.{length, set, replicate}
 use Rattle.filing.specs.Records.{nextRecord}
 use Rattle.filing.specs.Faults.{faultNumber}
-use Rattle.filing.specs.Offsets.{recordPlace, offsetsBefore}
+use Rattle.filing.specs.Inner.Offsets.{recordPlace, offsetsBefore}
 use Rattle.filing.specs.Verdict.{Verdict, accepted, refused, firstFaulty}
 use Rattle.filing.specs.Answers.{recordVerdict, recordsVerdict}
 use Rattle.filing.proofs.FaultLaws.{faultless, complete-ends}

@@ -11,7 +11,7 @@ use lib.ListN.{length}
 use Rattle.filing.specs.declared.Step.the-variants.{Record, Incomplete, End}
 use Rattle.filing.specs.Records.{recordLength, recordKind, nextRecord}
 use Rattle.filing.specs.Faults.{incomplete}
-use Rattle.filing.specs.Steps.{stepAt}
+use Rattle.filing.specs.Inner.Steps.{stepAt}
 
 module _ (s : List ℕ) (at : ℕ) where
   -- nothing stands at the end or past it

@@ -12,11 +12,11 @@ use Rattle.filing.specs.declared.Answer.{Answer}
 use Rattle.filing.specs.declared.Answer.the-variants.{Accepted}
 use Rattle.filing.specs.Records.{nextRecord}
 use Rattle.filing.specs.Faults.{faultNumber}
-use Rattle.filing.specs.Offsets.{recordPlace}
+use Rattle.filing.specs.Inner.Offsets.{recordPlace}
 use Rattle.filing.specs.Verdict.{accepted}
 use Rattle.filing.specs.Answers.{verdictOf, recordVerdict}
 use Rattle.filing.specs.declared.scan.Scanned.{Scanned}
-use Rattle.filing.specs.Scans.{scanStart, soundAt, Visited}
+use Rattle.filing.specs.Inner.Scans.{scanStart, soundAt, Visited}
 use Rattle.filing.proofs.ScanLaws.{next-lt}
 use Rattle.filing.proofs.ScanStateLaws.{Scanning, Scanned as ScanEnd, scanning-start, scanning-next, scanning-faulty, scanning-done}
 

@@ -1,13 +1,10 @@
 pub mod Bytes
 pub mod Records
 pub mod Faults
-pub mod Steps
-pub mod Offsets
 pub mod Contents
 pub mod Conditions
 pub mod Verdict
 pub mod Answers
-pub mod Scans
-pub mod Balances
 pub mod Readings
 pub mod Valid
+pub mod Inner

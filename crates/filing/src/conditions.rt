@@ -2,15 +2,20 @@
 use crate::Answer;
 use crate::Contents;
 use crate::answers::number;
+use crate::cells::cell_value;
+use schedule::positions::balance_cell;
+use schedule::positions::column_of;
+use schedule::positions::least_months;
+use schedule::positions::months_cell;
+use schedule::positions::most_months;
 ghost use mathlib.Core.Path.{_≡_};
 ghost use Prim.Native.Nat.{_<_, _≤_};
 ghost use Rattle.lists.specs.Sums.{sum};
 ghost use Rattle.schedule.specs.Cells.{positions, positionAt};
-ghost use Rattle.filing.specs.Contents.{cell};
 ghost use Rattle.filing.specs.Conditions.{monthsOutside, columnBalances, aboveColumn, totalDiffers};
 ghost use Rattle.filing.specs.Verdict.{accepted, monthsVerdict, columnsVerdict, contentsVerdict};
 ghost use Rattle.filing.specs.Answers.{verdictOf};
-ghost use Rattle.filing.specs.Balances.{positionCells, leftAfter};
+ghost use Rattle.filing.specs.Inner.Balances.{positionCells, leftAfter};
 
 // One of the nine positions: the cells of its balance and its WARM, its column, and the least and the most months of its row.
 pub struct PositionCells {
@@ -144,19 +149,10 @@ fn position_cells(i: usize) -> PositionCells
     ensures { λ r. ⌜ r ≡ positionCells (positionAt i) ⌝ }
 {
     PositionCells {
-        balance: [601, 602, 603, 615, 616, 617, 631, 632, 641][i],
-        months: [608, 609, 610, 622, 623, 624, 636, 637, 644][i],
-        column: [1, 2, 3, 1, 2, 3, 2, 3, 3][i],
-        least: [1, 1, 1, 4, 4, 4, 13, 13, 37][i],
-        most: [3, 3, 3, 12, 12, 12, 36, 36, 120][i],
+        balance: balance_cell(i),
+        months: months_cell(i),
+        column: column_of(i),
+        least: least_months(i),
+        most: most_months(i),
     }
-}
-
-// The value of a cell, 601 to 661.
-fn cell_value(k: Contents, n: usize) -> u64
-    requires { ⌜ (601 ≤ n) × (n ≤ 661) ⌝ }
-    ensures { λ r. ⌜ r ≡ cell k n ⌝ }
-{
-    let i = n - 601;
-    k.cells[i]
 }

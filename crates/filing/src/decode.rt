@@ -7,7 +7,7 @@ ghost use Prim.Native.Nat.{_≤_};
 ghost use lib.ListN.{length};
 ghost use Rattle.lists.specs.Tables.{tableFrom};
 ghost use Rattle.filing.specs.Records.{recordRate};
-ghost use Rattle.filing.specs.Offsets.{cellsAt, contentsAt};
+ghost use Rattle.filing.specs.Inner.Offsets.{cellsAt, contentsAt};
 
 // The cells, yields and rates at these offsets.
 pub fn contents_at(s: &[u8], first: &[usize; 65]) -> Contents

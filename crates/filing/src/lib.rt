@@ -2,6 +2,7 @@
 
 pub mod answers;
 mod bytes;
+pub mod cells;
 mod conditions;
 mod decode;
 mod faults;

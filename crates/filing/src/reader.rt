@@ -2,7 +2,7 @@
 use crate::Step;
 use crate::records::record_at;
 ghost use mathlib.Core.Path.{_≡_};
-ghost use Rattle.filing.specs.Steps.{stepAt};
+ghost use Rattle.filing.specs.Inner.Steps.{stepAt};
 
 // The bytes of a filing, and the offset of the record that the reader stands at.
 pub struct Reader<'a> {

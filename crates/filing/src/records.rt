@@ -5,7 +5,7 @@ ghost use mathlib.Core.Path.{_≡_};
 ghost use Prim.Native.Nat.{_+_, _≤_};
 ghost use Rattle.filing.specs.Bytes.{numberAt};
 ghost use Rattle.filing.specs.Records.{recordCell, recordValue, recordRate};
-ghost use Rattle.filing.specs.Steps.{stepAt};
+ghost use Rattle.filing.specs.Inner.Steps.{stepAt};
 
 // What stands at an offset.
 pub fn record_at(s: &[u8], at: usize) -> Step

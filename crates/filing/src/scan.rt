@@ -7,12 +7,12 @@ use crate::reader::Reader;
 use crate::records::record_cell;
 ghost use mathlib.Core.Path.{_≡_};
 ghost use Rattle.filing.specs.Records.{recordKind};
-ghost use Rattle.filing.specs.Offsets.{recordPlace, offsetsBefore};
+ghost use Rattle.filing.specs.Inner.Offsets.{recordPlace, offsetsBefore};
 ghost use Rattle.filing.specs.Faults.{faultNumber};
 ghost use Rattle.filing.specs.Verdict.{firstFaulty};
-ghost use Rattle.filing.specs.Steps.{stepAt};
+ghost use Rattle.filing.specs.Inner.Steps.{stepAt};
 ghost use Rattle.filing.specs.Answers.{verdictOf, recordsVerdict};
-ghost use Rattle.filing.specs.Scans.{scanStart, Visited};
+ghost use Rattle.filing.specs.Inner.Scans.{scanStart, Visited};
 
 // The answer on the records read, with the offset of the first record of each cell and sheet among them: the input's length where there is
 // none. The records before `at` are read, and `going` says that the next one is to be read.

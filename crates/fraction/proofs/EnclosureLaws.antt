@@ -13,7 +13,8 @@ unfolding whole
 whole-encloses n = record { positive = omega arith; below = omega arith; above = omega arith }
 
 -- x × m / d, with the lower end rounded down and the upper end rounded up
-pub scaled-encloses : {l u : ℕ} {x : Fraction} (m d lq uq : ℕ) → 0 < d → lq * d ≤ l * m → u * m ≤ uq * d → Encloses l x u → Encloses lq (scaled x m d) uq
+pub scaled-encloses : {l u : ℕ} {x : Fraction} (m d lq uq : ℕ) → 0 < d → lq * d ≤ l * m → u * m ≤ uq * d → Encloses l x u
+    → Encloses lq (scaled x m d) uq
 unfolding scaled
 scaled-encloses {l} {u} {x} m d lq uq pos hl hu e =
     record {
@@ -23,7 +24,8 @@ scaled-encloses {l} {u} {x} m d lq uq pos hl hu e =
     }
 
 -- x × y where y is enclosed on the scale k, with the lower end rounded down and the upper end rounded up. Both sides are taken times k
-pub product-encloses : {l u l′ u′ : ℕ} {x : Fraction} (y : Fraction) (k lq uq : ℕ) → 0 < k → lq * k ≤ l * l′ → u * u′ ≤ uq * k → Encloses l x u → Encloses l′ (scaled y k 1) u′ → Encloses lq (product x y) uq
+pub product-encloses : {l u l′ u′ : ℕ} {x : Fraction} (y : Fraction) (k lq uq : ℕ) → 0 < k → lq * k ≤ l * l′ → u * u′ ≤ uq * k
+    → Encloses l x u → Encloses l′ (scaled y k 1) u′ → Encloses lq (product x y) uq
 unfolding scaled product
 product-encloses {l} {u} {l′} {u′} {x} y k lq uq pos hl hu e f =
     let yd : 0 < y .denominator = omega (arith, f .positive) in
@@ -52,7 +54,8 @@ cond-encloses true e = e
 cond-encloses false e = whole-encloses 0
 
 -- sums over any places
-pub total-encloses : (test : ℕ → Bool) (l u : ℕ → ℕ) (x : ℕ → Fraction) (n : ℕ) → ((i : ℕ) → Encloses (l i) (x i) (u i)) → Encloses (sumWhere test l n) (totalWhere test x n) (sumWhere test u n)
+pub total-encloses : (test : ℕ → Bool) (l u : ℕ → ℕ) (x : ℕ → Fraction) (n : ℕ) → ((i : ℕ) → Encloses (l i) (x i) (u i))
+    → Encloses (sumWhere test l n) (totalWhere test x n) (sumWhere test u n)
 unfolding sumWhere totalWhere
 total-encloses test l u x zero h = whole-encloses 0
 total-encloses test l u x (suc n) h = plus-encloses (total-encloses test l u x n h) (cond-encloses (test n) (h n))

@@ -35,7 +35,8 @@ step k b t l u h =
     same = omega (arith, b .survival-limit (suc t))
 
 -- a month carries the distance w of balances and outflows together to `grown w`
-carry : (w l lf l′ lo u uf u′ uo : ℕ) → l ≤ u → lf ≤ uf → u′ + uo ≤ l′ + lo + grown (u - l) → u + uf ≤ l + lf + w → u′ + (uf + uo) ≤ l′ + (lf + lo) + grown w
+carry : (w l lf l′ lo u uf u′ uo : ℕ) → l ≤ u → lf ≤ uf → u′ + uo ≤ l′ + lo + grown (u - l) → u + uf ≤ l + lf + w
+    → u′ + (uf + uo) ≤ l′ + (lf + lo) + grown w
 unfolding grown
 carry w l lf l′ lo u uf u′ uo hl hf hs hw = omega (arith, grown-mono {d = u - l} {e = w} (omega arith))
 

@@ -11,7 +11,8 @@ use Rattle.pricing.specs.Run.{balanceBy, outflowBy, flowBy, discountBy, 
 use Rattle.pricing.proofs.RoundingLaws.{floor-le, ceiling-ge}
 
 -- x × m / d, floor below and ceiling above
-rounded-encloses : {l u : ℕ} {x : Fraction} (m d : ℕ) → 0 < d → Encloses l x u → Encloses (quotient down (l * m) d) (scaled x m d) (quotient up (u * m) d)
+rounded-encloses : {l u : ℕ} {x : Fraction} (m d : ℕ) → 0 < d → Encloses l x u
+    → Encloses (quotient down (l * m) d) (scaled x m d) (quotient up (u * m) d)
 rounded-encloses {l} {u} m d pos e =
     scaled-encloses m d (quotient down (l * m) d) (quotient up (u * m) d) pos (floor-le (l * m) d) (ceiling-ge (u * m) d pos) e
 
@@ -44,7 +45,8 @@ discount-encloses z (suc n) =
     scale-first (exactDiscount z n) 120000 (120000 + z) (10 ^ 9)
     (rounded-encloses 120000 (120000 + z) (omega arith) (discount-encloses z n))
 
-pub discounted-encloses : (k : Terms) (z : ℕ → ℕ) (t : ℕ) → Encloses (discountedBy down k (discountFactorBy down z) t) (exactPriceTo k z t) (discountedBy up k (discountFactorBy up z) t)
+pub discounted-encloses : (k : Terms) (z : ℕ → ℕ) (t : ℕ)
+    → Encloses (discountedBy down k (discountFactorBy down z) t) (exactPriceTo k z t) (discountedBy up k (discountFactorBy up z) t)
 unfolding discountedBy exactPriceTo discountFactorBy exactDiscountFactor
 discounted-encloses k z zero = whole-encloses 0
 discounted-encloses k z (suc t) =

@@ -60,7 +60,8 @@ discounted-le-payments k df hd (suc t) ρ =
     add-le-add (discounted-le-payments k df hd t ρ)
     (quotient-le ρ (flowBy ρ k t * df (suc t)) (10 ^ 9) (flowBy ρ k t) (lit< tt) (mul-le-mul-left (flowBy ρ k t) (hd (suc t))))
 
-pub discounted-limit : (k : Terms) (df : ℕ → ℕ) → ((t : ℕ) → df t ≤ 10 ^ 9) → Bounded k → (t : ℕ) → t ≤ k .months → (ρ : Rounding) → discountedBy ρ k df t ≤ 4533261346
+pub discounted-limit : (k : Terms) (df : ℕ → ℕ) → ((t : ℕ) → df t ≤ 10 ^ 9) → Bounded k → (t : ℕ) → t ≤ k .months → (ρ : Rounding)
+    → discountedBy ρ k df t ≤ 4533261346
 discounted-limit k df hd b t h ρ = le-trans (discounted-le-payments k df hd t ρ) (payments-limit k b t h ρ)
 
 pub price-limit : (k : Terms) (z : ℕ → ℕ) → Bounded k → (ρ : Rounding) → priceBy ρ k z ≤ 4533261346
@@ -69,7 +70,8 @@ price-limit k z b ρ =
     discounted-limit k (discountFactorBy ρ z) (λ t. discount-limit (z t) t ρ) b (k .months) (le-refl (k .months)) ρ
 
 -- The products of the run, each with the divisor that a ceiling adds. B × (25,000 c + 3 q):
-pub balance-product-limit : (k : Terms) → Bounded k → (t : ℕ) → t ≤ 120 → (ρ : Rounding) → balanceBy ρ k t * (k .growth + 3 * k .survival (suc t)) + 3 * 10 ^ 9 < 2 ^ 64
+pub balance-product-limit : (k : Terms) → Bounded k → (t : ℕ) → t ≤ 120 → (ρ : Rounding)
+    → balanceBy ρ k t * (k .growth + 3 * k .survival (suc t)) + 3 * 10 ^ 9 < 2 ^ 64
 balance-product-limit k b t h ρ =
     omega (arith, mul-le-mul (balance-limit k b t h ρ) (factor (b .growth-limit) (b .survival-limit (suc t))))
   where
@@ -77,7 +79,8 @@ balance-product-limit k b t h ρ =
     factor hg hq = omega arith
 
 -- B × (a + 10^9 - q)
-pub outflow-product-limit : (k : Terms) → Bounded k → (t : ℕ) → t ≤ 120 → (ρ : Rounding) → balanceBy ρ k t * (k .servicing + 10 ^ 9 - k .survival (suc t)) + 10 ^ 9 < 2 ^ 64
+pub outflow-product-limit : (k : Terms) → Bounded k → (t : ℕ) → t ≤ 120 → (ρ : Rounding)
+    → balanceBy ρ k t * (k .servicing + 10 ^ 9 - k .survival (suc t)) + 10 ^ 9 < 2 ^ 64
 outflow-product-limit k b t h ρ =
     omega (arith, mul-le-mul (balance-limit k b t h ρ) (factor (k .survival (suc t)) (b .servicing-limit)))
   where
@@ -85,11 +88,13 @@ outflow-product-limit k b t h ρ =
     factor q ha = omega arith
 
 -- flow × df
-pub flow-product-limit : (k : Terms) (z : ℕ → ℕ) → Bounded k → (t : ℕ) → t < k .months → (ρ : Rounding) → flowBy ρ k t * discountFactorBy ρ z (suc t) + 10 ^ 9 < 2 ^ 64
+pub flow-product-limit : (k : Terms) (z : ℕ → ℕ) → Bounded k → (t : ℕ) → t < k .months → (ρ : Rounding)
+    → flowBy ρ k t * discountFactorBy ρ z (suc t) + 10 ^ 9 < 2 ^ 64
 unfolding discountFactorBy
 flow-product-limit k z b t h ρ =
     omega (arith, mul-le-mul (flow-limit k b t h ρ) (discount-limit (z (suc t)) (suc t) ρ))
 
 -- balance × price
-pub value-product-limit : (balance : ℕ) (k : Terms) (z : ℕ → ℕ) → balance ≤ 999999999 → Bounded k → (ρ : Rounding) → balance * priceBy ρ k z + 10 ^ 6 < 2 ^ 64
+pub value-product-limit : (balance : ℕ) (k : Terms) (z : ℕ → ℕ) → balance ≤ 999999999 → Bounded k → (ρ : Rounding)
+    → balance * priceBy ρ k z + 10 ^ 6 < 2 ^ 64
 value-product-limit balance k z h b ρ = omega (arith, mul-le-mul h (price-limit k z b ρ))

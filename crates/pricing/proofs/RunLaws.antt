@@ -11,19 +11,23 @@ use Rattle.pricing.specs.Month.{runBy, nextBalance, nextFlow, nextRun, S
 use Rattle.pricing.proofs.LimitLaws.{balance-limit, discounted-limit}
 
 -- one month more
-pub run-suc : (ρ : Rounding) (k : Terms) (df : ℕ → ℕ) (t : ℕ) → nextRun ρ (k .growth) (k .servicing) (k .survival (suc t)) (df (suc t)) (eqb (suc t) (k .months)) (runBy ρ k df t) ≡ runBy ρ k df (suc t)
+pub run-suc : (ρ : Rounding) (k : Terms) (df : ℕ → ℕ) (t : ℕ)
+    → nextRun ρ (k .growth) (k .servicing) (k .survival (suc t)) (df (suc t)) (eqb (suc t) (k .months)) (runBy ρ k df t)
+    ≡ runBy ρ k df (suc t)
 unfolding runBy nextRun nextFlow nextBalance balanceBy outflowBy flowBy discountedBy
 run-suc ρ k df t = refl
 
 -- discount factors that agree over the months give the same run
-pub run-ext : (ρ : Rounding) (k : Terms) (df df′ : ℕ → ℕ) (n : ℕ) → ((t : ℕ) → t < n → df (suc t) ≡ df′ (suc t)) → discountedBy ρ k df n ≡ discountedBy ρ k df′ n
+pub run-ext : (ρ : Rounding) (k : Terms) (df df′ : ℕ → ℕ) (n : ℕ) → ((t : ℕ) → t < n → df (suc t) ≡ df′ (suc t))
+    → discountedBy ρ k df n ≡ discountedBy ρ k df′ n
 unfolding discountedBy
 run-ext ρ k df df′ zero h = refl
 run-ext ρ k df df′ (suc n) h =
     rw (run-ext ρ k df df′ n (λ t l. h t (lt-trans l (lt-suc-self n))), h n (lt-suc-self n))
 
 -- the sizes of a month, with discount factors of at most 10^9
-pub run-small : (ρ : Rounding) (k : Terms) (df : ℕ → ℕ) → Bounded k → ((t : ℕ) → df t ≤ 10 ^ 9) → (t : ℕ) → t < k .months → Small (runBy ρ k df t) (k .growth) (k .servicing) (k .survival (suc t)) (df (suc t))
+pub run-small : (ρ : Rounding) (k : Terms) (df : ℕ → ℕ) → Bounded k → ((t : ℕ) → df t ≤ 10 ^ 9) → (t : ℕ) → t < k .months
+    → Small (runBy ρ k df t) (k .growth) (k .servicing) (k .survival (suc t)) (df (suc t))
 unfolding runBy
 run-small ρ k df b hd t h =
     record {

@@ -49,7 +49,8 @@ unfolding discountedBy paymentsBy
 sum-width k z zero h = zero-le
 sum-width k z (suc t) h = omega (arith, sum-width k z t (le-of-suc-le h), month-width k z t h)
 
-last-width : (k : Terms) (z : ℕ → ℕ) → Bounded k → (t : ℕ) → suc t ≡ k .months → discountedBy up k (discountFactorBy up z) (suc t) ≤ discountedBy down k (discountFactorBy down z) (suc t) + 4000
+last-width : (k : Terms) (z : ℕ → ℕ) → Bounded k → (t : ℕ) → suc t ≡ k .months
+    → discountedBy up k (discountFactorBy up z) (suc t) ≤ discountedBy down k (discountFactorBy down z) (suc t) + 4000
 last-width k z b t e =
     omega
     (arith, sum-width k z (suc t) within, payments-last down k t e, payments-last up k t e, amount-width k b (suc t), amount-le k b (suc t), width-limit within, amount-limit within)
@@ -58,7 +59,8 @@ last-width k z b t e =
     within = omega (arith, b .months-limit)
 
 -- the same to the last month of a term within the limits, where all is paid: 1,254 + 4,533,261,346 × 120 / 10^9 + 240 < 4,000
-term-width : (k : Terms) (z : ℕ → ℕ) → Bounded k → (n : ℕ) → n ≡ k .months → discountedBy up k (discountFactorBy up z) n ≤ discountedBy down k (discountFactorBy down z) n + 4000
+term-width : (k : Terms) (z : ℕ → ℕ) → Bounded k → (n : ℕ) → n ≡ k .months
+    → discountedBy up k (discountFactorBy up z) n ≤ discountedBy down k (discountFactorBy down z) n + 4000
 unfolding discountedBy
 term-width k z b zero e = zero-le
 term-width k z b (suc t) e = last-width k z b t e

@@ -1,2 +1,3 @@
 // Schedule CMR: its cells, and the rate scenarios.
+pub mod positions;
 pub mod scenarios;

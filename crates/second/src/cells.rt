@@ -1,7 +1,6 @@
 // The cells of Schedule CMR that the valuation reads: nine balances, ascending, each with its WAC
 // (coupon), its WARM (remaining months), its column and the months of its row.
 ghost use mathlib.Core.Path.{_≡_};
-ghost use Prim.Native.Nat.{_<_};
 ghost use lib.ListN.{getD};
 ghost use Rattle.second.specs.Cells.{balances, wacs, warms};
 ghost use Rattle.second.specs.Cells.{columns, firstMonths, lastMonths, Limit};
@@ -19,47 +18,47 @@ const FIRST_MONTH: [u64; 9] = [1, 1, 1, 4, 4, 4, 13, 13, 37];
 const LAST_MONTH: [u64; 9] = [3, 3, 3, 12, 12, 12, 36, 36, 120];
 
 // What a table has for the k-th of the nine cells, from 0; 0 past the last.
-fn entry(table: [u64; 9], k: u64) -> u64
-    ensures { λ r. ⌜ (k < 9 → r ≡ getD table k 0) ⌝ }
+fn entry(table: &[u64], k: u64) -> u64
+    ensures { λ r. ⌜ r ≡ getD (now (table .entry)) k 0 ⌝ }
 {
     let i = k as usize;
-    if i < 9 { table[i] } else { 0 }
+    if i < table.len() { table[i] } else { 0 }
 }
 
 pub fn balance_cell(k: u64) -> u64
-    ensures { λ r. ⌜ (k < 9 → r ≡ getD balances k 0) ⌝ }
+    ensures { λ r. ⌜ r ≡ getD balances k 0 ⌝ }
 {
-    entry(BALANCE, k)
+    entry(&BALANCE, k)
 }
 
 pub fn wac_cell(k: u64) -> u64
-    ensures { λ r. ⌜ (k < 9 → r ≡ getD wacs k 0) ⌝ }
+    ensures { λ r. ⌜ r ≡ getD wacs k 0 ⌝ }
 {
-    entry(WAC, k)
+    entry(&WAC, k)
 }
 
 pub fn warm_cell(k: u64) -> u64
-    ensures { λ r. ⌜ (k < 9 → r ≡ getD warms k 0) ⌝ }
+    ensures { λ r. ⌜ r ≡ getD warms k 0 ⌝ }
 {
-    entry(WARM, k)
+    entry(&WARM, k)
 }
 
 pub fn column(k: u64) -> u64
-    ensures { λ r. ⌜ (k < 9 → r ≡ getD columns k 0) ⌝ }
+    ensures { λ r. ⌜ r ≡ getD columns k 0 ⌝ }
 {
-    entry(COLUMN, k)
+    entry(&COLUMN, k)
 }
 
 pub fn first_month(k: u64) -> u64
-    ensures { λ r. ⌜ (k < 9 → r ≡ getD firstMonths k 0) ⌝ }
+    ensures { λ r. ⌜ r ≡ getD firstMonths k 0 ⌝ }
 {
-    entry(FIRST_MONTH, k)
+    entry(&FIRST_MONTH, k)
 }
 
 pub fn last_month(k: u64) -> u64
-    ensures { λ r. ⌜ (k < 9 → r ≡ getD lastMonths k 0) ⌝ }
+    ensures { λ r. ⌜ r ≡ getD lastMonths k 0 ⌝ }
 {
-    entry(LAST_MONTH, k)
+    entry(&LAST_MONTH, k)
 }
 
 // The largest value that a filing may have in a cell; 0 for a cell that it may not have. Cells 604,

@@ -1,6 +1,7 @@
 // Why a filing is turned back: the number of the refusal and its place. Number 0 is none.
 ghost use mathlib.Core.Path.{_≡_};
 ghost use Prim.Native.Nat.{_<_, _≤_};
+ghost use Rattle.second.specs.Records.{overFrom, overAt};
 use crate::arith::add;
 use crate::arith::mul;
 use crate::bytes::quad;
@@ -90,7 +91,11 @@ fn record_fault(s: &[u8], at: u64) -> u64
     if found(s, at, kind, cell) < at {
         return 4;
     }
-    if is_over(s, at, kind, cell) { 5 } else { 0 }
+    if is_over(s, at, kind, limit(cell)) {
+        5
+    } else {
+        0
+    }
 }
 
 // The length of a record of a kind, 0 where the kind is unknown.
@@ -105,10 +110,12 @@ fn length_of(kind: u64) -> u64
     }
 }
 
-// Whether the record at `at` has a value over its limit.
-fn is_over(s: &[u8], at: u64, kind: u64, cell: u64) -> bool {
+// Whether the record at `at` has a value over its limit, which is `most` for a cell.
+fn is_over(s: &[u8], at: u64, kind: u64, most: u64) -> bool
+    ensures { λ r. ⌜ r ≡ overAt (now (s .entry)) at kind most ⌝ }
+{
     if kind == CELL {
-        return limit(cell) < quad(s, add(at, 6));
+        return most < quad(s, add(at, 6));
     }
     if kind == YIELDS {
         is_rate_over(s, add(at, 4), 120)
@@ -118,7 +125,9 @@ fn is_over(s: &[u8], at: u64, kind: u64, cell: u64) -> bool {
 }
 
 // Whether one of the `count` rates from `at` on is over 2,500.
-fn is_rate_over(s: &[u8], at: u64, count: u64) -> bool {
+fn is_rate_over(s: &[u8], at: u64, count: u64) -> bool
+    ensures { λ r. ⌜ r ≡ overFrom (now (s .entry)) at count 0 ⌝ }
+{
     for k in 0..count {
         if 2500 < word(s, add(at, mul(2, k))) {
             return true;

@@ -18,7 +18,7 @@ use Rattle.filing.specs.Conditions.{columnBalances}
 use Rattle.filing.specs.Valid.{Valid}
 use Rattle.shares.specs.Apportion.{shareBehind}
 use Rattle.shares.specs.SubBalances.{brokeredShares, penaltyShares, brokeredIn, retailIn, retailPenalized, brokeredPenalized, fourOf}
-use Rattle.shares.specs.Rows.{columnSum, accountShares, rowShares}
+use Rattle.shares.specs.Inner.Rows.{columnSum, accountShares, rowShares}
 use Rattle.shares.proofs.ApportionLaws.{apportion-getD}
 use Rattle.shares.proofs.PartLaws.{parts-sum, parts-above, parts-through-retail, retail-part, brokered-part}
 use Rattle.shares.proofs.SubBalanceLaws.{brokered-le, brokered-length, row-balance, column-range}

@@ -1,5 +1,5 @@
 pub mod Apportion
 pub mod SubBalances
-pub mod Rows
 pub mod Places
 pub mod Split
+pub mod Inner

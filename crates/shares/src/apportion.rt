@@ -2,7 +2,7 @@
 ghost use mathlib.Core.Path.{_≡_};
 ghost use Prim.Native.Nat.{_+_, _≤_};
 ghost use Rattle.shares.specs.Apportion.{cumulativeShare, shareBehind};
-ghost use Rattle.shares.specs.Rows.{rowShares};
+ghost use Rattle.shares.specs.Inner.Rows.{rowShares};
 
 // The four sub-balances of a row, from its column's sum, the sum of the rows above it, its balance, and the column's brokered and penalty balances.
 pub fn row_shares(total: u64, before: u64, balance: u64, brokered: u64, penalized: u64) -> [u64; 4]

@@ -2,17 +2,17 @@
 use crate::SubBalance;
 use crate::apportion::row_shares;
 use crate::positions::balance_at;
-use crate::positions::cell_value;
-use crate::positions::column_at;
 use crate::positions::coupon_at;
 use crate::positions::months_at;
 use filing::Contents;
+use filing::cells::cell_value;
+use schedule::positions::column_of;
 ghost use mathlib.Core.Path.{_≡_};
 ghost use Prim.Native.Nat.{_+_, _≤_, _<_};
 ghost use Rattle.schedule.specs.Cells.{positionAt};
 ghost use Rattle.filing.specs.Valid.{Valid};
 ghost use Rattle.shares.specs.SubBalances.{fourOf};
-ghost use Rattle.shares.specs.Rows.{columnSum};
+ghost use Rattle.shares.specs.Inner.Rows.{columnSum};
 ghost use Rattle.shares.specs.Places.{placesOf};
 
 // The thirty-six places of a filing: nine positions ascending, four places each.
@@ -62,7 +62,7 @@ fn four_of(k: Contents, i: usize) -> [u64; 4]
     requires { ⌜ Valid k × (i < 9) ⌝ }
     ensures { λ r. ⌜ r ≡ fourOf k (positionAt i) ⌝ }
 {
-    let column = column_at(i);
+    let column = column_of(i);
     let total = column_sum(k, column, 9);
     let before = column_sum(k, column, i);
     let balance = balance_at(k, i);
@@ -79,7 +79,7 @@ fn column_sum(k: Contents, column: usize, end: usize) -> u64
     let mut sum = 0;
     let mut i = 0;
     while i < end {
-        if column_at(i) == column {
+        if column_of(i) == column {
             sum += balance_at(k, i);
         }
         i += 1;

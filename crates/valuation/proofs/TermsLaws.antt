@@ -49,13 +49,15 @@ terms-bounded k v scenario place h =
     terms-of-bounded (filingTiers k) (depositAt k scenario place) (coupon-limit k v place h) (months-limit k v place h)
 
 -- the deposit at a place, from what the place holds
-pub deposit-is : (k : Contents) (scenario place : ℕ) (p : SubBalance) (penalty rate : ℕ) → p ≡ placeAt k place → penalty ≡ penaltyAt k place → rate ≡ shiftedRate scenario (retailRate k (positionOf place .column))
+pub deposit-is : (k : Contents) (scenario place : ℕ) (p : SubBalance) (penalty rate : ℕ) → p ≡ placeAt k place → penalty ≡ penaltyAt k place
+    → rate ≡ shiftedRate scenario (retailRate k (positionOf place .column))
     → _≡_ {A = Deposit} (record { brokered = leb 2 (place % 4); coupon = p .coupon; penalty = penalty; rate = rate; months = p .«remaining_months» }) (depositAt k scenario place)
 unfolding depositAt isBrokered placeAt
 deposit-is k scenario place p penalty rate hp hpenalty hrate = rw (hp, hpenalty, hrate)
 
 -- and it is within the limits
-pub deposit-limits : (k : Contents) → Valid k → (scenario place : ℕ) → place < 36 → (d : Deposit) → d ≡ depositAt k scenario place → d .penalty ≤ 3600 → d .rate ≤ 2800 → DepositLimits d
+pub deposit-limits : (k : Contents) → Valid k → (scenario place : ℕ) → place < 36 → (d : Deposit) → d ≡ depositAt k scenario place
+    → d .penalty ≤ 3600 → d .rate ≤ 2800 → DepositLimits d
 unfolding depositAt
 deposit-limits k v scenario place h d e hp hr =
     record {

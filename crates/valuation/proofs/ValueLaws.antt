@@ -23,18 +23,21 @@ use Rattle.valuation.specs.Run.{valueAt, totalBy}
 use Rattle.valuation.proofs.TermsLaws.{terms-bounded}
 
 -- lower ≤ exact ≤ upper for each place and scenario
-pub valueAt-encloses : (k : Contents) (scenario place : ℕ) → Encloses (valueAt down k scenario place) (exactValueAt k scenario place) (valueAt up k scenario place)
+pub valueAt-encloses : (k : Contents) (scenario place : ℕ)
+    → Encloses (valueAt down k scenario place) (exactValueAt k scenario place) (valueAt up k scenario place)
 unfolding valueAt exactValueAt
 valueAt-encloses k scenario place = value-encloses (balanceAt k place) (termsAt k scenario place) (monthYield k scenario)
 
 -- and for the total over any places
-pub totalBy-encloses : (test : ℕ → Bool) (k : Contents) (scenario : ℕ) → Encloses (totalBy down test k scenario) (exactTotal test k scenario) (totalBy up test k scenario)
+pub totalBy-encloses : (test : ℕ → Bool) (k : Contents) (scenario : ℕ)
+    → Encloses (totalBy down test k scenario) (exactTotal test k scenario) (totalBy up test k scenario)
 unfolding totalBy exactTotal
 totalBy-encloses test k scenario =
     total-encloses test (valueAt down k scenario) (valueAt up k scenario) (exactValueAt k scenario) subBalanceCount (valueAt-encloses k scenario)
 
 -- 250 × (upper - lower) ≤ balance + 500
-pub valueAt-width : (k : Contents) → Valid k → (scenario place : ℕ) → place < 36 → 250 * valueAt up k scenario place ≤ 250 * valueAt down k scenario place + (balanceAt k place + 500)
+pub valueAt-width : (k : Contents) → Valid k → (scenario place : ℕ) → place < 36
+    → 250 * valueAt up k scenario place ≤ 250 * valueAt down k scenario place + (balanceAt k place + 500)
 unfolding valueAt
 valueAt-width k v scenario place h = value-width (balanceAt k place) (termsAt k scenario place) (monthYield k scenario) (terms-bounded k v scenario place h)
 
@@ -45,7 +48,8 @@ constant-sum c zero = omega arith
 constant-sum c (suc n) = omega (arith, constant-sum c n)
 
 -- over all places: 250 × (sum of upper - sum of lower) ≤ total + 18,000
-pub all-width : (k : Contents) → Valid k → (scenario : ℕ) → 250 * totalBy up everywhere k scenario ≤ 250 * totalBy down everywhere k scenario + (cell k totalCell + 18000)
+pub all-width : (k : Contents) → Valid k → (scenario : ℕ)
+    → 250 * totalBy up everywhere k scenario ≤ 250 * totalBy down everywhere k scenario + (cell k totalCell + 18000)
 unfolding totalBy
 all-width k v scenario =
     omega
@@ -61,6 +65,7 @@ all-width k v scenario =
     b = balanceAt k
 
 -- the short and the long total together are the total over all places
-pub short-and-long : (ρ : Rounding) (k : Contents) (scenario : ℕ) → totalBy ρ isShort k scenario + totalBy ρ isLong k scenario ≡ totalBy ρ everywhere k scenario
+pub short-and-long : (ρ : Rounding) (k : Contents) (scenario : ℕ)
+    → totalBy ρ isShort k scenario + totalBy ρ isLong k scenario ≡ totalBy ρ everywhere k scenario
 unfolding totalBy isLong
 short-and-long ρ k scenario = sumWhere-split isShort (valueAt ρ k scenario) subBalanceCount

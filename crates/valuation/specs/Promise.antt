@@ -43,16 +43,24 @@ totalNumber list scenario r = getD list (540 + 4 * scenario + r) 0
 -- what holds of the list after an accepted filing
 pub record Enclosed (s list : List ℕ) : Type 0 where
   -- the shares add up to each of the nine balances, and to cell 645
-  pub shares-add-up : (i : ℕ) → i < 9 → balanceIn list (4 * i) + balanceIn list (4 * i + 1) + balanceIn list (4 * i + 2) + balanceIn list (4 * i + 3) ≡ cell (contentsOf s) (positionAt i .balance)
+  pub shares-add-up : (i : ℕ) → i < 9
+      → balanceIn list (4 * i) + balanceIn list (4 * i + 1) + balanceIn list (4 * i + 2) + balanceIn list (4 * i + 3)
+      ≡ cell (contentsOf s) (positionAt i .balance)
   pub shares-total : sumWhere everywhere (balanceIn list) subBalanceCount ≡ cell (contentsOf s) totalCell
   -- lower never above and upper never below the exact value of the same bytes, and the width of each
-  pub value-encloses : (scenario place : ℕ) → scenario < 7 → place < 36 → Encloses (lowerIn list scenario place) (exactValueAt (contentsOf s) scenario place) (upperIn list scenario place)
-  pub value-width : (scenario place : ℕ) → scenario < 7 → place < 36 → 250 * upperIn list scenario place ≤ 250 * lowerIn list scenario place + (balanceIn list place + 500)
+  pub value-encloses : (scenario place : ℕ) → scenario < 7 → place < 36
+      → Encloses (lowerIn list scenario place) (exactValueAt (contentsOf s) scenario place) (upperIn list scenario place)
+  pub value-width : (scenario place : ℕ) → scenario < 7 → place < 36
+      → 250 * upperIn list scenario place ≤ 250 * lowerIn list scenario place + (balanceIn list place + 500)
   -- the same of the short and the long total
-  pub short-encloses : (scenario : ℕ) → scenario < 7 → Encloses (totalNumber list scenario 0) (exactTotal isShort (contentsOf s) scenario) (totalNumber list scenario 1)
-  pub long-encloses : (scenario : ℕ) → scenario < 7 → Encloses (totalNumber list scenario 2) (exactTotal isLong (contentsOf s) scenario) (totalNumber list scenario 3)
+  pub short-encloses : (scenario : ℕ) → scenario < 7
+      → Encloses (totalNumber list scenario 0) (exactTotal isShort (contentsOf s) scenario) (totalNumber list scenario 1)
+  pub long-encloses : (scenario : ℕ) → scenario < 7
+      → Encloses (totalNumber list scenario 2) (exactTotal isLong (contentsOf s) scenario) (totalNumber list scenario 3)
   -- the width over all thirty-six, against cell 645
-  pub total-width : (scenario : ℕ) → scenario < 7 → 250 * sumWhere everywhere (upperIn list scenario) subBalanceCount ≤ 250 * sumWhere everywhere (lowerIn list scenario) subBalanceCount + (cell (contentsOf s) totalCell + 18000)
+  pub total-width : (scenario : ℕ) → scenario < 7
+      → 250 * sumWhere everywhere (upperIn list scenario) subBalanceCount
+      ≤ 250 * sumWhere everywhere (lowerIn list scenario) subBalanceCount + (cell (contentsOf s) totalCell + 18000)
 
 -- the promise: s is the filing's bytes, before and after are the list at the call and at the return
 pub record Valued (s before : List ℕ) (answer : Answer) (after : List ℕ) : Type 0 where

@@ -5,11 +5,11 @@ use crate::Values;
 use crate::factors::factor_table;
 use crate::prices::price_of;
 use filing::Contents;
+use filing::cells::cell_value;
 use pricing::months::value_of;
+use schedule::positions::column_of;
 use schedule::scenarios::Scenario;
 use shares::SubBalance;
-use shares::positions::cell_value;
-use shares::positions::column_at;
 use withdrawal::WithdrawalTiers;
 ghost use mathlib.Core.Path.{_≡_};
 ghost use Prim.Native.Nat.{_≤_, _<_, max};
@@ -101,7 +101,7 @@ fn penalty_of(k: Contents, at: usize) -> u64
     ensures { λ r. ⌜ (r ≡ penaltyAt k at) × (r ≤ 3600) ⌝ }
 {
     if at % 2 == 0 {
-        cell_value(k, 655 + column_at(at / 4))
+        cell_value(k, 655 + column_of(at / 4))
     } else {
         0
     }
@@ -112,7 +112,7 @@ fn rate_of(k: Contents, scenario: usize, at: usize) -> u64
     requires { ⌜ Valid k × (scenario < 7) × (at < 36) ⌝ }
     ensures { λ r. ⌜ (r ≡ shiftedRate scenario (retailRate k (positionOf at .column))) × (r ≤ 2800) ⌝ }
 {
-    let j = column_at(at / 4) - 1;
+    let j = column_of(at / 4) - 1;
     Scenario::new(scenario as u8).shifted(k.rates[j])
 }
 

@@ -11,7 +11,7 @@ use Rattle.filing.specs.declared.Reading.{Reading}
 use Rattle.filing.specs.declared.Answer.{Answer}
 use Rattle.filing.specs.declared.Answer.the-variants.{SheetMissing}
 use Rattle.filing.specs.Contents.{sheetOffset, contentsOf}
-use Rattle.filing.specs.Offsets.{offsetsBefore, contentsAt}
+use Rattle.filing.specs.Inner.Offsets.{offsetsBefore, contentsAt}
 use Rattle.filing.specs.Verdict.{Verdict, refused, contentsVerdict, firstFaulty, filingVerdict}
 use Rattle.filing.specs.Answers.{numberOf, verdictOf, recordsVerdict}
 use Rattle.filing.specs.Readings.{emptyContents, readContents}

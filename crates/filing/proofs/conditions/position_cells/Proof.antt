@@ -1,65 +1,37 @@
--- `position_cells` meets its contract: each table is the one that the positions make.
--- Assumes nothing.
-use Prim.Native.Nat.{ℕ}
-use Rattle.lists.specs.Tables.{tableFrom}
-use Rattle.schedule.specs.Cells.{position, positions, positionAt, leastMonths, mostMonths}
-use Rattle.filing.specs.Balances.{positionCells}
-use Rattle.filing.proofs.ConditionLaws.{entry-of, position-cells-eq}
+-- `position_cells` meets its contract. Assumes nothing.
+use Rattle.filing.specs.Inner.Balances.{positionCells}
 use borrow.Author.Needs.{needs}
 use Rattle.filing.proofs.conditions.position_cells.Statement.{statement}
 use Rattle.filing.proofs.conditions.position_cells.Tie as tie
 
-mul-t3 : tie.Need-mul-t3
-mul-t3 c = search needs
+balance-cell-requires : tie.Need-balance-cell-requires
+balance-cell-requires c κs = search needs
 
-array-read-t6 : tie.Need-array-read-t6
-array-read-t6 c = search needs
+months-cell-requires : tie.Need-months-cell-requires
+months-cell-requires c κs = search needs
 
-mul-t8 : tie.Need-mul-t8
-mul-t8 c = search needs
+column-of-requires : tie.Need-column-of-requires
+column-of-requires c κs = search needs
 
-array-read-t11 : tie.Need-array-read-t11
-array-read-t11 c = search needs
+least-months-requires : tie.Need-least-months-requires
+least-months-requires c κs = search needs
 
-mul-t13 : tie.Need-mul-t13
-mul-t13 c = search needs
-
-array-read-t16 : tie.Need-array-read-t16
-array-read-t16 c = search needs
-
-mul-t18 : tie.Need-mul-t18
-mul-t18 c = search needs
-
-array-read-t21 : tie.Need-array-read-t21
-array-read-t21 c = search needs
-
-mul-t23 : tie.Need-mul-t23
-mul-t23 c = search needs
-
-array-read-t26 : tie.Need-array-read-t26
-array-read-t26 c = search needs
+most-months-requires : tie.Need-most-months-requires
+most-months-requires c κs = search needs
 
 returns : tie.Need-returns
-unfolding tableFrom position positions positionAt positionCells
+unfolding positionCells
 returns c =
-    position-cells-eq (entry-of (λ (i : ℕ). positionAt i .balance) 9 (c .args .i) (c .pre))
-    (entry-of (λ (i : ℕ). positionAt i .months) 9 (c .args .i) (c .pre))
-    (entry-of (λ (i : ℕ). positionAt i .column) 9 (c .args .i) (c .pre))
-    (entry-of (λ (i : ℕ). leastMonths (positionAt i .row)) 9 (c .args .i) (c .pre))
-    (entry-of (λ (i : ℕ). mostMonths (positionAt i .row)) 9 (c .args .i) (c .pre))
+    simp
+    (c .before .before .before .before .balance-cell .ensures, c .before .before .before .months-cell .ensures, c .before .before .column-of .ensures, c .before .least-months .ensures, c .most-months .ensures)
 
 pub position-cells-spec : {M : Type 1} → statement M
 position-cells-spec =
     tie.close
     (tie.spec
-    mul-t3
-    array-read-t6
-    mul-t8
-    array-read-t11
-    mul-t13
-    array-read-t16
-    mul-t18
-    array-read-t21
-    mul-t23
-    array-read-t26
+    balance-cell-requires
+    months-cell-requires
+    column-of-requires
+    least-months-requires
+    most-months-requires
     returns)

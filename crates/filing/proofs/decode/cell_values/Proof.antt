@@ -1,24 +1,25 @@
 -- `cell_values` meets its contract. The loop's invariant: the first i cells are filled.
 -- Assumes nothing.
-use Prim.Native.Nat.{ℕ, _+_, _-_}
+use Prim.Native.Nat.{ℕ, _+_, _-_, _≤_}
 use native.Mathlib.Omega.{arith}
-use mathlib.Core.Path.{_≡_, refl, ap, _∙_}
+use mathlib.Core.Path.{_≡_, ap, _∙_}
 use borrow.Author.Needs.{needs}
 use lib.ListN.{getD}
 use Rattle.filing.specs.Records.{recordValue}
-use Rattle.filing.specs.Offsets.{cellsAt}
-use Rattle.filing.proofs.ContentsLaws.{Filled, filled-none, filled-more, filled-all}
+use Rattle.filing.specs.Inner.Offsets.{cellsAt}
+use Rattle.lists.proofs.FillLaws.{Filled, fill-none, fill-more}
+use Rattle.filing.proofs.ContentsLaws.{filled-from}
 use Rattle.filing.proofs.decode.cell_values.Statement.{statement}
 use Rattle.filing.proofs.decode.cell_values.Tie as tie
 
 abbrev Inv-loop : tie.InvT-loop
-Inv-loop s first cells₀ i₀ cells i = Filled 601 61 (λ (n : ℕ). recordValue s (getD first (n - 597) 0)) cells i
+Inv-loop s first cells₀ i₀ cells i = (i ≤ 61) × Filled (λ (j : ℕ). recordValue s (getD first (601 + j - 597) 0)) 0 61 i cells
 
 abbrev μ-loop : tie.MeasureT-loop
 μ-loop s first cells₀ i₀ cells i = 61 - i
 
 loop-holds : tie.Need-loop-holds Inv-loop μ-loop
-loop-holds c = filled-none _ _ _ _ refl
+loop-holds c = (omega arith, fill-none _ 0 0 61)
 
 add-place : tie.Need-add-place Inv-loop μ-loop
 add-place c = omega arith
@@ -47,14 +48,19 @@ loop-less c = omega arith
 loop-again : tie.Need-loop-again Inv-loop μ-loop
 loop-again c =
     let a = c .before .before .before .before .before .args in
-    let i = c .before .before .before .loop .i in
-    let e : i + 4 ≡ 601 + i - 597 = omega arith in
-    filled-more _ _ _ _ _ _ (c .before .before .before .loop .inv) (c .before .before .loop-test .taken)
-    (c .record-value .ensures ∙ ap (λ (k : ℕ). recordValue (a .s .now) (getD (a .first .now) k 0)) e)
+    let state = c .before .before .before .loop in
+    let h = c .before .before .loop-test .taken in
+    let e : state .i + 4 ≡ 601 + state .i - 597 = omega arith in (
+      omega arith,
+      fill-more _ 0 61 (state .i) (state .cells) (c .record-value .result) h
+          (c .record-value .ensures ∙ ap (λ (k : ℕ). recordValue (a .s .now) (getD (a .first .now) k 0)) e) (state .inv .1),
+    )
 
 returns : tie.Need-returns Inv-loop μ-loop
 unfolding cellsAt
-returns c = filled-all _ _ _ _ _ (c .before .loop .inv) (c .loop-test .left)
+returns c =
+    let e : c .before .loop .i ≡ 61 = omega arith in
+    filled-from 601 61 _ (c .before .loop .cells) (rw e at (c .before .loop .inv .1))
 
 pub cell-values-spec : {M : Type 1} → statement M
 cell-values-spec =

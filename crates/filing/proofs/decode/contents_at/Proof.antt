@@ -1,7 +1,7 @@
 -- `contents_at` meets its contract: each part is what its callee fills in.
 -- Assumes nothing.
 use borrow.Author.Needs.{needs}
-use Rattle.filing.specs.Offsets.{contentsAt}
+use Rattle.filing.specs.Inner.Offsets.{contentsAt}
 use Rattle.filing.proofs.ContentsLaws.{contents-eq}
 use Rattle.filing.proofs.decode.contents_at.Statement.{statement}
 use Rattle.filing.proofs.decode.contents_at.Tie as tie

@@ -1,23 +1,24 @@
 -- `fill_rates` meets its contract. The loop's invariant: the first i rates are filled.
 -- Assumes nothing.
-use Prim.Native.Nat.{_-_}
+use Prim.Native.Nat.{ℕ, _+_, _-_, _≤_, _<_}
 use native.Mathlib.Nat.{add-comm}
 use native.Mathlib.Omega.{arith}
-use mathlib.Core.Path.{refl, ap, _∙_}
+use mathlib.Core.Path.{_≡_, refl, ap, _∙_}
 use lib.ListN.{length}
 use Rattle.filing.specs.Records.{recordRate}
-use Rattle.filing.proofs.ContentsLaws.{Filled, filled-none, filled-more, filled-all}
+use Rattle.lists.proofs.FillLaws.{Filled, fill-more}
+use Rattle.filing.proofs.ContentsLaws.{filled-from}
 use Rattle.filing.proofs.decode.fill_rates.Statement.{statement}
 use Rattle.filing.proofs.decode.fill_rates.Tie as tie
 
 abbrev Inv-loop : tie.InvT-loop
-Inv-loop s at rates₀ i₀ rates i = Filled 1 (length rates₀) (recordRate s at) rates i
+Inv-loop s at rates₀ i₀ rates i = (i ≤ length rates₀) × Filled (λ (j : ℕ). recordRate s at (1 + j)) 0 (length rates₀) i rates
 
 abbrev μ-loop : tie.MeasureT-loop
 μ-loop s at rates₀ i₀ rates i = length rates₀ - i
 
 loop-holds : tie.Need-loop-holds Inv-loop μ-loop
-loop-holds c = filled-none _ _ _ _ refl
+loop-holds c = (omega arith, record { long = refl; holds = λ j h. absurd (omega arith) })
 
 add-record-rate : tie.Need-add-record-rate Inv-loop μ-loop
 add-record-rate c = omega arith
@@ -40,15 +41,21 @@ loop-less c = omega arith
 loop-again : tie.Need-loop-again Inv-loop μ-loop
 loop-again c =
     let a = c .before .before .before .before .before .args in
-    let i = c .before .before .loop .i in
-    filled-more _ _ _ _ _ _ (c .before .before .loop .inv) (omega arith)
-    (c .record-rate .ensures ∙ ap (recordRate (a .s .now) (a .at)) (add-comm i 1))
+    let state = c .before .before .loop in
+    let h : state .i < length (a .rates .now) = omega (arith, state .inv .1 .long) in (
+      omega arith,
+      fill-more _ 0 (length (a .rates .now)) (state .i) (state .rates) (c .record-rate .result) h
+          (c .record-rate .ensures ∙ ap (recordRate (a .s .now) (a .at)) (add-comm (state .i) 1)) (state .inv .1),
+    )
 
 same-length : tie.Need-same-length Inv-loop μ-loop
-same-length c = c .before .loop .inv .size
+same-length c = c .before .loop .inv .1 .long
 
 returns : tie.Need-returns Inv-loop μ-loop
-returns c = filled-all _ _ _ _ _ (c .before .loop .inv) (omega arith)
+returns c =
+    let a = c .before .before .before .before .args in
+    let e : c .before .loop .i ≡ length (a .rates .now) = omega (arith, c .before .loop .inv .1 .long) in
+    filled-from 1 (length (a .rates .now)) _ (c .before .loop .rates) (rw e at (c .before .loop .inv .1))
 
 pub fill-rates-spec : {M : Type 1} → statement M
 fill-rates-spec =

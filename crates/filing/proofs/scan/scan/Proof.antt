@@ -40,7 +40,7 @@ use denote.Triple.Spec.{Meets, tripleOf}
 use denote.Triple.Table.{entered, cited}
 use denote.Triple.Walked.{goes-none-slice, Walks, walked, walk-meets}
 use denote.Exit.{yes}
-use Rattle.filing.specs.Scans.{scanStart}
+use Rattle.filing.specs.Inner.Scans.{scanStart}
 use Rattle.filing.proofs.WalkLaws.{returned}
 use Rattle.filing.proofs.ReaderLaws.{bytes-value, OwnBytes, OwnReader, token, bytes-twice, reader-typed, reader-value-is, reader-is}
 use Rattle.filing.proofs.reader.Reader.new as new

@@ -1,7 +1,7 @@
 -- `start` meets its contract: it is the definition.
 -- Assumes nothing.
 use mathlib.Core.Path.{refl}
-use Rattle.filing.specs.Scans.{scanStart}
+use Rattle.filing.specs.Inner.Scans.{scanStart}
 use Rattle.filing.proofs.scan.start.Statement.{statement}
 use Rattle.filing.proofs.scan.start.Tie as tie
 

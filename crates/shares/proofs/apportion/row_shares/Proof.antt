@@ -1,6 +1,6 @@
 -- `row_shares` meets its contract. Assumes nothing.
 use borrow.Author.Needs.{needs}
-use Rattle.shares.specs.Rows.{accountShares, rowShares}
+use Rattle.shares.specs.Inner.Rows.{accountShares, rowShares}
 use Rattle.shares.proofs.apportion.row_shares.Statement.{statement}
 use Rattle.shares.proofs.apportion.row_shares.Tie as tie
 

@@ -5,7 +5,7 @@ use mathlib.Core.Path.{_≡_, refl, sym, _∙_}
 use mathlib.Core.Logic.{⊎-elim}
 use native.Mathlib.Omega.{arith}
 use Rattle.lists.specs.Sums.{sumWhere}
-use Rattle.shares.specs.Rows.{columnSum}
+use Rattle.shares.specs.Inner.Rows.{columnSum}
 use Rattle.shares.proofs.RowLaws.{columnSum-in, columnSum-out}
 use Rattle.shares.proofs.places.column_sum.Statement.{statement}
 use Rattle.shares.proofs.places.column_sum.Tie as tie
@@ -20,8 +20,8 @@ loop-holds : tie.Need-loop-holds Inv-loop μ-loop
 unfolding columnSum sumWhere
 loop-holds c = (omega arith, refl, omega arith)
 
-column-at-requires : tie.Need-column-at-requires Inv-loop μ-loop
-column-at-requires c κs = omega arith
+column-of-requires : tie.Need-column-of-requires Inv-loop μ-loop
+column-of-requires c κs = omega arith
 
 balance-at-requires : tie.Need-balance-at-requires Inv-loop μ-loop
 balance-at-requires c κs = omega arith
@@ -41,7 +41,7 @@ loop-again : tie.Need-loop-again Inv-loop μ-loop
 loop-again c =
     let a = c .before .before .before .before .args in
     let i = c .before .before .before .loop .i in
-    let column-is = c .before .column-at .ensures in
+    let column-is = c .before .column-of .ensures in
     let limit = c .before .before .before .before .pre .0 .balance-limit i (omega arith) in
     ⊎-elim (λ w. omega (arith, columnSum-in (a .k) (a .column) i (sym column-is ∙ w .0 .taken), w .1 .ensures, w .2, limit))
     (λ w. omega (arith, columnSum-out (a .k) (a .column) i (λ e. w .0 .left (column-is ∙ e)), w .1)) (c .if1 .came)
@@ -58,7 +58,7 @@ column-sum-spec =
     Inv-loop
     μ-loop
     loop-holds
-    column-at-requires
+    column-of-requires
     balance-at-requires
     add-sum
     add-i

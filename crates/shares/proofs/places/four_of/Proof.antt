@@ -8,8 +8,8 @@ use Rattle.shares.proofs.RowLaws.{row-within, four-row}
 use Rattle.shares.proofs.places.four_of.Statement.{statement}
 use Rattle.shares.proofs.places.four_of.Tie as tie
 
-column-at-requires : tie.Need-column-at-requires
-column-at-requires c κs = search needs
+column-of-requires : tie.Need-column-of-requires
+column-of-requires c κs = search needs
 
 column-sum-requires : tie.Need-column-sum-requires
 column-sum-requires c κs = search needs
@@ -44,21 +44,21 @@ row-shares-requires : tie.Need-row-shares-requires
 unfolding brokeredCell penaltyBalanceCell
 row-shares-requires c κs =
     let s = c .before .before .before .before .before .before in
-    let column = c .before .before .before .before .before .column-at in
+    let column = c .before .before .before .before .before .column-of in
     omega (arith, row-within (s .args .k) (s .pre .0) (s .args .i) (s .pre .1) (column .result) (column .ensures))
 
 returns : tie.Need-returns
 unfolding brokeredCell penaltyBalanceCell
 returns c =
     let s = c .before .before .before .before .before .before .before in
-    let column = c .before .before .before .before .before .before .column-at in
+    let column = c .before .before .before .before .before .before .column-of in
     cc (four-row (s .args .k) (s .pre .0) (s .args .i) (s .pre .1) (column .result) (column .ensures))
 
 pub four-of-spec : {M : Type 1} → statement M
 four-of-spec =
     tie.close
     (tie.spec
-    column-at-requires
+    column-of-requires
     column-sum-requires
     column-sum-requires-2
     balance-at-requires

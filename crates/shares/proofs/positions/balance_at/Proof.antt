@@ -1,30 +1,22 @@
--- `balance_at` meets its contract: the table is the one that the definition makes. Assumes nothing.
-use borrow.Author.Needs.{needs}
-use Prim.Native.Nat.{ℕ}
-use Rattle.lists.specs.Tables.{tableFrom}
-use Rattle.lists.proofs.TableLaws.{table-getD}
-use Rattle.schedule.specs.Cells.{position, positions, positionAt}
+-- `balance_at` meets its contract. Assumes nothing.
+use native.Mathlib.Omega.{arith}
 use Rattle.schedule.proofs.CellLaws.{balance-cell}
+use Rattle.filing.specs.Contents.{cell}
+use mathlib.Core.Path.{_∙_, ap}
+use borrow.Author.Needs.{needs}
 use Rattle.shares.proofs.positions.balance_at.Statement.{statement}
 use Rattle.shares.proofs.positions.balance_at.Tie as tie
 
-mul-cell-value : tie.Need-mul-cell-value
-mul-cell-value c = search needs
-
-array-read-cell-value : tie.Need-array-read-cell-value
-array-read-cell-value c = search needs
+balance-cell-requires : tie.Need-balance-cell-requires
+balance-cell-requires c κs = search needs
 
 cell-value-requires : tie.Need-cell-value-requires
-unfolding tableFrom position positions positionAt
 cell-value-requires c κs =
-    let e = table-getD 9 (λ (i : ℕ). positionAt i .balance) (c .args .i) 0 (c .pre) in
-    (rw e (balance-cell (c .args .i) (c .pre) .from-601), rw e (balance-cell (c .args .i) (c .pre) .to-661))
+    let is = balance-cell (c .before .args .i) (c .before .pre) in
+    (omega (arith, is .from-601, c .balance-cell .ensures), omega (arith, is .to-661, c .balance-cell .ensures))
 
 returns : tie.Need-returns
-unfolding tableFrom position positions positionAt
-returns c =
-    let e = table-getD 9 (λ (i : ℕ). positionAt i .balance) (c .before .args .i) 0 (c .before .pre) in
-    rw (← e) (c .cell-value .ensures)
+returns c = c .cell-value .ensures ∙ ap (cell (c .before .before .args .k)) (c .before .balance-cell .ensures)
 
 pub balance-at-spec : {M : Type 1} → statement M
-balance-at-spec = tie.close (tie.spec mul-cell-value array-read-cell-value cell-value-requires returns)
+balance-at-spec = tie.close (tie.spec balance-cell-requires cell-value-requires returns)

@@ -1,30 +1,22 @@
--- `coupon_at` meets its contract: the table is the one that the definition makes. Assumes nothing.
-use borrow.Author.Needs.{needs}
-use Prim.Native.Nat.{ℕ}
-use Rattle.lists.specs.Tables.{tableFrom}
-use Rattle.lists.proofs.TableLaws.{table-getD}
-use Rattle.schedule.specs.Cells.{position, positions, positionAt}
+-- `coupon_at` meets its contract. Assumes nothing.
+use native.Mathlib.Omega.{arith}
 use Rattle.schedule.proofs.CellLaws.{coupon-cell}
+use Rattle.filing.specs.Contents.{cell}
+use mathlib.Core.Path.{_∙_, ap}
+use borrow.Author.Needs.{needs}
 use Rattle.shares.proofs.positions.coupon_at.Statement.{statement}
 use Rattle.shares.proofs.positions.coupon_at.Tie as tie
 
-mul-cell-value : tie.Need-mul-cell-value
-mul-cell-value c = search needs
-
-array-read-cell-value : tie.Need-array-read-cell-value
-array-read-cell-value c = search needs
+coupon-cell-requires : tie.Need-coupon-cell-requires
+coupon-cell-requires c κs = search needs
 
 cell-value-requires : tie.Need-cell-value-requires
-unfolding tableFrom position positions positionAt
 cell-value-requires c κs =
-    let e = table-getD 9 (λ (i : ℕ). positionAt i .coupon) (c .args .i) 0 (c .pre) in
-    (rw e (coupon-cell (c .args .i) (c .pre) .from-601), rw e (coupon-cell (c .args .i) (c .pre) .to-661))
+    let is = coupon-cell (c .before .args .i) (c .before .pre) in
+    (omega (arith, is .from-601, c .coupon-cell .ensures), omega (arith, is .to-661, c .coupon-cell .ensures))
 
 returns : tie.Need-returns
-unfolding tableFrom position positions positionAt
-returns c =
-    let e = table-getD 9 (λ (i : ℕ). positionAt i .coupon) (c .before .args .i) 0 (c .before .pre) in
-    rw (← e) (c .cell-value .ensures)
+returns c = c .cell-value .ensures ∙ ap (cell (c .before .before .args .k)) (c .before .coupon-cell .ensures)
 
 pub coupon-at-spec : {M : Type 1} → statement M
-coupon-at-spec = tie.close (tie.spec mul-cell-value array-read-cell-value cell-value-requires returns)
+coupon-at-spec = tie.close (tie.spec coupon-cell-requires cell-value-requires returns)

@@ -11,8 +11,8 @@ use borrow.Author.Needs.{needs}
 use Rattle.valuation.proofs.place_values.penalty_of.Statement.{statement}
 use Rattle.valuation.proofs.place_values.penalty_of.Tie as tie
 
-column-at-requires : tie.Need-column-at-requires
-column-at-requires c κs = search needs
+column-of-requires : tie.Need-column-of-requires
+column-of-requires c κs = search needs
 
 add-cell-value : tie.Need-add-cell-value
 add-cell-value c = let s = c .before .before in omega (arith, column-range (s .args .at / 4) (omega arith) .1)
@@ -24,7 +24,7 @@ returns : tie.Need-returns
 unfolding penaltyAt penaltyMonthsCell positionOf
 returns c =
     let s = c .before .before .before in
-    let column = c .before .column-at in
+    let column = c .before .column-of in
     let range = column-range (s .args .at / 4) (omega arith) in (
       simp (c .cell-value .ensures, eq-eqb _ _ (c .before .before .if1 .taken), column .ensures),
       rw (c .cell-value .ensures, column .ensures) (s .pre .0 .penalty-limit (positionAt (s .args .at / 4) .column) (range .0) (range .1)),
@@ -36,4 +36,4 @@ returns-2 c = (simp (ne-eqb _ _ (c .if1 .left)), omega arith)
 
 pub penalty-of-spec : {M : Type 1} → statement M
 penalty-of-spec =
-    tie.close (tie.spec column-at-requires add-cell-value cell-value-requires returns returns-2)
+    tie.close (tie.spec column-of-requires add-cell-value cell-value-requires returns returns-2)

@@ -9,8 +9,8 @@ use borrow.Author.Needs.{needs}
 use Rattle.valuation.proofs.place_values.rate_of.Statement.{statement}
 use Rattle.valuation.proofs.place_values.rate_of.Tie as tie
 
-column-at-requires : tie.Need-column-at-requires
-column-at-requires c κs = search needs
+column-of-requires : tie.Need-column-of-requires
+column-of-requires c κs = search needs
 
 sub-j : tie.Need-sub-j
 sub-j c = omega (arith, column-range (c .before .args .at / 4) (omega arith) .0)
@@ -34,15 +34,15 @@ returns : tie.Need-returns
 unfolding retailRate positionOf
 returns c =
     let s = c .before .before .before .before in (
-      simp (c .shifted .ensures, c .before .before .new .ensures, c .before .before .before .column-at .ensures),
-      rw (c .shifted .ensures, c .before .before .new .ensures) (shifted-rate-le (s .args .scenario) _ (omega arith) (s .pre .0 .rate-limit (c .before .before .before .column-at .result))),
+      simp (c .shifted .ensures, c .before .before .new .ensures, c .before .before .before .column-of .ensures),
+      rw (c .shifted .ensures, c .before .before .new .ensures) (shifted-rate-le (s .args .scenario) _ (omega arith) (s .pre .0 .rate-limit (c .before .before .before .column-of .result))),
     )
 
 pub rate-of-spec : {M : Type 1} → statement M
 rate-of-spec =
     tie.close
     (tie.spec
-    column-at-requires
+    column-of-requires
     sub-j
     cast-new
     new-requires

@@ -39,7 +39,7 @@ use denote.Triple.Spec.{Meets, tripleOf}
 use denote.Triple.Table.{entered, cited}
 use denote.Triple.Walked.{says, Stays, stay-none, walkOf, goes-none, Walks, ends-at, walked, walk-meets}
 use denote.Exit.{yes}
-use Rattle.filing.specs.Steps.{stepAt}
+use Rattle.filing.specs.Inner.Steps.{stepAt}
 use Rattle.filing.specs.declared.reader.Reader.{Reader}
 use Rattle.filing.specs.declared.Step.{Step}
 use Rattle.filing.proofs.WalkLaws.{returned}

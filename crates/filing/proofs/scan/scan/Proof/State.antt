@@ -21,9 +21,9 @@ use denote.Struct.Laws as LL
 use Rattle.filing.specs.declared.reader.Reader.{Reader}
 use Rattle.filing.specs.declared.Step.{Step}
 use Rattle.filing.specs.declared.scan.Scanned.{Scanned}
-use Rattle.filing.specs.Steps.{stepAt}
-use Rattle.filing.specs.Offsets.{offsetsBefore}
-use Rattle.filing.specs.Scans.{scanStart, Visited}
+use Rattle.filing.specs.Inner.Steps.{stepAt}
+use Rattle.filing.specs.Inner.Offsets.{offsetsBefore}
+use Rattle.filing.specs.Inner.Scans.{scanStart, Visited}
 use Rattle.filing.proofs.VisitLaws.{ScanAt, scanLeft, scan-at-start, scan-at-next}
 use Rattle.filing.proofs.ReaderLaws.{TheReader, reader-value}
 use Rattle.filing.proofs.scan.Scanned as K

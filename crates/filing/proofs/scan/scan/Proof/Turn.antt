@@ -37,7 +37,7 @@ use denote.Exit.{yes}
 use Rattle.filing.specs.declared.reader.Reader.{Reader}
 use Rattle.filing.specs.declared.Step.{Step}
 use Rattle.filing.specs.declared.scan.Scanned.{Scanned}
-use Rattle.filing.specs.Offsets.{offsetsBefore}
+use Rattle.filing.specs.Inner.Offsets.{offsetsBefore}
 use Rattle.filing.specs.Verdict.{firstFaulty}
 use Rattle.filing.specs.Answers.{verdictOf, recordsVerdict}
 use Rattle.filing.proofs.WalkLaws.{returned}

@@ -1,0 +1,116 @@
+"""The form and its records: cells, sheets, and whole filings as bytes."""
+import struct
+from collections import namedtuple
+
+Position = namedtuple("Position", "balance coupon months column first last")
+
+POSITIONS = [
+    Position(601, 605, 608, 1, 1, 3), Position(602, 606, 609, 2, 1, 3), Position(603, 607, 610, 3, 1, 3),
+    Position(615, 619, 622, 1, 4, 12), Position(616, 620, 623, 2, 4, 12), Position(617, 621, 624, 3, 4, 12),
+    Position(631, 634, 636, 2, 13, 36), Position(632, 635, 637, 3, 13, 36), Position(641, 643, 644, 3, 37, 120),
+]
+COLUMNS = (1, 2, 3)
+TOTAL = 645
+UNUSED = (604, 618, 633, 642, 659, 660, 661)
+LARGEST = 2**64 - 1
+
+
+def brokered_cell(column):
+    return 649 + column
+
+
+def penalty_balance_cell(column):
+    return 652 + column
+
+
+def penalty_cell(column):
+    return 655 + column
+
+
+def limits():
+    """The largest value of each cell that has a limit."""
+    values = {TOTAL: 8_999_999_991}
+    for place in POSITIONS:
+        values |= {place.balance: 999_999_999, place.coupon: 1_500, place.months: 120}
+    for n in COLUMNS:
+        values |= {brokered_cell(n): 3_999_999_996, penalty_balance_cell(n): 3_999_999_996, penalty_cell(n): 3_600}
+    return dict(sorted(values.items()))
+
+
+LIMITS = limits()
+
+
+def record(kind, body):
+    return struct.pack("<HH", len(body) + 2, kind) + body
+
+
+def cell(number, value):
+    return record(1, struct.pack("<HQ", number, value))
+
+
+def cells(values):
+    return b"".join(cell(number, value) for number, value in values.items())
+
+
+def yields(values):
+    return record(2, struct.pack("<120H", *values))
+
+
+def rates(values):
+    return record(3, struct.pack("<3H", *values))
+
+
+def flat(value):
+    return [value] * 120
+
+
+SHEETS = yields(flat(0)) + rates((0, 0, 0))
+
+
+def filing(values, curve=flat(0), retail=(0, 0, 0)):
+    return cells(values) + yields(curve) + rates(retail)
+
+
+def totalled(values):
+    """The cells with cell 645, the sum of the balances."""
+    return values | {TOTAL: sum(values.get(place.balance, 0) for place in POSITIONS)}
+
+
+def column_sums(values):
+    return {n: sum(values.get(place.balance, 0) for place in POSITIONS if place.column == n) for n in COLUMNS}
+
+
+def deposit(place, balance, coupon, months):
+    return {place.balance: balance, place.coupon: coupon, place.months: months}
+
+
+def deposits(balance, coupon, months):
+    """The same balance and coupon in all nine positions; months is a function of the position."""
+    values = {}
+    for place in POSITIONS:
+        values |= deposit(place, balance, coupon, months(place))
+    return values
+
+
+def first_month(place):
+    return place.first
+
+
+def middle_month(place):
+    return (place.first + place.last) // 2
+
+
+def last_month(place):
+    return place.last
+
+
+def shared(values, brokered, subject, penalty):
+    """A part of each column brokered and a part of it subject to penalty, both in hundredths of the column's sum."""
+    for n, total in column_sums(values).items():
+        values |= {brokered_cell(n): total * brokered // 100, penalty_balance_cell(n): total * subject // 100, penalty_cell(n): penalty}
+    return totalled(values)
+
+
+LISTING = {601: 1000, 645: 1000, 650: 1000, 608: 1}
+RISING = [100 + 4 * month for month in range(120)]
+DISTINCT = [(37 * month + 5) % 2501 for month in range(120)]
