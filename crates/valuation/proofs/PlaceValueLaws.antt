@@ -57,7 +57,8 @@ factors-at-most-par ρ yields longest =
     table-le 0 840 (factorAt ρ yields longest) (10 ^ 9) (λ j l u. either-le (ltb (j / 7) longest) (discount-limit _ (suc (j / 7)) ρ))
 
 -- the factor of scenario s and month t + 1 in the list, within the longest term
-factor-is : (ρ : Rounding) (k : Contents) (longest scenario t : ℕ) → scenario < 7 → t < 120 → t < longest → listed (factorsBy ρ (k .yields) longest) scenario (suc t) ≡ discountFactorBy ρ (monthYield k scenario) (suc t)
+factor-is : (ρ : Rounding) (k : Contents) (longest scenario t : ℕ) → scenario < 7 → t < 120 → t < longest
+    → listed (factorsBy ρ (k .yields) longest) scenario (suc t) ≡ discountFactorBy ρ (monthYield k scenario) (suc t)
 unfolding listed factorsBy factorAt discountFactorBy monthYield cdYield
 factor-is ρ k longest scenario t hs ht hl =
     let before : suc t - 1 ≡ t = omega arith in
@@ -107,7 +108,8 @@ place-value ρ k v scenario place hs hp =
     (eq-zero-or-pos (balanceAt k place))
 
 -- lower and upper value of a place, from what the code has in hand
-pub values-are : (k : Contents) → Valid k → (scenario place : ℕ) → scenario < 7 → place < 36 → (b : ℕ) (tiers : TierTable) (d : Deposit) (lower upper : List ℕ) (r : Bounds)
+pub values-are : (k : Contents) → Valid k → (scenario place : ℕ) → scenario < 7 → place < 36
+    → (b : ℕ) (tiers : TierTable) (d : Deposit) (lower upper : List ℕ) (r : Bounds)
     → b ≡ balanceAt k place → tiers ≡ filingTiers k → d ≡ depositAt k scenario place
     → lower ≡ factorsBy down (k .yields) (longestTerm (placesOf k)) → upper ≡ factorsBy up (k .yields) (longestTerm (placesOf k))
     → r ≡ listedValues b tiers d lower upper scenario
@@ -130,6 +132,7 @@ values-within ρ k v =
     (omega (arith, mul-le-mul (balanceAt-limit k v (j % 36) (omega arith)) (price-limit (termsAt k (j / 36) (j % 36)) (monthYield k (j / 36)) (terms-bounded k v (j / 36) (j % 36) (omega arith)) ρ))))
 
 -- the 568 numbers from the lists that the code has in hand
-pub numbers-are : (k : Contents) (ps : List SubBalance) (balances lower upper : List ℕ) → ps ≡ placesOf k → balances ≡ balancesIn ps → lower ≡ valuesBy down k → upper ≡ valuesBy up k
+pub numbers-are : (k : Contents) (ps : List SubBalance) (balances lower upper : List ℕ) → ps ≡ placesOf k → balances ≡ balancesIn ps
+    → lower ≡ valuesBy down k → upper ≡ valuesBy up k
     → table numberCount (numberIn balances lower upper) ≡ numbers k
 numbers-are k ps balances lower upper ep eb el eu = rw (eb, ep, balances-are k, el, eu) (numbers-listed k)

@@ -29,12 +29,14 @@ unfolding listed
 listed-le factors scenario h t = h (7 * (t - 1) + scenario)
 
 -- the run before any month
-pub run-zero : (ρ : Rounding) (tiers : TierTable) (d : Deposit) (df : ℕ → ℕ) → record { balance = 1000000000; price = 0 } ≡ runBy ρ (termsOf tiers d) df 0
+pub run-zero : (ρ : Rounding) (tiers : TierTable) (d : Deposit) (df : ℕ → ℕ)
+    → record { balance = 1000000000; price = 0 } ≡ runBy ρ (termsOf tiers d) df 0
 unfolding runBy balanceBy discountedBy
 run-zero ρ tiers d df = refl
 
 -- the price of a deposit within the limits
-pub listed-price-limit : (ρ : Rounding) (tiers : TierTable) (d : Deposit) (factors : List ℕ) (scenario : ℕ) → DepositLimits d → AtMostPar factors → listedPrice ρ tiers d factors scenario ≤ 4533261346
+pub listed-price-limit : (ρ : Rounding) (tiers : TierTable) (d : Deposit) (factors : List ℕ) (scenario : ℕ) → DepositLimits d
+    → AtMostPar factors → listedPrice ρ tiers d factors scenario ≤ 4533261346
 unfolding listedPrice termsOf
 listed-price-limit ρ tiers d factors scenario l p =
     discounted-limit (termsOf tiers d) (listed factors scenario) (listed-le factors scenario p) (terms-of-bounded tiers d (l .coupon-le) (l .months-le))
