@@ -18,12 +18,12 @@ ghost use Rattle.filing.specs.Contents.{retailRate};
 ghost use Rattle.filing.specs.Valid.{Valid};
 ghost use Rattle.shares.specs.SubBalances.{positionOf};
 ghost use Rattle.shares.specs.Places.{placeAt, placesOf};
-ghost use Rattle.withdrawal.specs.TierArrays.{tierTable, Usable};
+ghost use Rattle.withdrawal.specs.Inner.TierArrays.{tierTable, Usable};
 ghost use Rattle.pricing.specs.Rounding.{down, up};
 ghost use Rattle.valuation.specs.DepositTerms.{penaltyAt, depositAt, filingTiers};
-ghost use Rattle.valuation.specs.Deposits.{DepositLimits, AtMostPar};
-ghost use Rattle.valuation.specs.Listed.{valuesBy};
-ghost use Rattle.valuation.specs.PlaceValues.{longestTerm, termOf, listedValues};
+ghost use Rattle.valuation.specs.Inner.Deposits.{DepositLimits, AtMostPar};
+ghost use Rattle.valuation.specs.Inner.Listed.{valuesBy};
+ghost use Rattle.valuation.specs.Inner.PlaceValues.{longestTerm, termOf, listedValues};
 
 // Values of the thirty-six places in the seven scenarios.
 pub fn values_of(k: Contents, places: [SubBalance; 36], tiers: WithdrawalTiers) -> Values

@@ -1,7 +1,7 @@
 use Rattle.pricing.specs.Rounding.{roundingOf}
-use Rattle.withdrawal.specs.TierArrays.{tierTable}
-use Rattle.valuation.specs.Factors.{factorsBy}
-use Rattle.valuation.specs.PlaceValues.{longestTerm}
+use Rattle.withdrawal.specs.Inner.TierArrays.{tierTable}
+use Rattle.valuation.specs.Inner.Factors.{factorsBy}
+use Rattle.valuation.specs.Inner.PlaceValues.{longestTerm}
 use Rattle.valuation.proofs.PlaceValueLaws.{values-are}
 use Rattle.shares.specs.Places.{placeAt}
 use Rattle.shares.proofs.SubBalanceLaws.{balanceAt-limit}
@@ -13,7 +13,7 @@ use native.Mathlib.Omega.{arith}
 use Rattle.lists.proofs.FillLaws.{Filled, fill-none, fill-more, fill-all}
 use Rattle.pricing.specs.Rounding.{down, up}
 use Rattle.valuation.specs.Run.{valueAt}
-use Rattle.valuation.specs.Listed.{valuesBy}
+use Rattle.valuation.specs.Inner.Listed.{valuesBy}
 use Rattle.valuation.proofs.place_values.values_of.Statement.{statement}
 use Rattle.valuation.proofs.place_values.values_of.Tie as tie
 
