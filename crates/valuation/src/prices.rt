@@ -35,9 +35,10 @@ pub fn price_of(
         balance: 1000000000,
         price: 0,
     };
+    let mut tier: usize = 0;
     let mut t: u64 = 0;
     while t < months {
-        let survival = month_survival(
+        let month = month_survival(
             tiers,
             d.brokered,
             d.coupon,
@@ -45,7 +46,10 @@ pub fn price_of(
             d.rate,
             months,
             t + 1,
+            tier,
         );
+        let survival = month.survival;
+        tier = month.tier;
         let i = 7 * t as usize + scenario;
         let last = t + 1 == months;
         low = next_month(low, growth, servicing, survival, lower[i], last, false);

@@ -1,8 +1,10 @@
 -- The tiers of the code's arrays, tried one after the other from the highest edge. Assumes nothing.
-use Prim.Native.Nat.{ℕ, suc, _+_, _-_, _≤_, _<_}
-use mathlib.Core.Path.{_≡_, ap}
+use Prim.Native.Nat.{ℕ, zero, suc, _+_, _*_, _-_, _≤_, _<_}
+use mathlib.Core.Path.{_≡_, sym, ap, _∙_}
 use mathlib.Core.Bool.{true, false}
 use mathlib.Core.List.{List}
+use borrow.Author.Tests.{lt-ltb, le-ltb, lt-leb, leb-false}
+use native.Mathlib.Nat.{le-of-lt, le-of-suc-le, lt-trans, lt-suc-self, lt-of-not-le, not-le-of-lt, mul-le-mul-right, le-of-mul-le-mul-right}
 use native.Mathlib.Numerals.{add-one}
 use native.Mathlib.Omega.{arith}
 use lib.Dec.{T, leb, leb→le}
@@ -10,8 +12,12 @@ use lib.ListN.{getD}
 use lib.IntN.{ℤ}
 use Rattle.lists.specs.Tables.{tableFrom}
 use Rattle.withdrawal.specs.declared.WithdrawalTiers.{WithdrawalTiers}
+use Rattle.withdrawal.specs.Gain.{gain, cost}
+use Rattle.withdrawal.specs.Survival.{survival}
+use Rattle.withdrawal.specs.Incentives.{gainOf}
 use Rattle.withdrawal.specs.Tiers.{WithdrawalTier, tier, reached, firstReached, annualWithdrawal}
-use Rattle.withdrawal.specs.TierArrays.{tierTable, tierTableOf, TiersFit}
+use Rattle.withdrawal.specs.TierArrays.{NoneBefore, Usable, tierSurvival, tierTable, tierTableOf, TiersFit}
+use Rattle.withdrawal.proofs.GainLaws.{reached-iff, gain-difference}
 use Rattle.lists.proofs.TestLaws.{everyEntry, entries-le}
 
 module _ (t : WithdrawalTiers) (g : ℤ) (k : ℕ) where
@@ -48,6 +54,59 @@ module _ (t : WithdrawalTiers) (g : ℤ) (k : ℕ) where
   withdrawal-from-end i h =
       let m : t .count - i ≡ 0 = omega arith in
       rw m
+
+  -- where no tier before a place is reached, the tiers from there on give the annual withdrawal
+  pub withdrawal-from-none : (n : ℕ) → n ≤ t .count → NoneBefore t g k n → withdrawalFrom n ≡ annualWithdrawal (tierTable t) g k
+  withdrawal-from-none zero h none = withdrawal-from-start
+  withdrawal-from-none (suc n) h none =
+      rw (← add-one)
+      (sym (withdrawal-from-suc n h (none n (lt-suc-self n))) ∙ withdrawal-from-none n (le-of-suc-le h) (λ j l. none j (lt-trans l (lt-suc-self n))))
+
+  -- the survival of the first tier that is reached
+  pub tier-survival-reached : Usable t → (i : ℕ) → i < t .count → NoneBefore t g k i → reached g k (getD (t .edges) i 0) ≡ true
+      → tierSurvival t i ≡ survival (annualWithdrawal (tierTable t) g k)
+  unfolding tierSurvival
+  tier-survival-reached u i h none e =
+      rw (lt-ltb i (t .count) h)
+      (u .survival-is i h ∙ ap survival (sym (withdrawal-from-reached i h e) ∙ withdrawal-from-none i (le-of-lt h) none))
+
+  -- the survival where none is reached
+  pub tier-survival-none : Usable t → (i : ℕ) → t .count ≤ i → i ≤ t .count → NoneBefore t g k i → tierSurvival t i ≡ survival (annualWithdrawal (tierTable t) g k)
+  unfolding tierSurvival
+  tier-survival-none u i h l none =
+      rw (le-ltb i (t .count) h)
+      (u .retained-is ∙ ap survival (sym (withdrawal-from-end i h) ∙ withdrawal-from-none i l none))
+
+-- an edge is reached by a gain and a cost with n months left, in whole numbers
+reached-months : (c p r edge n : ℕ) → c * p ≤ 12000000
+    → reached (gain c p r n) (cost c n) edge ≡ leb (edge * cost c n + 100 * (120000 * c * p)) (100 * ((12000000 - c * p) * (r * n)))
+unfolding gainOf
+reached-months c p r edge n h =
+    rw (← (gain-difference c p r n h))
+    (reached-iff (record { earned = (12000000 - c * p) * (r * n); forfeited = 120000 * c * p; cost = cost c n }) edge)
+
+-- Not reached with n months left, not reached with m ≤ n: were edge × k × m + f ≤ 100 × u × r × m, then edge × k ≤ 100 × u × r, and the n - m
+-- further months would earn at least what they cost
+fewer-months : (u r k f edge m n : ℕ) → 1 ≤ m → m ≤ n → 100 * (u * (r * n)) < edge * (k * n) + f → 100 * (u * (r * m)) < edge * (k * m) + f
+fewer-months u r k f edge m n hm hn h =
+    lt-of-not-le
+    (λ l.
+    let rate : edge * k ≤ 100 * u * r = le-of-mul-le-mul-right {k = m} (omega arith) hm in
+    let more : edge * k * (n - m) ≤ 100 * u * r * (n - m) = mul-le-mul-right (n - m) rate in
+    not-le-of-lt h (split n (n - m) (omega arith) l more))
+  where
+    split : (n d : ℕ) → n ≡ m + d → edge * (k * m) + f ≤ 100 * (u * (r * m)) → edge * k * d ≤ 100 * u * r * d → edge * (k * n) + f ≤ 100 * (u * (r * n))
+    split n d e l more = rw e (omega arith)
+
+-- as the months pass, a tier that is not reached stays so
+pub unreached-mono : (c p r edge m n : ℕ) → c * p ≤ 12000000 → 1 ≤ m → m ≤ n
+    → reached (gain c p r n) (cost c n) edge ≡ false → reached (gain c p r m) (cost c m) edge ≡ false
+unfolding cost
+unreached-mono c p r edge m n h hm hn e =
+    reached-months c p r edge m h
+    ∙ lt-leb _ _
+    (fewer-months (12000000 - c * p) r (12000000 * c) (100 * (120000 * c * p)) edge m n hm hn
+    (leb-false _ _ (sym (reached-months c p r edge n h) ∙ e)))
 
 -- tiers that pass the tests of their count, edges and withdrawals fit
 pub tiers-fit-of-tests :

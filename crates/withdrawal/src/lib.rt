@@ -4,10 +4,12 @@ mod survival_figures;
 pub mod tiers;
 
 ghost use mathlib.Core.Path.{_≡_};
-ghost use Prim.Native.Nat.{_≤_};
+ghost use mathlib.Core.Bool.{cond};
+ghost use Prim.Native.Nat.{suc, _-_, _^_, _≤_};
+ghost use Rattle.withdrawal.specs.Gain.{atMost};
 ghost use Rattle.withdrawal.specs.Survival as spec;
-ghost use Rattle.withdrawal.specs.MonthSurvival.{accountOf, earlySurvival, monthSurvival};
-ghost use Rattle.withdrawal.specs.TierArrays.{tierTable, Usable};
+ghost use Rattle.withdrawal.specs.MonthSurvival.{accountOf, monthSurvival};
+ghost use Rattle.withdrawal.specs.TierArrays.{tierTable, Usable, NoneUpTo};
 ghost use Rattle.withdrawal.specs.Incentives.{gainOf, Small};
 
 // Tiers of annual withdrawal, in the first `count` places, highest edge first: edges in hundredths, withdrawals in thousandths, and the survival
@@ -28,7 +30,14 @@ pub struct Incentive {
     pub cost: u64,
 }
 
-// q of a month of a term, in billionths. Coupon and shifted retail rate are in hundredths of a percent a year, the penalty in hundredths of a month.
+// q of a month in billionths, and the place of the tier that it comes from.
+pub struct MonthTier {
+    pub survival: u64,
+    pub tier: usize,
+}
+
+// q of a month of a term. Coupon and shifted retail rate are in hundredths of a percent a year, the penalty in hundredths of a month. The tiers
+// are tried from the place `from` on: as the months pass, the gain falls against the cost, and a tier that is not reached stays so.
 pub fn month_survival(
     tiers: WithdrawalTiers,
     brokered: bool,
@@ -37,34 +46,42 @@ pub fn month_survival(
     rate: u64,
     months: u64,
     month: u64,
-) -> u64
-    requires { ⌜ Usable tiers ⌝ }
+    from: usize,
+) -> MonthTier
+    requires { ⌜ Usable tiers × (from ≤ tiers .count) × NoneUpTo tiers coupon penalty rate (months - month) from ⌝ }
     requires { ⌜ (coupon ≤ 1500) × (penalty ≤ 3600) × (rate ≤ 2800) × (months ≤ 120) ⌝ }
-    ensures { λ r. ⌜ r ≡ monthSurvival (tierTable tiers) (accountOf brokered) coupon penalty rate months month ⌝ }
+    ensures { λ r. ⌜ r .survival ≡ monthSurvival (tierTable tiers) (accountOf brokered) coupon penalty rate months month ⌝ }
+    ensures { λ r. ⌜ (r .tier ≤ tiers .count) × NoneUpTo tiers coupon penalty rate (months - month) (r .tier) ⌝ }
 {
     if months <= month {
-        return 1000000000;
+        return MonthTier {
+            survival: 1000000000,
+            tier: from,
+        };
     }
-    early_survival(
-        tiers,
-        brokered,
-        gain::gain_and_cost(coupon, penalty, rate, months - month),
-    )
+    let incentive = gain::gain_and_cost(coupon, penalty, rate, months - month);
+    if brokered {
+        return MonthTier {
+            survival: brokered_survival(incentive),
+            tier: from,
+        };
+    }
+    let tier = tiers::first_reached(tiers, incentive, from);
+    MonthTier {
+        survival: tiers::tier_survival(tiers, tier),
+        tier,
+    }
 }
 
-// q before the term's end, in billionths: retail by the tiers; brokered money is withdrawn whole where the gain is above the cost.
-fn early_survival(tiers: WithdrawalTiers, brokered: bool, incentive: Incentive) -> u64
-    requires { ⌜ Usable tiers × Small incentive ⌝ }
-    ensures { λ r. ⌜ r ≡ earlySurvival (tierTable tiers) (accountOf brokered) (gainOf incentive) (incentive .cost) ⌝ }
+// q of brokered money before the term's end, in billionths: it is withdrawn whole where the gain is above the cost.
+fn brokered_survival(incentive: Incentive) -> u64
+    requires { ⌜ Small incentive ⌝ }
+    ensures { λ r. ⌜ r ≡ cond (atMost (suc (incentive .cost)) (gainOf incentive)) 0 (10 ^ 9) ⌝ }
 {
-    if brokered {
-        if incentive.cost + incentive.forfeited < incentive.earned {
-            0
-        } else {
-            1000000000
-        }
+    if incentive.cost + incentive.forfeited < incentive.earned {
+        0
     } else {
-        tiers::retail_survival(tiers, incentive)
+        1000000000
     }
 }
 

@@ -5,23 +5,37 @@ ghost use mathlib.Core.Path.{_≡_};
 ghost use Prim.Native.Nat.{_≤_};
 ghost use Rattle.withdrawal.specs.Tiers.{reached, annualWithdrawal, houseTiers};
 ghost use Rattle.withdrawal.specs.Survival.{survival};
-ghost use Rattle.withdrawal.specs.TierArrays.{tierTable, tierTableOf, TiersFit, Usable};
+ghost use Rattle.withdrawal.specs.TierArrays.{tierTable, tierTableOf, tierSurvival, TiersFit, Usable, NoneBefore};
 ghost use Rattle.withdrawal.specs.Incentives.{gainOf, Small};
 
-// q of a retail deposit before its term's end, in billionths: that of the first tier whose edge is reached.
-pub fn retail_survival(tiers: WithdrawalTiers, incentive: Incentive) -> u64
-    requires { ⌜ Usable tiers × Small incentive ⌝ }
-    ensures { λ r. ⌜ r ≡ survival (annualWithdrawal (tierTable tiers) (gainOf incentive) (incentive .cost)) ⌝ }
+// The place of the first tier whose edge is reached, or their count where none is. No tier before `from` is reached.
+pub fn first_reached(tiers: WithdrawalTiers, incentive: Incentive, from: usize) -> usize
+    requires { ⌜ Usable tiers × Small incentive × (from ≤ tiers .count) ⌝ }
+    requires { ⌜ NoneBefore tiers (gainOf incentive) (incentive .cost) from ⌝ }
+    ensures { λ r. ⌜ (r ≤ tiers .count) × NoneBefore tiers (gainOf incentive) (incentive .cost) r × (tierSurvival tiers r ≡ survival (annualWithdrawal (tierTable tiers) (gainOf incentive) (incentive .cost))) ⌝ }
 {
     let count = tiers.count;
-    let mut i: usize = 0;
+    let mut i = from;
     while i < count {
         if reaches(incentive, tiers.edges[i]) {
-            return tiers.survivals[i];
+            return i;
         }
         i += 1;
     }
-    tiers.retained
+    i
+}
+
+// The survival of the tier at a place in billionths, or of the withdrawal where no edge is reached.
+pub fn tier_survival(tiers: WithdrawalTiers, i: usize) -> u64
+    requires { ⌜ Usable tiers ⌝ }
+    ensures { λ r. ⌜ r ≡ tierSurvival tiers i ⌝ }
+{
+    let count = tiers.count;
+    if i < count {
+        tiers.survivals[i]
+    } else {
+        tiers.retained
+    }
 }
 
 // An edge in hundredths is reached: 100 times the gain is at least the edge times the cost.
