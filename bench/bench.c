@@ -4,6 +4,7 @@
  */
 #define _POSIX_C_SOURCE 200809L
 #include "spritapricot.h"
+#include <pthread.h>
 #include <stdio.h>
 #include <stdlib.h>
 #include <string.h>
@@ -88,6 +89,21 @@ static struct input worst(unsigned rate, uint64_t coupon, uint64_t penalty)
     struct input f = empty("worst", 4096);
     put_cells(&f, balance, months, coupon, penalty);
     put_sheets(&f, 310, 7, rate);
+    return f;
+}
+
+/* The records of the worst filing with every balance 0: it is read and split, and no month is priced. */
+static struct input worst_without_balances(void)
+{
+    struct input f = worst(900, 700, 180);
+    f.name = "worst, balances 0";
+    for (size_t at = 0; at + 14 <= f.size; at += 14) {
+        unsigned cell = f.bytes[at + 4] + 256u * f.bytes[at + 5];
+        if (f.bytes[at] != 12) break;
+        if (cell == 645 || (cell >= 650 && cell <= 655)) memset(f.bytes + at + 6, 0, 8);
+        for (int i = 0; i < 9; i++)
+            if (cell == balance_cell[i]) memset(f.bytes + at + 6, 0, 8);
+    }
     return f;
 }
 
@@ -193,7 +209,8 @@ static void measure(struct input f, int rounds, int calls, double least[3])
         }
 }
 
-static void compare(struct input f)
+/* The proved version's time. */
+static double compare(struct input f)
 {
     double least[3];
     if (agree(f) != 0) exit(1);
@@ -201,6 +218,39 @@ static void compare(struct input f)
     printf("%-22s", f.name);
     for (int v = 0; v < 3; v++) printf("%14.0f", least[v]);
     printf("%12.3f%12.3f\n", least[2] / least[0], least[2] / least[1]);
+    return least[2];
+}
+
+/* A call on a stack of its own, painted before: what it leaves painted was not used. */
+enum { STACK = 1 << 20, PAINT = 0x5a };
+
+static value_function *stack_version;
+
+static void *stack_call(void *list)
+{
+    static struct input f;
+    uint64_t place;
+    if (f.bytes == NULL) f = worst(900, 700, 180);
+    if (stack_version != NULL) stack_version(f.bytes, f.size, list, LIST, &place);
+    return NULL;
+}
+
+static size_t stack_used(value_function *function)
+{
+    static uint64_t list[LIST];
+    uint8_t *stack = aligned_alloc(4096, STACK);
+    pthread_attr_t attributes;
+    pthread_t thread;
+    size_t left = 0;
+    if (stack == NULL) abort();
+    memset(stack, PAINT, STACK);
+    stack_version = function;
+    pthread_attr_init(&attributes);
+    if (pthread_attr_setstack(&attributes, stack, STACK) != 0 || pthread_create(&thread, &attributes, stack_call, list) != 0) abort();
+    pthread_join(thread, NULL);
+    while (left < STACK && stack[left] == PAINT) left++;
+    free(stack);
+    return STACK - left;
 }
 
 static void hostile_times(struct input f, size_t read)
@@ -216,7 +266,7 @@ static void once(const char *which, const char *name)
 {
     static uint64_t list[LIST];
     uint64_t place;
-    struct input f = name[0] == 'w' ? worst(900, 700, 180) : name[0] == 't' ? typical() : fullest("fullest", 4096);
+    struct input f = name[0] == 'w' ? worst(900, 700, 180) : name[0] == 't' ? typical() : name[0] == 'n' ? worst_without_balances() : fullest("fullest", 4096);
     if (name[0] == 'r') put_cell(&f, 601, 0);
     version[which[0] - 'a'](f.bytes, f.size, list, LIST, &place);
 }
@@ -235,9 +285,15 @@ int main(int argc, char **argv)
     }
     printf("3000 random filings, %d of them accepted: the same answers and numbers from all versions\n\n", accepted);
     printf("%-22s%14s%14s%14s%12s%12s\n", "ns a filing", version_name[0], version_name[1], version_name[2], "proved/a", "proved/b");
-    compare(worst(900, 700, 180));
+    double whole = compare(worst(900, 700, 180));
     compare(typical());
     compare(fullest("fullest, short terms", 4096));
+    double reading = compare(worst_without_balances());
+    printf("reading and shares, with the list written: at most %.3f of the worst filing's time\n", reading / whole);
+    stack_used(NULL);
+    size_t thread = stack_used(NULL);
+    printf("stack of one call, bytes:");
+    for (int v = 0; v < 3; v++) printf(" %s %zu%s", version_name[v], stack_used(version[v]) - thread, v < 2 ? "," : "\n");
     printf("\n%-34s%10s%6s%8s%10s%10s%10s\n", "refused inputs, ns a call", "bytes", "no.", "read", "b tabled", "proved", "ns/byte");
     for (int i = 0; i < 3; i++) {
         size_t size = i == 0 ? 1024 : i == 1 ? 65536 : 16777216;

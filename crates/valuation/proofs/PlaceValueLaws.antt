@@ -1,7 +1,6 @@
 -- The value of a place with the discount factors of the list is the value of the definitions. Assumes nothing.
-use Prim.Native.Nat.{ℕ, zero, suc, _+_, _*_, _-_, _/_, _%_, _^_, _≤_, _<_, zero-le}
+use Prim.Native.Nat.{ℕ, zero, suc, _+_, _*_, _-_, _/_, _%_, _^_, _≤_, _<_}
 use mathlib.Core.Path.{_≡_, sym, _∙_}
-use mathlib.Core.Bool.{Bool, true, false, cond}
 use mathlib.Core.Logic.{⊎-elim}
 use mathlib.Core.List.{List}
 use lib.Dec.{ltb, lit<}
@@ -34,7 +33,7 @@ use Rattle.valuation.specs.Inner.Listed.{WithinValues, valuesBy, numberI
 use Rattle.valuation.specs.Numbers.{numbers, numberCount}
 use Rattle.valuation.specs.Run.{valueAt}
 use Rattle.valuation.proofs.NumberLaws.{numbers-listed}
-use Rattle.valuation.proofs.TermsLaws.{months-limit, terms-bounded}
+use Rattle.valuation.proofs.TermsLaws.{either-le, months-limit, terms-bounded}
 
 -- the yields of an accepted filing are within the limit
 pub yields-within : (k : Contents) → Valid k → WithinRates (k .yields)
@@ -45,10 +44,6 @@ yields-within k v i = let e : suc i - 1 ≡ i = omega arith in rw e at (v .yield
 pub place-is : (k : Contents) (place : ℕ) → place < 36 → getD (placesOf k) place noPlace ≡ placeAt k place
 unfolding placesOf
 place-is k place h = table-getD 36 (placeAt k) place noPlace h
-
-either-le : (b : Bool) {x n : ℕ} → x ≤ n → cond b x 0 ≤ n
-either-le true h = h
-either-le false h = zero-le
 
 -- no discount factor is above 10^9
 pub factors-at-most-par : (ρ : Rounding) (yields : List ℕ) (longest : ℕ) → AtMostPar (factorsBy ρ yields longest)

@@ -1,23 +1,27 @@
 -- The terms of each sub-balance of an accepted filing are within the limits of the run. Assumes nothing.
-use Prim.Native.Nat.{ℕ, _/_, _%_, _≤_, _<_}
+use Prim.Native.Nat.{ℕ, _/_, _%_, _≤_, _<_, zero-le}
+use mathlib.Core.Bool.{Bool, true, false, cond}
 use mathlib.Core.Path.{_≡_}
-use lib.Dec.{leb, lit≤}
+use lib.Dec.{eqb, lit≤}
 use native.Mathlib.Nat.{mul-le-mul-left}
 use native.Mathlib.Omega.{arith}
-use Rattle.schedule.specs.Shift.{shiftedRate}
+use Rattle.schedule.specs.Cells.{positionAt}
+use Rattle.schedule.proofs.ShiftLaws.{shifted-rate-le}
 use Rattle.filing.specs.declared.Contents.{Contents}
-use Rattle.filing.specs.Contents.{retailRate}
+use Rattle.filing.specs.Contents.{cell, retailRate}
 use Rattle.filing.specs.Valid.{Valid}
 use Rattle.shares.specs.declared.SubBalance.{SubBalance}
 use Rattle.shares.specs.Places.{placeAt}
 use Rattle.shares.specs.SubBalances.{positionOf, couponAt, monthsAt}
+use Rattle.shares.proofs.SubBalanceLaws.{column-range}
 use Rattle.withdrawal.specs.Tiers.{TierTable}
 use Rattle.withdrawal.specs.MonthSurvival.{Account, retail, brokered, accountOf}
 use Rattle.withdrawal.proofs.MonthSurvivalLaws.{monthSurvival-le}
 use Rattle.pricing.specs.Bounded.{Bounded}
 use Rattle.valuation.specs.declared.Deposit.{Deposit}
 use Rattle.valuation.specs.Inner.Deposits.{DepositLimits}
-use Rattle.valuation.specs.DepositTerms.{isBrokered, penaltyAt, depositAt, servicingCost, termsOf, filingTiers, termsAt}
+use Rattle.valuation.specs.Inner.PlaceValues.{filed, depositFrom}
+use Rattle.valuation.specs.DepositTerms.{penaltyAt, rateAt, depositAt, servicingCost, termsOf, filingTiers, termsAt}
 
 servicing-le : (account : Account) → servicingCost account ≤ 175000
 unfolding servicingCost
@@ -48,21 +52,35 @@ unfolding termsAt depositAt
 terms-bounded k v scenario place h =
     terms-of-bounded (filingTiers k) (depositAt k scenario place) (coupon-limit k v place h) (months-limit k v place h)
 
--- the deposit at a place, from what the place holds
-pub deposit-is : (k : Contents) (scenario place : ℕ) (p : SubBalance) (penalty rate : ℕ) → p ≡ placeAt k place → penalty ≡ penaltyAt k place
-    → rate ≡ shiftedRate scenario (retailRate k (positionOf place .column))
-    → _≡_ {A = Deposit} (record { brokered = leb 2 (place % 4); coupon = p .coupon; penalty = penalty; rate = rate; months = p .«remaining_months» }) (depositAt k scenario place)
-unfolding depositAt isBrokered placeAt
-deposit-is k scenario place p penalty rate hp hpenalty hrate = rw (hp, hpenalty, hrate)
+-- what is within a limit, or 0
+pub either-le : (b : Bool) {x n : ℕ} → x ≤ n → cond b x 0 ≤ n
+either-le true h = h
+either-le false h = zero-le
+
+-- the penalty and the shifted retail rate of a place are within their limits
+penalty-limit : (k : Contents) → Valid k → (place : ℕ) → place < 36 → penaltyAt k place ≤ 3600
+unfolding penaltyAt positionOf
+penalty-limit k v place h =
+    let range = column-range (place / 4) (omega arith) in
+    either-le (eqb (place % 2) 0) (v .penalty-limit (positionAt (place / 4) .column) (range .0) (range .1))
+
+rate-limit : (k : Contents) → Valid k → (scenario place : ℕ) → scenario < 7 → rateAt k scenario place ≤ 2800
+unfolding rateAt
+rate-limit k v scenario place h = shifted-rate-le scenario _ (omega arith) (v .rate-limit (positionOf place .column))
+
+-- the deposit at a place, from what the place holds and from the cells and retail rates
+pub deposit-is : (k : Contents) (scenario place : ℕ) (p : SubBalance) → p ≡ placeAt k place
+    → depositFrom (filed (k .cells) (k .rates)) p scenario place ≡ depositAt k scenario place
+unfolding depositFrom depositAt placeAt penaltyAt rateAt cell retailRate
+deposit-is k scenario place p e = rw e
 
 -- and it is within the limits
-pub deposit-limits : (k : Contents) → Valid k → (scenario place : ℕ) → place < 36 → (d : Deposit) → d ≡ depositAt k scenario place
-    → d .penalty ≤ 3600 → d .rate ≤ 2800 → DepositLimits d
+pub deposit-limits : (k : Contents) → Valid k → (scenario place : ℕ) → scenario < 7 → place < 36 → (d : Deposit) → d ≡ depositAt k scenario place → DepositLimits d
 unfolding depositAt
-deposit-limits k v scenario place h d e hp hr =
+deposit-limits k v scenario place hs h d e =
     record {
       coupon-le = rw e (coupon-limit k v place h);
-      penalty-le = hp;
-      rate-le = hr;
+      penalty-le = rw e (penalty-limit k v place h);
+      rate-le = rw e (rate-limit k v scenario place hs);
       months-le = rw e (months-limit k v place h);
     }

@@ -20,14 +20,18 @@ isBrokered place = leb 2 (place % 4)
 unfoldable pub penaltyAt : Contents → ℕ → ℕ
 penaltyAt k place = cond (eqb (place % 2) 0) (cell k (penaltyMonthsCell (positionOf place .column))) 0
 
--- the deposit at a place, 0 to 35, in a scenario, 0 to 6, with its column's shifted retail rate
+-- the shifted retail rate of a place's column, hundredths of a percent a year
+unfoldable pub rateAt : Contents → ℕ → ℕ → ℕ
+rateAt k scenario place = shiftedRate scenario (retailRate k (positionOf place .column))
+
+-- the deposit at a place, 0 to 35, in a scenario, 0 to 6
 unfoldable pub depositAt : Contents → ℕ → ℕ → Deposit
 depositAt k scenario place =
     record {
       brokered = isBrokered place;
       coupon = couponAt k place;
       penalty = penaltyAt k place;
-      rate = shiftedRate scenario (retailRate k (positionOf place .column));
+      rate = rateAt k scenario place;
       months = monthsAt k place;
     }
 

@@ -5,25 +5,22 @@ use crate::Values;
 use crate::factors::factor_table;
 use crate::prices::price_of;
 use filing::Contents;
-use filing::cells::cell_value;
 use pricing::months::value_of;
 use schedule::positions::column_of;
 use schedule::scenarios::Scenario;
 use shares::SubBalance;
 use withdrawal::WithdrawalTiers;
 ghost use mathlib.Core.Path.{_≡_};
+ghost use mathlib.Core.List.{[]};
 ghost use Prim.Native.Nat.{_≤_, _<_, max};
-ghost use Rattle.schedule.specs.Shift.{shiftedRate};
-ghost use Rattle.filing.specs.Contents.{retailRate};
 ghost use Rattle.filing.specs.Valid.{Valid};
-ghost use Rattle.shares.specs.SubBalances.{positionOf};
-ghost use Rattle.shares.specs.Places.{placeAt, placesOf};
+ghost use Rattle.shares.specs.Places.{placesOf};
 ghost use Rattle.withdrawal.specs.Inner.TierArrays.{tierTable, Usable};
 ghost use Rattle.pricing.specs.Rounding.{down, up};
-ghost use Rattle.valuation.specs.DepositTerms.{penaltyAt, depositAt, filingTiers};
+ghost use Rattle.valuation.specs.DepositTerms.{penaltyAt, rateAt, filingTiers};
 ghost use Rattle.valuation.specs.Inner.Deposits.{DepositLimits, AtMostPar};
 ghost use Rattle.valuation.specs.Inner.Listed.{valuesBy};
-ghost use Rattle.valuation.specs.Inner.PlaceValues.{longestTerm, termOf, listedValues};
+ghost use Rattle.valuation.specs.Inner.PlaceValues.{filed, depositFrom, longestTerm, termOf, listedValues};
 
 // Values of the thirty-six places in the seven scenarios.
 pub fn values_of(k: Contents, places: [SubBalance; 36], tiers: WithdrawalTiers) -> Values
@@ -31,6 +28,7 @@ pub fn values_of(k: Contents, places: [SubBalance; 36], tiers: WithdrawalTiers) 
     requires { ⌜ (tierTable tiers ≡ filingTiers k) × Usable tiers ⌝ }
     ensures { λ r. ⌜ (r .lower ≡ valuesBy down k) × (r .upper ≡ valuesBy up k) ⌝ }
 {
+    let cells = k.cells;
     let yields = k.yields;
     let longest = longest_term(places);
     let low_factors = factor_table(&yields, longest, false);
@@ -42,7 +40,8 @@ pub fn values_of(k: Contents, places: [SubBalance; 36], tiers: WithdrawalTiers) 
         let at = i % 36;
         let scenario = i / 36;
         let place = places[at];
-        let d = deposit_of(k, place, scenario, at);
+        let rates = k.rates;
+        let d = deposit_of(&cells, &rates, place, scenario, at);
         let v = value_bounds(
             place.balance,
             d,
@@ -82,38 +81,45 @@ fn value_bounds(
 }
 
 // The deposit at a place in a scenario.
-fn deposit_of(k: Contents, place: SubBalance, scenario: usize, at: usize) -> Deposit
-    requires { ⌜ Valid k × (place ≡ placeAt k at) × (scenario < 7) × (at < 36) ⌝ }
-    ensures { λ r. ⌜ (r ≡ depositAt k scenario at) × DepositLimits r ⌝ }
+fn deposit_of(
+    cells: &[u64; 61],
+    rates: &[u16; 3],
+    place: SubBalance,
+    scenario: usize,
+    at: usize,
+) -> Deposit
+    requires { ⌜ (scenario < 7) × (at < 36) ⌝ }
+    ensures { λ r. ⌜ r ≡ depositFrom (filed (now (cells .entry)) (now (rates .entry))) place scenario at ⌝ }
 {
     Deposit {
         brokered: 2 <= at % 4,
         coupon: place.coupon,
-        penalty: penalty_of(k, at),
-        rate: rate_of(k, scenario, at),
+        penalty: penalty_of(cells, at),
+        rate: rate_of(rates, scenario, at),
         months: place.remaining_months,
     }
 }
 
 // The penalty of a place in hundredths of a month: its column's, or 0 where the place is without penalty.
-fn penalty_of(k: Contents, at: usize) -> u64
-    requires { ⌜ Valid k × (at < 36) ⌝ }
-    ensures { λ r. ⌜ (r ≡ penaltyAt k at) × (r ≤ 3600) ⌝ }
+fn penalty_of(cells: &[u64; 61], at: usize) -> u64
+    requires { ⌜ at < 36 ⌝ }
+    ensures { λ r. ⌜ r ≡ penaltyAt (filed (now (cells .entry)) []) at ⌝ }
 {
     if at % 2 == 0 {
-        cell_value(k, 655 + column_of(at / 4))
+        let i = 655 + column_of(at / 4) - 601;
+        cells[i]
     } else {
         0
     }
 }
 
 // The shifted retail rate of a place's column in hundredths of a percent a year.
-fn rate_of(k: Contents, scenario: usize, at: usize) -> u64
-    requires { ⌜ Valid k × (scenario < 7) × (at < 36) ⌝ }
-    ensures { λ r. ⌜ (r ≡ shiftedRate scenario (retailRate k (positionOf at .column))) × (r ≤ 2800) ⌝ }
+fn rate_of(rates: &[u16; 3], scenario: usize, at: usize) -> u64
+    requires { ⌜ (scenario < 7) × (at < 36) ⌝ }
+    ensures { λ r. ⌜ r ≡ rateAt (filed [] (now (rates .entry))) scenario at ⌝ }
 {
     let j = column_of(at / 4) - 1;
-    Scenario::new(scenario as u8).shifted(k.rates[j])
+    Scenario::new(scenario as u8).shifted(rates[j])
 }
 
 // The longest term among the places with a balance.

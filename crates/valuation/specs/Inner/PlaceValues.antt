@@ -1,10 +1,11 @@
 -- Values from what a place holds, and the longest term that has to be discounted (01:60). Definitions only.
 use Prim.Native.Nat.{ℕ, zero, suc, _*_, _^_, max}
 use mathlib.Core.Bool.{cond}
-use mathlib.Core.List.{List}
+use mathlib.Core.List.{List, []}
 use lib.Dec.{eqb}
 use lib.ListN.{getD}
 use Rattle.lists.specs.Tables.{table}
+use Rattle.filing.specs.declared.Contents.{Contents}
 use Rattle.shares.specs.declared.SubBalance.{SubBalance}
 use Rattle.shares.specs.SubBalances.{subBalanceCount}
 use Rattle.shares.specs.Places.{noPlace}
@@ -12,7 +13,23 @@ use Rattle.withdrawal.specs.Tiers.{TierTable}
 use Rattle.pricing.specs.Rounding.{Rounding, down, up, quotient}
 use Rattle.valuation.specs.declared.Deposit.{Deposit}
 use Rattle.valuation.specs.declared.Bounds.{Bounds}
+use Rattle.valuation.specs.DepositTerms.{isBrokered, penaltyAt, rateAt}
 use Rattle.valuation.specs.Inner.Deposits.{listedPrice}
+
+-- contents of which only the cells and the retail rates are known
+abbrev pub filed : List ℕ → List ℕ → Contents
+filed cells rates = record { cells = cells; yields = []; rates = rates }
+
+-- the deposit at a place, 0 to 35, in a scenario, 0 to 6, with the coupon and months that the place holds
+unfoldable pub depositFrom : Contents → SubBalance → ℕ → ℕ → Deposit
+depositFrom k p scenario place =
+    record {
+      brokered = isBrokered place;
+      coupon = p .coupon;
+      penalty = penaltyAt k place;
+      rate = rateAt k scenario place;
+      months = p .«remaining_months»;
+    }
 
 -- the remaining months of a place with a balance, 0 of one without
 unfoldable pub termOf : SubBalance → ℕ

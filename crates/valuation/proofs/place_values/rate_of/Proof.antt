@@ -1,10 +1,10 @@
 -- `valuation::place_values::rate_of` meets its contract. Assumes nothing.
 use Prim.Native.Nat.{_/_}
 use native.Mathlib.Omega.{arith}
-use Rattle.schedule.proofs.ShiftLaws.{shifted-rate-le}
 use Rattle.filing.specs.Contents.{retailRate}
 use Rattle.shares.specs.SubBalances.{positionOf}
 use Rattle.shares.proofs.SubBalanceLaws.{column-range}
+use Rattle.valuation.specs.DepositTerms.{rateAt}
 use borrow.Author.Needs.{needs}
 use Rattle.valuation.proofs.place_values.rate_of.Statement.{statement}
 use Rattle.valuation.proofs.place_values.rate_of.Tie as tie
@@ -31,12 +31,8 @@ shifted-requires : tie.Need-shifted-requires
 shifted-requires c κs = search needs
 
 returns : tie.Need-returns
-unfolding retailRate positionOf
-returns c =
-    let s = c .before .before .before .before in (
-      simp (c .shifted .ensures, c .before .before .new .ensures, c .before .before .before .column-of .ensures),
-      rw (c .shifted .ensures, c .before .before .new .ensures) (shifted-rate-le (s .args .scenario) _ (omega arith) (s .pre .0 .rate-limit (c .before .before .before .column-of .result))),
-    )
+unfolding rateAt retailRate positionOf
+returns c = simp (c .shifted .ensures, c .before .before .new .ensures, c .before .before .before .column-of .ensures)
 
 pub rate-of-spec : {M : Type 1} → statement M
 rate-of-spec =
