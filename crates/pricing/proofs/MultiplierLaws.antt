@@ -88,7 +88,8 @@ unfolding discountsBy tableFrom discountBy
 discounts-zero ρ rates = refl
 
 -- one factor more at each of them
-pub discounts-suc : (ρ : Rounding) (rates : List ℕ) (n : ℕ) → AtMost 2800 rates → scaledAllBy ρ (discountsBy ρ rates n) (multipliersBy ρ rates) ≡ discountsBy ρ rates (suc n)
+pub discounts-suc : (ρ : Rounding) (rates : List ℕ) (n : ℕ) → AtMost 2800 rates
+    → scaledAllBy ρ (discountsBy ρ rates n) (multipliersBy ρ rates) ≡ discountsBy ρ rates (suc n)
 unfolding scaledAllBy discountsBy multipliersBy discountBy
 discounts-suc ρ rates n h =
     table-ext 7 _ _

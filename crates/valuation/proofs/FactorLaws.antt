@@ -38,7 +38,8 @@ module _ (ρ : Rounding) (yields : List ℕ) (longest month : ℕ) where
       rw (table-getD 7 (λ (i : ℕ). shiftedRate i (getD yields month 0)) s 0 l, e, r, lt-ltb month longest h))
 
 -- a list whose first m sevens are a table, with the next seven stored
-pub seven-stored : (f : ℕ → ℕ) (l seven : List ℕ) (m : ℕ) → length l ≡ 840 → m < 120 → take (7 * m) l ≡ table (7 * m) f → seven ≡ table 7 (λ (s : ℕ). f (7 * m + s))
+pub seven-stored : (f : ℕ → ℕ) (l seven : List ℕ) (m : ℕ) → length l ≡ 840 → m < 120 → take (7 * m) l ≡ table (7 * m) f
+    → seven ≡ table 7 (λ (s : ℕ). f (7 * m + s))
     → take (7 * (m + 1)) (set (set (set (set (set (set (set l (7 * m) (getD seven 0 0)) (7 * m + 1) (getD seven 1 0)) (7 * m + 2) (getD seven 2 0)) (7 * m + 3) (getD seven 3 0)) (7 * m + 4) (getD seven 4 0)) (7 * m + 5) (getD seven 5 0)) (7 * m + 6) (getD seven 6 0))
     ≡ table (7 * (m + 1)) f
 seven-stored f l seven m long h held e =
@@ -56,5 +57,6 @@ seven-stored f l seven m long h held e =
     first : getD seven 0 0 ≡ f (7 * m + 0)
     first = at 0 (lit< tt)
 
-    next : (s : ℕ) (k : List ℕ) (more : ℕ) → s < 7 → length k ≡ 840 → more ≡ 7 * m + s + 1 → take (7 * m + s) k ≡ table (7 * m + s) f → take more (set k (7 * m + s) (getD seven s 0)) ≡ table more f
+    next : (s : ℕ) (k : List ℕ) (more : ℕ) → s < 7 → length k ≡ 840 → more ≡ 7 * m + s + 1 → take (7 * m + s) k ≡ table (7 * m + s) f
+        → take more (set k (7 * m + s) (getD seven s 0)) ≡ table more f
     next s k more u long e held = table-stored f k (7 * m + s) more (getD seven s 0) held (omega arith) e (at s u)

@@ -75,7 +75,8 @@ unfolding depositFrom depositAt placeAt penaltyAt rateAt cell retailRate
 deposit-is k scenario place p e = rw e
 
 -- and it is within the limits
-pub deposit-limits : (k : Contents) → Valid k → (scenario place : ℕ) → scenario < 7 → place < 36 → (d : Deposit) → d ≡ depositAt k scenario place → DepositLimits d
+pub deposit-limits : (k : Contents) → Valid k → (scenario place : ℕ) → scenario < 7 → place < 36 → (d : Deposit)
+    → d ≡ depositAt k scenario place → DepositLimits d
 unfolding depositAt
 deposit-limits k v scenario place hs h d e =
     record {
