@@ -9,7 +9,7 @@ use Rattle.lists.specs.Tables.{tableFrom}
 use Rattle.lists.proofs.TableLaws.{table-getD, table-ext, table-le}
 use Rattle.pricing.specs.Rounding.{Rounding, down, up, quotient}
 use Rattle.pricing.specs.Run.{discountBy}
-use Rattle.pricing.specs.Multipliers.{multiplierBy, multipliersBy, scaledBy, scaledAllBy, discountsBy, AtMost}
+use Rattle.pricing.specs.Inner.Multipliers.{multiplierBy, multipliersBy, scaledBy, scaledAllBy, discountsBy, AtMost}
 use Rattle.pricing.proofs.RoundingLaws.{floor-le, floor-gt, ceiling-ge, ceiling-lt, quotient-le}
 use Rattle.pricing.proofs.LimitLaws.{discount-limit}
 

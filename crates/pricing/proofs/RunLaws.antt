@@ -7,7 +7,7 @@ use Rattle.pricing.specs.Terms.{Terms}
 use Rattle.pricing.specs.Bounded.{Bounded}
 use Rattle.pricing.specs.Rounding.{Rounding}
 use Rattle.pricing.specs.Run.{balanceBy, outflowBy, flowBy, discountedBy}
-use Rattle.pricing.specs.Month.{runBy, nextBalance, nextFlow, nextRun, Small}
+use Rattle.pricing.specs.Inner.Month.{runBy, nextBalance, nextFlow, nextRun, Small}
 use Rattle.pricing.proofs.LimitLaws.{balance-limit, discounted-limit}
 
 -- one month more

@@ -2,6 +2,5 @@ pub mod Terms
 pub mod Exact
 pub mod Rounding
 pub mod Run
-pub mod Multipliers
 pub mod Bounded
-pub mod Month
+pub mod Inner

@@ -3,7 +3,7 @@ use crate::rounding::quotient;
 ghost use mathlib.Core.Path.{_≡_};
 ghost use Prim.Native.Nat.{_^_, _≤_};
 ghost use Rattle.pricing.specs.Rounding.{roundingOf};
-ghost use Rattle.pricing.specs.Multipliers.{multiplierBy, multipliersBy, scaledBy, scaledAllBy, discountsBy, AtMost};
+ghost use Rattle.pricing.specs.Inner.Multipliers.{multiplierBy, multipliersBy, scaledBy, scaledAllBy, discountsBy, AtMost};
 
 // The discount factors of seven rates after n monthly factors each, in billionths. The rates, CD yields, are in hundredths of a percent a year.
 pub fn discount_factors(rates: &[u64; 7], n: u64, up: bool) -> [u64; 7]

@@ -5,7 +5,7 @@ ghost use mathlib.Core.Path.{_≡_};
 ghost use Prim.Native.Nat.{_+_, _*_, _-_, _^_, _≤_};
 ghost use Rattle.pricing.specs.Rounding as spec;
 ghost use Rattle.pricing.specs.Rounding.{roundingOf};
-ghost use Rattle.pricing.specs.Month.{nextRun, Small};
+ghost use Rattle.pricing.specs.Inner.Month.{nextRun, Small};
 
 // The run one month on. `last` is month T, in which the balance is paid.
 pub fn next_month(

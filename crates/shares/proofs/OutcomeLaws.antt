@@ -17,8 +17,8 @@ use Rattle.filing.specs.Valid.{Valid}
 use Rattle.filing.proofs.ReadLaws.{contents-accepted}
 use Rattle.filing.proofs.AcceptedLaws.{accepted-valid}
 use Rattle.shares.specs.declared.Outcome.{Outcome}
-use Rattle.shares.specs.Places.{placesOf}
-use Rattle.shares.specs.Split.{splitVerdict, splitAccepts, noPlace, OutcomeOf}
+use Rattle.shares.specs.Places.{placesOf, noPlace}
+use Rattle.shares.specs.Split.{splitVerdict, splitAccepts, OutcomeOf}
 
 -- a list under thirty-six places is refused, whatever the filing
 pub split-short : (s : List ℕ) (size : ℕ) → size < 36 → verdictOf (ListTooShort size) ≡ splitVerdict s size

@@ -13,8 +13,8 @@ use Rattle.filing.specs.Contents.{contentsOf}
 use Rattle.filing.specs.Verdict.{listVerdict, refused, filingVerdict}
 use Rattle.shares.specs.declared.SubBalance.{SubBalance}
 use Rattle.shares.specs.declared.Outcome.{Outcome}
-use Rattle.shares.specs.Places.{placeAt, placesOf}
-use Rattle.shares.specs.Split.{splitVerdict, splitAccepts, placesAfter, noPlace, OutcomeOf, SplitOf}
+use Rattle.shares.specs.Places.{placeAt, placesOf, noPlace}
+use Rattle.shares.specs.Split.{splitVerdict, splitAccepts, placesAfter, OutcomeOf, SplitOf}
 
 -- a list that is accepted has room for the places
 accepts-size : (s : List ℕ) (size : ℕ) → splitAccepts s size ≡ true → 36 ≤ size

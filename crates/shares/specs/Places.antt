@@ -10,6 +10,10 @@ use Rattle.shares.specs.SubBalances.{balanceAt, couponAt, monthsAt, subB
 unfoldable pub placeAt : Contents → ℕ → SubBalance
 placeAt k place = record { balance = balanceAt k place; coupon = couponAt k place; «remaining_months» = monthsAt k place }
 
+-- a place that holds nothing
+abbrev pub noPlace : SubBalance
+noPlace = record { balance = 0; coupon = 0; «remaining_months» = 0 }
+
 -- the thirty-six places, nine cells ascending and four for each
 unfoldable pub placesOf : Contents → List SubBalance
 placesOf k = table subBalanceCount (placeAt k)

@@ -12,7 +12,7 @@ use Rattle.filing.specs.Contents.{contentsOf}
 use Rattle.shares.specs.declared.SubBalance.{SubBalance}
 use Rattle.shares.specs.declared.Outcome.{Outcome}
 use Rattle.shares.specs.SubBalances.{subBalanceCount}
-use Rattle.shares.specs.Places.{placesOf}
+use Rattle.shares.specs.Places.{placesOf, noPlace}
 
 -- the verdict on a filing and a list of `size` places: a short list comes first
 unfoldable pub splitVerdict : List ℕ → ℕ → Verdict
@@ -25,10 +25,6 @@ splitAccepts s size = eqb (splitVerdict s size .number) 0
 -- the list after the call: as it was on a refusal, else the thirty-six places and then the rest as it was
 unfoldable pub placesAfter : List ℕ → List SubBalance → List SubBalance
 placesAfter s l = cond (splitAccepts s (length l)) (placesOf (contentsOf s) ++ drop subBalanceCount l) l
-
--- a place that holds nothing
-abbrev pub noPlace : SubBalance
-noPlace = record { balance = 0; coupon = 0; «remaining_months» = 0 }
 
 -- what is made of a filing and a list of `size` places: the answer, the places to be written, and how many of them are
 pub record OutcomeOf (s : List ℕ) (size : ℕ) (r : Outcome) : Type 0 where

@@ -10,7 +10,8 @@ ghost use mathlib.Core.Path.{_≡_};
 ghost use mathlib.Core.List.{_++_};
 ghost use Prim.Native.Nat.{_≤_};
 ghost use lib.ListN.{length, take, drop, replicate};
-ghost use Rattle.shares.specs.Split.{noPlace, OutcomeOf, SplitOf};
+ghost use Rattle.shares.specs.Places.{noPlace};
+ghost use Rattle.shares.specs.Split.{OutcomeOf, SplitOf};
 
 // Fills in the thirty-six places of a filing, nine positions ascending and four places each. A refusal changes no place, and the places past the
 // thirty-sixth are left.

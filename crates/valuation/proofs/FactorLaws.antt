@@ -12,8 +12,8 @@ use Rattle.schedule.specs.Shift.{shiftedRate}
 use Rattle.schedule.proofs.ShiftLaws.{shifted-rate-le}
 use Rattle.pricing.specs.Rounding.{Rounding}
 use Rattle.pricing.specs.Run.{discountBy}
-use Rattle.pricing.specs.Multipliers.{discountsBy, AtMost}
-use Rattle.valuation.specs.Factors.{factorAt, shiftedRates, monthFactors}
+use Rattle.pricing.specs.Inner.Multipliers.{discountsBy, AtMost}
+use Rattle.valuation.specs.Inner.Factors.{factorAt, shiftedRates, monthFactors}
 
 -- the rates of a yield within its limit
 pub shifted-rates-at-most : (rate : ℕ) → rate ≤ 2500 → AtMost 2800 (shiftedRates rate)

@@ -18,7 +18,7 @@ use Rattle.pricing.specs.Rounding.{Rounding, down, up}
 use Rattle.valuation.specs.Rows.{isShort, isLong}
 use Rattle.valuation.specs.Run.{valueAt, totalBy}
 use Rattle.valuation.specs.Numbers.{valuesOf, placeNumbers, scenarioTotals, numbers}
-use Rattle.valuation.specs.Listed.{valuesBy, valueIn, inTotal, totalIn, sideAt, placeNumberIn, totalNumberIn, numberIn}
+use Rattle.valuation.specs.Inner.Listed.{valuesBy, valueIn, inTotal, totalIn, sideAt, placeNumberIn, totalNumberIn, numberIn}
 
 module _ (k : Contents) where
   valuesOf-length : (place scenario : ℕ) → length (valuesOf k place scenario) ≡ 2

@@ -16,7 +16,7 @@ use Rattle.filing.specs.Valid.{Valid}
 use Rattle.shares.specs.declared.SubBalance.{SubBalance}
 use Rattle.shares.specs.SubBalances.{balanceAt, monthsAt}
 use Rattle.shares.proofs.SubBalanceLaws.{balanceAt-limit}
-use Rattle.shares.specs.Places.{placeAt, placesOf}
+use Rattle.shares.specs.Places.{placeAt, placesOf, noPlace}
 use Rattle.withdrawal.specs.Tiers.{TierTable}
 use Rattle.pricing.specs.Rounding.{Rounding, down, up, quotient}
 use Rattle.pricing.specs.Run.{discountFactorBy, priceBy, valueBy}
@@ -26,10 +26,10 @@ use Rattle.pricing.proofs.RunLaws.{run-ext}
 use Rattle.valuation.specs.declared.Deposit.{Deposit}
 use Rattle.valuation.specs.declared.Bounds.{Bounds}
 use Rattle.valuation.specs.DepositTerms.{depositAt, termsOf, filingTiers, termsAt, monthYield}
-use Rattle.valuation.specs.Deposits.{listed, listedPrice, AtMostPar}
-use Rattle.valuation.specs.Factors.{factorAt, factorsBy, WithinRates}
-use Rattle.valuation.specs.PlaceValues.{noBalance, termOf, longestTo, longestTerm, listedValue, listedValues, balancesIn}
-use Rattle.valuation.specs.Listed.{WithinValues, valuesBy, numberIn}
+use Rattle.valuation.specs.Inner.Deposits.{listed, listedPrice, AtMostPar}
+use Rattle.valuation.specs.Inner.Factors.{factorAt, factorsBy, WithinRates}
+use Rattle.valuation.specs.Inner.PlaceValues.{termOf, longestTo, longestTerm, listedValue, listedValues, balancesIn}
+use Rattle.valuation.specs.Inner.Listed.{WithinValues, valuesBy, numberIn}
 use Rattle.valuation.specs.Numbers.{numbers, numberCount}
 use Rattle.valuation.specs.Run.{valueAt}
 use Rattle.valuation.proofs.NumberLaws.{numbers-listed}
@@ -41,9 +41,9 @@ unfolding cdYield
 yields-within k v i = let e : suc i - 1 ≡ i = omega arith in rw e at (v .yield-limit (suc i))
 
 -- what stands at a place of the thirty-six
-pub place-is : (k : Contents) (place : ℕ) → place < 36 → getD (placesOf k) place noBalance ≡ placeAt k place
+pub place-is : (k : Contents) (place : ℕ) → place < 36 → getD (placesOf k) place noPlace ≡ placeAt k place
 unfolding placesOf
-place-is k place h = table-getD 36 (placeAt k) place noBalance h
+place-is k place h = table-getD 36 (placeAt k) place noPlace h
 
 -- no discount factor is above 10^9
 pub factors-at-most-par : (ρ : Rounding) (yields : List ℕ) (longest : ℕ) → AtMostPar (factorsBy ρ yields longest)
@@ -62,11 +62,11 @@ factor-is ρ k longest scenario t hs ht hl =
     rw (before, table-getD 840 (factorAt ρ (k .yields) longest) (7 * t + scenario) 0 (omega arith), month, number, lt-ltb t longest hl)
 
 -- a place's term is at most the longest
-longest-le : (ps : List SubBalance) (n i : ℕ) → i < n → termOf (getD ps i noBalance) ≤ longestTo ps n
+longest-le : (ps : List SubBalance) (n i : ℕ) → i < n → termOf (getD ps i noPlace) ≤ longestTo ps n
 unfolding longestTo
 longest-le ps (suc n) i h =
-    ⊎-elim (λ e. rw e (le-max-right (longestTo ps n) (termOf (getD ps n noBalance))))
-    (λ l. le-trans (longest-le ps n i l) (le-max-left (longestTo ps n) (termOf (getD ps n noBalance)))) (eq-or-lt-of-le (le-of-suc-le-suc h))
+    ⊎-elim (λ e. rw e (le-max-right (longestTo ps n) (termOf (getD ps n noPlace))))
+    (λ l. le-trans (longest-le ps n i l) (le-max-left (longestTo ps n) (termOf (getD ps n noPlace)))) (eq-or-lt-of-le (le-of-suc-le-suc h))
 longest-le ps zero i h = absurd (not-suc-le-zero h)
 
 term-of-place : (k : Contents) (place : ℕ) → 0 < balanceAt k place → monthsAt k place ≤ termOf (placeAt k place)
@@ -78,7 +78,7 @@ months-le-longest : (k : Contents) (place : ℕ) → place < 36 → 0 < balanceA
 unfolding longestTerm
 months-le-longest k place h pos = le-trans held (longest-le (placesOf k) 36 place h)
   where
-    held : monthsAt k place ≤ termOf (getD (placesOf k) place noBalance)
+    held : monthsAt k place ≤ termOf (getD (placesOf k) place noPlace)
     held = rw (place-is k place h) (term-of-place k place pos)
 
 -- the price by the list is the price by the yields

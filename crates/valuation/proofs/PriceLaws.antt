@@ -12,12 +12,12 @@ use Rattle.withdrawal.specs.MonthSurvival.{accountOf, monthSurvival}
 use Rattle.pricing.specs.declared.Run.{Run}
 use Rattle.pricing.specs.Rounding.{Rounding}
 use Rattle.pricing.specs.Run.{balanceBy, discountedBy}
-use Rattle.pricing.specs.Month.{runBy, nextRun, Small}
+use Rattle.pricing.specs.Inner.Month.{runBy, nextRun, Small}
 use Rattle.pricing.proofs.LimitLaws.{discounted-limit}
 use Rattle.pricing.proofs.RunLaws.{run-suc, run-small}
 use Rattle.valuation.specs.declared.Deposit.{Deposit}
 use Rattle.valuation.specs.DepositTerms.{servicingCost, termsOf}
-use Rattle.valuation.specs.Deposits.{listed, listedPrice, DepositLimits, AtMostPar}
+use Rattle.valuation.specs.Inner.Deposits.{listed, listedPrice, DepositLimits, AtMostPar}
 use Rattle.valuation.proofs.TermsLaws.{terms-of-bounded}
 
 listed-suc : (factors : List ℕ) (scenario t : ℕ) → listed factors scenario (suc t) ≡ getD factors (7 * t + scenario) 0

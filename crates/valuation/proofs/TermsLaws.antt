@@ -19,8 +19,8 @@ use Rattle.withdrawal.specs.MonthSurvival.{Account, retail, brokered, accountOf
 use Rattle.withdrawal.proofs.MonthSurvivalLaws.{monthSurvival-le}
 use Rattle.pricing.specs.Bounded.{Bounded}
 use Rattle.valuation.specs.declared.Deposit.{Deposit}
-use Rattle.valuation.specs.Deposits.{DepositLimits}
-use Rattle.valuation.specs.PlaceValues.{filed, depositFrom}
+use Rattle.valuation.specs.Inner.Deposits.{DepositLimits}
+use Rattle.valuation.specs.Inner.PlaceValues.{filed, depositFrom}
 use Rattle.valuation.specs.DepositTerms.{penaltyAt, rateAt, depositAt, servicingCost, termsOf, filingTiers, termsAt}
 
 servicing-le : (account : Account) → servicingCost account ≤ 175000

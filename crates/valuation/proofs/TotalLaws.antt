@@ -11,7 +11,7 @@ use Rattle.lists.proofs.TestLaws.{allFrom, all-at}
 use Rattle.schedule.specs.Cells.{positions, position, positionAt}
 use Rattle.shares.specs.SubBalances.{positionOf}
 use Rattle.valuation.specs.Rows.{isShort, isLong}
-use Rattle.valuation.specs.Listed.{valueIn, inTotal}
+use Rattle.valuation.specs.Inner.Listed.{valueIn, inTotal}
 
 beq-eq : (a b : Bool) → T (Bool·beq a b) → a ≡ b
 beq-eq true true t = refl

@@ -4,7 +4,7 @@ use schedule::scenarios::Scenario;
 ghost use mathlib.Core.Path.{_≡_};
 ghost use Prim.Native.Nat.{_<_};
 ghost use Rattle.pricing.specs.Rounding.{roundingOf};
-ghost use Rattle.valuation.specs.Factors.{shiftedRates, monthFactors, factorsBy, WithinRates};
+ghost use Rattle.valuation.specs.Inner.Factors.{shiftedRates, monthFactors, factorsBy, WithinRates};
 
 // Month t and scenario s stand at place 7 (t - 1) + s. Months past the longest term are left 0.
 pub fn factor_table(yields: &[u16; 120], longest: u64, up: bool) -> [u64; 840]

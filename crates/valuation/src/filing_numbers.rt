@@ -11,7 +11,7 @@ ghost use Prim.Native.Nat.{_≤_};
 ghost use lib.ListN.{length, drop};
 ghost use Rattle.filing.specs.Valid.{Valid};
 ghost use Rattle.valuation.specs.Numbers.{numbers, numberCount};
-ghost use Rattle.valuation.specs.PlaceValues.{balancesIn};
+ghost use Rattle.valuation.specs.Inner.PlaceValues.{balancesIn};
 
 // The rest of the list is left as it was.
 pub fn value_contents(k: Contents, list: &mut [u64])

@@ -6,7 +6,7 @@ ghost use Prim.Native.Nat.{_≤_, _<_};
 ghost use lib.ListN.{length, drop};
 ghost use Rattle.lists.specs.Tables.{table};
 ghost use Rattle.valuation.specs.Numbers.{numberCount};
-ghost use Rattle.valuation.specs.Listed.{WithinValues, placeNumberIn, totalNumberIn, numberIn};
+ghost use Rattle.valuation.specs.Inner.Listed.{WithinValues, placeNumberIn, totalNumberIn, numberIn};
 
 // The first 568 places of the list become the numbers; the rest is left as it was.
 pub fn write_numbers(balances: &[u64; 36], lower: &[u64; 252], upper: &[u64; 252], list: &mut [u64])

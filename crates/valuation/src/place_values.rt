@@ -15,12 +15,12 @@ ghost use mathlib.Core.List.{[]};
 ghost use Prim.Native.Nat.{_≤_, _<_, max};
 ghost use Rattle.filing.specs.Valid.{Valid};
 ghost use Rattle.shares.specs.Places.{placesOf};
-ghost use Rattle.withdrawal.specs.TierArrays.{tierTable, Usable};
+ghost use Rattle.withdrawal.specs.Inner.TierArrays.{tierTable, Usable};
 ghost use Rattle.pricing.specs.Rounding.{down, up};
 ghost use Rattle.valuation.specs.DepositTerms.{penaltyAt, rateAt, filingTiers};
-ghost use Rattle.valuation.specs.Deposits.{DepositLimits, AtMostPar};
-ghost use Rattle.valuation.specs.Listed.{valuesBy};
-ghost use Rattle.valuation.specs.PlaceValues.{filed, depositFrom, longestTerm, termOf, listedValues};
+ghost use Rattle.valuation.specs.Inner.Deposits.{DepositLimits, AtMostPar};
+ghost use Rattle.valuation.specs.Inner.Listed.{valuesBy};
+ghost use Rattle.valuation.specs.Inner.PlaceValues.{filed, depositFrom, longestTerm, termOf, listedValues};
 
 // Values of the thirty-six places in the seven scenarios.
 pub fn values_of(k: Contents, places: [SubBalance; 36], tiers: WithdrawalTiers) -> Values

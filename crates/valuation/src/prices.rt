@@ -8,9 +8,9 @@ use withdrawal::month_survival;
 ghost use mathlib.Core.Path.{_≡_};
 ghost use Prim.Native.Nat.{_+_, _<_};
 ghost use Rattle.withdrawal.specs.MonthSurvival.{accountOf};
-ghost use Rattle.withdrawal.specs.TierArrays.{tierTable, Usable};
+ghost use Rattle.withdrawal.specs.Inner.TierArrays.{tierTable, Usable};
 ghost use Rattle.valuation.specs.DepositTerms.{servicingCost};
-ghost use Rattle.valuation.specs.Deposits.{listedPrices, DepositLimits, AtMostPar};
+ghost use Rattle.valuation.specs.Inner.Deposits.{listedPrices, DepositLimits, AtMostPar};
 
 // Lower and upper price in billionths. Seven discount factors stand for each month, one for each scenario.
 pub fn price_of(

@@ -1,7 +1,7 @@
 // The short and the long total of a scenario.
 ghost use mathlib.Core.Path.{_≡_};
 ghost use Prim.Native.Nat.{_<_};
-ghost use Rattle.valuation.specs.Listed.{WithinValues, inTotal, totalIn};
+ghost use Rattle.valuation.specs.Inner.Listed.{WithinValues, inTotal, totalIn};
 
 // Place p of scenario s stands at 36 s + p. The long total sums rows 3 and 4, the short total rows 1 and 2.
 pub fn total(values: &[u64; 252], scenario: usize, long: bool) -> u64

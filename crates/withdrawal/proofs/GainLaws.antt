@@ -10,7 +10,7 @@ use borrow.Author.Tests.{leb-true, leb-false, ltb-true, ltb-false, le-leb, lt-le
 use Rattle.withdrawal.specs.declared.Incentive.{Incentive}
 use Rattle.withdrawal.specs.Gain.{gain, atMost}
 use Rattle.withdrawal.specs.Tiers.{reached}
-use Rattle.withdrawal.specs.Incentives.{gainOf}
+use Rattle.withdrawal.specs.Inner.Incentives.{gainOf}
 
 -- tests of facts that imply each other are equal
 leb-iff : (a b c d : ℕ) → (a ≤ b → c ≤ d) → (c ≤ d → a ≤ b) → leb a b ≡ leb c d

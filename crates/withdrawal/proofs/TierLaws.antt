@@ -14,9 +14,9 @@ use Rattle.lists.specs.Tables.{tableFrom}
 use Rattle.withdrawal.specs.declared.WithdrawalTiers.{WithdrawalTiers}
 use Rattle.withdrawal.specs.Gain.{gain, cost}
 use Rattle.withdrawal.specs.Survival.{survival}
-use Rattle.withdrawal.specs.Incentives.{gainOf}
+use Rattle.withdrawal.specs.Inner.Incentives.{gainOf}
 use Rattle.withdrawal.specs.Tiers.{WithdrawalTier, tier, reached, firstReached, annualWithdrawal}
-use Rattle.withdrawal.specs.TierArrays.{NoneBefore, Usable, tierSurvival, tierTable, tierTableOf, TiersFit}
+use Rattle.withdrawal.specs.Inner.TierArrays.{NoneBefore, Usable, tierSurvival, tierTable, tierTableOf, TiersFit}
 use Rattle.withdrawal.proofs.GainLaws.{reached-iff, gain-difference}
 use Rattle.lists.proofs.TestLaws.{everyEntry, entries-le}
 

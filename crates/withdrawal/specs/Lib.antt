@@ -2,5 +2,4 @@ pub mod Gain
 pub mod Tiers
 pub mod Survival
 pub mod MonthSurvival
-pub mod TierArrays
-pub mod Incentives
+pub mod Inner

@@ -9,8 +9,8 @@ ghost use Prim.Native.Nat.{suc, _-_, _^_, _≤_};
 ghost use Rattle.withdrawal.specs.Gain.{atMost};
 ghost use Rattle.withdrawal.specs.Survival as spec;
 ghost use Rattle.withdrawal.specs.MonthSurvival.{accountOf, monthSurvival};
-ghost use Rattle.withdrawal.specs.TierArrays.{tierTable, Usable, NoneUpTo};
-ghost use Rattle.withdrawal.specs.Incentives.{gainOf, Small};
+ghost use Rattle.withdrawal.specs.Inner.TierArrays.{tierTable, Usable, NoneUpTo};
+ghost use Rattle.withdrawal.specs.Inner.Incentives.{gainOf, Small};
 
 // Tiers of annual withdrawal, in the first `count` places, highest edge first: edges in hundredths, withdrawals in thousandths, and the survival
 // of each withdrawal in billionths. Where no edge is reached the withdrawal is `otherwise` and its survival `retained`.

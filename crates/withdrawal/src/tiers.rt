@@ -5,8 +5,8 @@ ghost use mathlib.Core.Path.{_≡_};
 ghost use Prim.Native.Nat.{_≤_};
 ghost use Rattle.withdrawal.specs.Tiers.{reached, annualWithdrawal, houseTiers};
 ghost use Rattle.withdrawal.specs.Survival.{survival};
-ghost use Rattle.withdrawal.specs.TierArrays.{tierTable, tierTableOf, tierSurvival, TiersFit, Usable, NoneBefore};
-ghost use Rattle.withdrawal.specs.Incentives.{gainOf, Small};
+ghost use Rattle.withdrawal.specs.Inner.TierArrays.{tierTable, tierTableOf, tierSurvival, TiersFit, Usable, NoneBefore};
+ghost use Rattle.withdrawal.specs.Inner.Incentives.{gainOf, Small};
 
 // The place of the first tier whose edge is reached, or their count where none is. No tier before `from` is reached.
 pub fn first_reached(tiers: WithdrawalTiers, incentive: Incentive, from: usize) -> usize

@@ -4,7 +4,7 @@ use mathlib.Core.Path.{_≡_}
 use native.Mathlib.Numerals.{add-one}
 use native.Mathlib.Omega.{arith}
 use Rattle.pricing.specs.Rounding.{roundingOf}
-use Rattle.pricing.specs.Multipliers.{discountsBy}
+use Rattle.pricing.specs.Inner.Multipliers.{discountsBy}
 use Rattle.pricing.proofs.MultiplierLaws.{multipliers-at-most, discounts-at-most, discounts-zero, discounts-suc}
 use Rattle.pricing.proofs.discounting.discount_factors.Statement.{statement}
 use Rattle.pricing.proofs.discounting.discount_factors.Tie as tie

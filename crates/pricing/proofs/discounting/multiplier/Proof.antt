@@ -4,7 +4,7 @@ use mathlib.Core.Path.{_≡_, refl, _∙_}
 use mathlib.Core.Bool.{Bool, true, false, not}
 use Prim.Native.Nat.{ℕ, _+_}
 use Rattle.pricing.specs.Rounding.{quotient, roundingOf}
-use Rattle.pricing.specs.Multipliers.{multiplierBy}
+use Rattle.pricing.specs.Inner.Multipliers.{multiplierBy}
 use Rattle.pricing.proofs.discounting.multiplier.Statement.{statement}
 use Rattle.pricing.proofs.discounting.multiplier.Tie as tie
 

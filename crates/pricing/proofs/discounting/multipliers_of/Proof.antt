@@ -5,7 +5,7 @@ use native.Mathlib.Omega.{arith}
 use lib.ListN.{getD}
 use Rattle.lists.proofs.FillLaws.{Filled, fill-none, fill-more, fill-all}
 use Rattle.pricing.specs.Rounding.{roundingOf}
-use Rattle.pricing.specs.Multipliers.{multiplierBy, multipliersBy}
+use Rattle.pricing.specs.Inner.Multipliers.{multiplierBy, multipliersBy}
 use Rattle.pricing.proofs.discounting.multipliers_of.Statement.{statement}
 use Rattle.pricing.proofs.discounting.multipliers_of.Tie as tie
 

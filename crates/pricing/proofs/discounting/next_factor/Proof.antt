@@ -4,7 +4,7 @@ use mathlib.Core.Logic.{⊎-elim}
 use native.Mathlib.Nat.{mul-le-mul, add-zero}
 use native.Mathlib.Omega.{arith}
 use Rattle.pricing.specs.Rounding.{quotient, roundingOf}
-use Rattle.pricing.specs.Multipliers.{scaledBy}
+use Rattle.pricing.specs.Inner.Multipliers.{scaledBy}
 use Rattle.pricing.proofs.MultiplierLaws.{bits-apart}
 use Rattle.pricing.proofs.discounting.next_factor.Statement.{statement}
 use Rattle.pricing.proofs.discounting.next_factor.Tie as tie

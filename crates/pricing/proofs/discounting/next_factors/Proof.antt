@@ -5,7 +5,7 @@ use native.Mathlib.Omega.{arith}
 use lib.ListN.{getD}
 use Rattle.lists.proofs.FillLaws.{Filled, fill-none, fill-more, fill-all}
 use Rattle.pricing.specs.Rounding.{roundingOf}
-use Rattle.pricing.specs.Multipliers.{scaledBy, scaledAllBy}
+use Rattle.pricing.specs.Inner.Multipliers.{scaledBy, scaledAllBy}
 use Rattle.pricing.proofs.discounting.next_factors.Statement.{statement}
 use Rattle.pricing.proofs.discounting.next_factors.Tie as tie
 

@@ -1,7 +1,7 @@
 -- `pricing::months::next_month` meets its contract. Assumes nothing.
 use native.Mathlib.Nat.{add-zero}
 use borrow.Author.Needs.{needs}
-use Rattle.pricing.specs.Month.{nextBalance, nextFlow, nextRun}
+use Rattle.pricing.specs.Inner.Month.{nextBalance, nextFlow, nextRun}
 use Rattle.pricing.proofs.months.next_month.Statement.{statement}
 use Rattle.pricing.proofs.months.next_month.Tie as tie
 

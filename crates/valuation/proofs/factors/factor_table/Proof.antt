@@ -6,7 +6,7 @@ use lib.ListN.{length, take, length-set}
 use lib.Seq.{take-all}
 use Rattle.lists.specs.Tables.{tableFrom, table}
 use Rattle.pricing.specs.Rounding.{roundingOf}
-use Rattle.valuation.specs.Factors.{factorAt, monthFactors, factorsBy}
+use Rattle.valuation.specs.Inner.Factors.{factorAt, monthFactors, factorsBy}
 use Rattle.valuation.proofs.FactorLaws.{seven-stored}
 use Rattle.valuation.proofs.factors.factor_table.Statement.{statement}
 use Rattle.valuation.proofs.factors.factor_table.Tie as tie

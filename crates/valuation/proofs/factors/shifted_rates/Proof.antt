@@ -4,7 +4,7 @@ use mathlib.Core.Path.{_≡_, ap, _∙_}
 use native.Mathlib.Omega.{arith}
 use Rattle.lists.proofs.FillLaws.{Filled, fill-none, fill-more, fill-all}
 use Rattle.schedule.specs.Shift.{shiftedRate}
-use Rattle.valuation.specs.Factors.{shiftedRates}
+use Rattle.valuation.specs.Inner.Factors.{shiftedRates}
 use Rattle.valuation.proofs.factors.shifted_rates.Statement.{statement}
 use Rattle.valuation.proofs.factors.shifted_rates.Tie as tie
 

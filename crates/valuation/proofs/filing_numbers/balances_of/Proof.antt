@@ -4,12 +4,13 @@ use mathlib.Core.Path.{_≡_, refl}
 use native.Mathlib.Omega.{arith}
 use lib.ListN.{getD}
 use Rattle.lists.proofs.FillLaws.{Filled, fill-none, fill-more, fill-all}
-use Rattle.valuation.specs.PlaceValues.{noBalance, balancesIn}
+use Rattle.shares.specs.Places.{noPlace}
+use Rattle.valuation.specs.Inner.PlaceValues.{balancesIn}
 use Rattle.valuation.proofs.filing_numbers.balances_of.Statement.{statement}
 use Rattle.valuation.proofs.filing_numbers.balances_of.Tie as tie
 
 abbrev Inv-loop : tie.InvT-loop
-Inv-loop places balances₀ i₀ balances i = (i ≤ 36) × Filled (λ (j : ℕ). getD places j noBalance .balance) 0 36 i balances
+Inv-loop places balances₀ i₀ balances i = (i ≤ 36) × Filled (λ (j : ℕ). getD places j noPlace .balance) 0 36 i balances
 
 abbrev μ-loop : tie.MeasureT-loop
 μ-loop places balances₀ i₀ balances i = 36 - i
@@ -37,7 +38,7 @@ loop-less c = omega arith
 
 loop-again : tie.Need-loop-again Inv-loop μ-loop
 loop-again c =
-    (omega arith, fill-more (λ (j : ℕ). getD (c .before .before .before .args .t1) j noBalance .balance) 0 36 (c .before .before .loop .i) (c .before .before .loop .balances) _ (omega arith) refl (c .before .before .loop .inv .1))
+    (omega arith, fill-more (λ (j : ℕ). getD (c .before .before .before .args .t1) j noPlace .balance) 0 36 (c .before .before .loop .i) (c .before .before .loop .balances) _ (omega arith) refl (c .before .before .loop .inv .1))
 
 returns : tie.Need-returns Inv-loop μ-loop
 unfolding balancesIn

@@ -1,7 +1,7 @@
 -- `valuation::list::number_at` meets its contract. Assumes nothing.
 use borrow.Author.Tests.{lt-ltb, le-ltb}
 use borrow.Author.Needs.{needs}
-use Rattle.valuation.specs.Listed.{numberIn}
+use Rattle.valuation.specs.Inner.Listed.{numberIn}
 use Rattle.valuation.proofs.list.number_at.Statement.{statement}
 use Rattle.valuation.proofs.list.number_at.Tie as tie
 

@@ -1,7 +1,7 @@
 -- `valuation::list::place_number` meets its contract. Assumes nothing.
 use borrow.Author.Tests.{eq-eqb, ne-eqb}
 use borrow.Author.Needs.{needs}
-use Rattle.valuation.specs.Listed.{valueIn, sideAt, placeNumberIn}
+use Rattle.valuation.specs.Inner.Listed.{valueIn, sideAt, placeNumberIn}
 use Rattle.valuation.proofs.list.place_number.Statement.{statement}
 use Rattle.valuation.proofs.list.place_number.Tie as tie
 

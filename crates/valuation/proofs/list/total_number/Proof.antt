@@ -1,7 +1,7 @@
 -- `valuation::list::total_number` meets its contract. Assumes nothing.
 use borrow.Author.Tests.{eq-eqb, ne-eqb}
 use borrow.Author.Needs.{needs}
-use Rattle.valuation.specs.Listed.{sideAt, totalNumberIn}
+use Rattle.valuation.specs.Inner.Listed.{sideAt, totalNumberIn}
 use Rattle.valuation.proofs.list.total_number.Statement.{statement}
 use Rattle.valuation.proofs.list.total_number.Tie as tie
 

@@ -2,7 +2,7 @@
 use Prim.Native.Nat.{_-_, _≤_}
 use mathlib.Core.Path.{_≡_}
 use native.Mathlib.Omega.{arith}
-use Rattle.valuation.specs.Listed.{numberIn}
+use Rattle.valuation.specs.Inner.Listed.{numberIn}
 use Rattle.valuation.proofs.ListLaws.{Overwritten, overwritten-zero, overwritten-suc, overwritten-all}
 use Rattle.valuation.proofs.list.write_numbers.Statement.{statement}
 use Rattle.valuation.proofs.list.write_numbers.Tie as tie

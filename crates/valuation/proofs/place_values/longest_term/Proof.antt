@@ -3,7 +3,7 @@ use Prim.Native.Nat.{_-_, _≤_}
 use mathlib.Core.Path.{_≡_, refl}
 use native.Mathlib.Numerals.{add-one}
 use native.Mathlib.Omega.{arith}
-use Rattle.valuation.specs.PlaceValues.{longestTo, longestTerm}
+use Rattle.valuation.specs.Inner.PlaceValues.{longestTo, longestTerm}
 use Rattle.valuation.proofs.place_values.longest_term.Statement.{statement}
 use Rattle.valuation.proofs.place_values.longest_term.Tie as tie
 

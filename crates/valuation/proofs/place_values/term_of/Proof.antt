@@ -1,6 +1,6 @@
 -- `valuation::place_values::term_of` meets its contract. Assumes nothing.
 use borrow.Author.Tests.{eq-eqb, ne-eqb}
-use Rattle.valuation.specs.PlaceValues.{termOf}
+use Rattle.valuation.specs.Inner.PlaceValues.{termOf}
 use Rattle.valuation.proofs.place_values.term_of.Statement.{statement}
 use Rattle.valuation.proofs.place_values.term_of.Tie as tie
 

@@ -2,12 +2,12 @@ use Prim.Native.Nat.{_^_}
 use lib.Dec.{lit<}
 use Rattle.pricing.specs.Rounding.{down, up}
 use Rattle.pricing.proofs.RoundingLaws.{quotient-zero}
-use Rattle.withdrawal.specs.TierArrays.{tierTable}
+use Rattle.withdrawal.specs.Inner.TierArrays.{tierTable}
 use Rattle.valuation.proofs.PriceLaws.{listed-price-limit}
 -- `valuation::place_values::value_bounds` meets its contract. Assumes nothing.
 use Rattle.pricing.specs.Rounding.{roundingOf}
-use Rattle.valuation.specs.Deposits.{listedPrices}
-use Rattle.valuation.specs.PlaceValues.{listedValue, listedValues}
+use Rattle.valuation.specs.Inner.Deposits.{listedPrices}
+use Rattle.valuation.specs.Inner.PlaceValues.{listedValue, listedValues}
 use borrow.Author.Needs.{needs}
 use Rattle.valuation.proofs.place_values.value_bounds.Statement.{statement}
 use Rattle.valuation.proofs.place_values.value_bounds.Tie as tie

@@ -6,14 +6,14 @@ use lib.ListN.{getD}
 use native.Mathlib.Omega.{arith}
 use Rattle.lists.proofs.FillLaws.{Filled, fill-none, fill-more, fill-all}
 use Rattle.shares.specs.declared.SubBalance.{SubBalance}
-use Rattle.shares.specs.Places.{placeAt}
+use Rattle.shares.specs.Places.{placeAt, noPlace}
 use Rattle.shares.proofs.SubBalanceLaws.{balanceAt-limit}
-use Rattle.withdrawal.specs.TierArrays.{tierTable}
+use Rattle.withdrawal.specs.Inner.TierArrays.{tierTable}
 use Rattle.pricing.specs.Rounding.{down, up, roundingOf}
 use Rattle.valuation.specs.Run.{valueAt}
-use Rattle.valuation.specs.Factors.{factorsBy}
-use Rattle.valuation.specs.Listed.{valuesBy}
-use Rattle.valuation.specs.PlaceValues.{noBalance, longestTerm}
+use Rattle.valuation.specs.Inner.Factors.{factorsBy}
+use Rattle.valuation.specs.Inner.Listed.{valuesBy}
+use Rattle.valuation.specs.Inner.PlaceValues.{longestTerm}
 use Rattle.valuation.proofs.TermsLaws.{deposit-is, deposit-limits}
 use Rattle.valuation.proofs.PlaceValueLaws.{yields-within, place-is, factors-at-most-par, values-are}
 use Rattle.valuation.proofs.place_values.values_of.Statement.{statement}
@@ -55,7 +55,7 @@ value-bounds-requires c κs =
     let i = c .before .before .before .before .before .before .before .before .loop .i in
     let at : i % 36 < 36 = omega arith in
     let scenario : i / 36 < 7 = omega arith in
-    let place = ap (λ (ps : List SubBalance). getD ps (i % 36) noBalance) (s .pre .0 .1) ∙ place-is k (i % 36) at in
+    let place = ap (λ (ps : List SubBalance). getD ps (i % 36) noPlace) (s .pre .0 .1) ∙ place-is k (i % 36) at in
     let deposit = c .before .before .deposit-of .ensures ∙ deposit-is k (i / 36) (i % 36) _ place in (
       (rw (s .pre .0 .1, place-is k (i % 36) at) (balanceAt-limit k (s .pre .0 .0) (i % 36) at), deposit-limits k (s .pre .0 .0) (i / 36) (i % 36) scenario at _ deposit, s .pre .1 .1, scenario),
       (rw (c .before .before .before .before .before .before .before .before .before .before .before .factor-table .ensures) (factors-at-most-par _ _ _), rw (c .before .before .before .before .before .before .before .before .before .factor-table2 .ensures) (factors-at-most-par _ _ _)),
@@ -87,7 +87,7 @@ loop-again c =
     let k = s .args .k in
     let longest = c .before .before .before .before .before .before .before .before .before .before .before .before .before .before .longest-term .ensures ∙ ap longestTerm (s .pre .0 .1) in
     let at : l .i % 36 < 36 = omega arith in
-    let place = ap (λ (ps : List SubBalance). getD ps (l .i % 36) noBalance) (s .pre .0 .1) ∙ place-is k (l .i % 36) at in
+    let place = ap (λ (ps : List SubBalance). getD ps (l .i % 36) noPlace) (s .pre .0 .1) ∙ place-is k (l .i % 36) at in
     let v = values-are k (s .pre .0 .0) (l .i / 36) (l .i % 36) (omega arith) at _ (tierTable (s .args .tiers)) _ _ _ (c .value-bounds .result)
     (rw (s .pre .0 .1, place-is k (l .i % 36) at)) (s .pre .1 .0) (c .before .before .before .deposit-of .ensures ∙ deposit-is k (l .i / 36) (l .i % 36) _ place)
     (c .before .before .before .before .before .before .before .before .before .before .before .before .factor-table .ensures ∙ ap (λ (n : ℕ). factorsBy down (k .yields) n) longest)

@@ -2,11 +2,11 @@
 use Prim.Native.Nat.{_-_, _≤_}
 use mathlib.Core.Path.{_≡_, refl, _∙_}
 use native.Mathlib.Omega.{arith}
-use Rattle.withdrawal.specs.TierArrays.{tierTable, NoneUpTo}
+use Rattle.withdrawal.specs.Inner.TierArrays.{tierTable, NoneUpTo}
 use Rattle.pricing.specs.Rounding.{down, up, roundingOf}
-use Rattle.pricing.specs.Month.{runBy}
+use Rattle.pricing.specs.Inner.Month.{runBy}
 use Rattle.valuation.specs.DepositTerms.{termsOf}
-use Rattle.valuation.specs.Deposits.{listed, listedPrice, listedPrices}
+use Rattle.valuation.specs.Inner.Deposits.{listed, listedPrice, listedPrices}
 use Rattle.valuation.proofs.PriceLaws.{run-zero, month-on, month-small}
 use native.Mathlib.Nat.{not-suc-le-zero}
 use Rattle.valuation.proofs.prices.price_of.Statement.{statement}

@@ -1,5 +1,5 @@
 -- `valuation::totals::in_total` meets its contract. Assumes nothing.
-use Rattle.valuation.specs.Listed.{inTotal}
+use Rattle.valuation.specs.Inner.Listed.{inTotal}
 use Rattle.valuation.proofs.TotalLaws.{short-places, long-places}
 use Rattle.valuation.proofs.totals.in_total.Statement.{statement}
 use Rattle.valuation.proofs.totals.in_total.Tie as tie

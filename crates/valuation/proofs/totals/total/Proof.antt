@@ -4,7 +4,7 @@ use mathlib.Core.Path.{_≡_, sym, _∙_}
 use mathlib.Core.Logic.{⊎-elim}
 use native.Mathlib.Omega.{arith}
 use Rattle.lists.specs.Sums.{sumWhere}
-use Rattle.valuation.specs.Listed.{valueIn, inTotal, totalIn}
+use Rattle.valuation.specs.Inner.Listed.{valueIn, inTotal, totalIn}
 use Rattle.valuation.proofs.TotalLaws.{total-zero, total-suc}
 use Rattle.valuation.proofs.totals.total.Statement.{statement}
 use Rattle.valuation.proofs.totals.total.Tie as tie

@@ -5,7 +5,7 @@ use native.Mathlib.Nat.{mul-le-mul, sub-le}
 use native.Mathlib.Omega.{arith}
 use borrow.Author.Needs.{needs}
 use Rattle.withdrawal.specs.Gain.{cost}
-use Rattle.withdrawal.specs.Incentives.{gainOf}
+use Rattle.withdrawal.specs.Inner.Incentives.{gainOf}
 use Rattle.withdrawal.proofs.GainLaws.{gain-difference}
 use Rattle.withdrawal.proofs.gain.gain_and_cost.Statement.{statement}
 use Rattle.withdrawal.proofs.gain.gain_and_cost.Tie as tie

@@ -3,8 +3,8 @@ use Prim.Native.Nat.{_-_, _≤_, _<_}
 use mathlib.Core.Path.{sym, _∙_}
 use borrow.Author.Count.{below-more}
 use borrow.Author.Needs.{needs}
-use Rattle.withdrawal.specs.TierArrays.{NoneBefore}
-use Rattle.withdrawal.specs.Incentives.{gainOf}
+use Rattle.withdrawal.specs.Inner.TierArrays.{NoneBefore}
+use Rattle.withdrawal.specs.Inner.Incentives.{gainOf}
 use Rattle.withdrawal.proofs.TierLaws.{tier-survival-reached, tier-survival-none}
 use Rattle.withdrawal.proofs.tiers.first_reached.Statement.{statement}
 use Rattle.withdrawal.proofs.tiers.first_reached.Tie as tie

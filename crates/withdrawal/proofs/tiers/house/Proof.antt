@@ -1,7 +1,7 @@
 -- `withdrawal::tiers::house` meets its contract: the arrays hold the tiers of the definition. Assumes nothing.
 use Rattle.lists.specs.Tables.{tableFrom}
 use Rattle.withdrawal.specs.Tiers.{tier, houseTiers}
-use Rattle.withdrawal.specs.TierArrays.{tierTableOf}
+use Rattle.withdrawal.specs.Inner.TierArrays.{tierTableOf}
 use Rattle.withdrawal.proofs.TierLaws.{tiers-fit-of-tests}
 use Rattle.withdrawal.proofs.tiers.house.Statement.{statement}
 use Rattle.withdrawal.proofs.tiers.house.Tie as tie

@@ -1,6 +1,6 @@
 -- `withdrawal::tiers::tier_survival` meets its contract. Assumes nothing.
 use borrow.Author.Tests.{lt-ltb, le-ltb}
-use Rattle.withdrawal.specs.TierArrays.{tierSurvival}
+use Rattle.withdrawal.specs.Inner.TierArrays.{tierSurvival}
 use borrow.Author.Needs.{needs}
 use Rattle.withdrawal.proofs.tiers.tier_survival.Statement.{statement}
 use Rattle.withdrawal.proofs.tiers.tier_survival.Tie as tie

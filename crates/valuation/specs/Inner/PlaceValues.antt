@@ -8,12 +8,13 @@ use Rattle.lists.specs.Tables.{table}
 use Rattle.filing.specs.declared.Contents.{Contents}
 use Rattle.shares.specs.declared.SubBalance.{SubBalance}
 use Rattle.shares.specs.SubBalances.{subBalanceCount}
+use Rattle.shares.specs.Places.{noPlace}
 use Rattle.withdrawal.specs.Tiers.{TierTable}
 use Rattle.pricing.specs.Rounding.{Rounding, down, up, quotient}
 use Rattle.valuation.specs.declared.Deposit.{Deposit}
 use Rattle.valuation.specs.declared.Bounds.{Bounds}
 use Rattle.valuation.specs.DepositTerms.{isBrokered, penaltyAt, rateAt}
-use Rattle.valuation.specs.Deposits.{listedPrice}
+use Rattle.valuation.specs.Inner.Deposits.{listedPrice}
 
 -- contents of which only the cells and the retail rates are known
 abbrev pub filed : List ℕ → List ℕ → Contents
@@ -30,10 +31,6 @@ depositFrom k p scenario place =
       months = p .«remaining_months»;
     }
 
--- a place that holds nothing
-abbrev pub noBalance : SubBalance
-noBalance = record { balance = 0; coupon = 0; «remaining_months» = 0 }
-
 -- the remaining months of a place with a balance, 0 of one without
 unfoldable pub termOf : SubBalance → ℕ
 termOf p = cond (eqb (p .balance) 0) 0 (p .«remaining_months»)
@@ -41,7 +38,7 @@ termOf p = cond (eqb (p .balance) 0) 0 (p .«remaining_months»)
 -- the longest such term among the first n places, and among the thirty-six
 unfoldable pub longestTo : List SubBalance → ℕ → ℕ
 longestTo ps zero = 0
-longestTo ps (suc n) = max (longestTo ps n) (termOf (getD ps n noBalance))
+longestTo ps (suc n) = max (longestTo ps n) (termOf (getD ps n noPlace))
 
 unfoldable pub longestTerm : List SubBalance → ℕ
 longestTerm ps = longestTo ps subBalanceCount
@@ -57,4 +54,4 @@ listedValues balance tiers d lower upper scenario =
 
 -- the balances of the thirty-six places
 unfoldable pub balancesIn : List SubBalance → List ℕ
-balancesIn ps = table subBalanceCount (λ (i : ℕ). getD ps i noBalance .balance)
+balancesIn ps = table subBalanceCount (λ (i : ℕ). getD ps i noPlace .balance)
