@@ -9,7 +9,6 @@ use mathlib.Core.Bool.{Bool, true, false, cond, not}
 use borrow.Author.Tests.{leb-true, leb-false, lt-ltb, le-ltb, le-leb, lt-leb, eq-eqb, ne-eqb}
 use lib.Dec.{leb, ltb, lit<}
 use Rattle.schedule.specs.Cells.{Position, position, positions, positionAt, leastMonths, mostMonths, withinRow, brokeredCell, penaltyBalanceCell}
-use Rattle.schedule.proofs.CellLaws.{balance-cell, months-cell}
 use Rattle.filing.specs.declared.Contents.{Contents}
 use Rattle.filing.specs.declared.conditions.PositionCells.{PositionCells}
 use Rattle.filing.specs.Contents.{cell}
@@ -17,30 +16,24 @@ use Rattle.filing.specs.Conditions.{monthsOutside, aboveColumn}
 use Rattle.filing.specs.Verdict.{Verdict, accepted, refused, monthsVerdict, columnVerdict, columnsVerdict}
 use Rattle.filing.specs.Inner.Balances.{positionCells}
 
--- the parts of a position's cells, and where the cells lie
+-- the parts of a position's cells
 pub record PositionIs (i : ℕ) (p : PositionCells) : Type 0 where
   pub balance-is : p .balance ≡ positionAt i .balance
   pub months-is : p .months ≡ positionAt i .months
   pub column-is : p .column ≡ positionAt i .column
   pub least-is : p .least ≡ leastMonths (positionAt i .row)
   pub most-is : p .most ≡ mostMonths (positionAt i .row)
-  pub balance-within : (601 ≤ p .balance) × (p .balance ≤ 661)
-  pub months-within : (601 ≤ p .months) × (p .months ≤ 661)
 
 -- the cells that the code has for a position are the position's own
-pub position-is : (i : ℕ) (p : PositionCells) → i < 9 → p ≡ positionCells (positionAt i) → PositionIs i p
+pub position-is : (i : ℕ) (p : PositionCells) → p ≡ positionCells (positionAt i) → PositionIs i p
 unfolding positionCells
-position-is i p h e =
-    let b : p .balance ≡ positionAt i .balance = ap (λ (q : PositionCells). q .balance) e in
-    let m : p .months ≡ positionAt i .months = ap (λ (q : PositionCells). q .months) e in
+position-is i p e =
     record {
-      balance-is = b;
-      months-is = m;
+      balance-is = ap (λ (q : PositionCells). q .balance) e;
+      months-is = ap (λ (q : PositionCells). q .months) e;
       column-is = ap (λ (q : PositionCells). q .column) e;
       least-is = ap (λ (q : PositionCells). q .least) e;
       most-is = ap (λ (q : PositionCells). q .most) e;
-      balance-within = (omega (arith, balance-cell i h .from-601), omega (arith, balance-cell i h .to-661));
-      months-within = (omega (arith, months-cell i h .from-601), omega (arith, months-cell i h .to-661));
     }
 
 not-leb : (m n : ℕ) (b : Bool) → leb m n ≡ b → not b ≡ ltb n m

@@ -12,6 +12,7 @@ pub mod VisitLaws
 pub mod WalkLaws
 pub mod ReaderLaws
 pub mod ContentsLaws
+pub mod ContentsRow
 pub mod ConditionLaws
 pub mod BalanceLaws
 pub mod ReadLaws

@@ -5,7 +5,7 @@ ghost use lib.ListN.{getD};
 ghost use Rattle.filing.specs.Bytes.{numberAt};
 
 // The number that the `width` bytes from `at` on spell.
-pub fn number_at(s: &[u8], at: usize, width: usize) -> u64
+pub(crate) fn number_at(s: &[u8], at: usize, width: usize) -> u64
     requires { ⌜ width ≤ 8 ⌝ }
     ensures { λ r. ⌜ r ≡ numberAt (now (s .entry)) at width ⌝ }
 {
@@ -22,7 +22,7 @@ pub fn number_at(s: &[u8], at: usize, width: usize) -> u64
 }
 
 // The byte at a place.
-pub fn byte_at(s: &[u8], i: usize) -> u64
+pub(crate) fn byte_at(s: &[u8], i: usize) -> u64
     ensures { λ r. ⌜ r ≡ getD (now (s .entry)) i 0 ⌝ }
 {
     if i < s.len() { s[i] as u64 } else { 0 }

@@ -1,14 +1,18 @@
 // The cells of what a filing says.
 use crate::Contents;
 ghost use mathlib.Core.Path.{_≡_};
-ghost use Prim.Native.Nat.{_≤_};
 ghost use Rattle.filing.specs.Contents.{cell};
 
-// The value of a cell, 601 to 661.
+// The value of a cell, 601 to 661; a number below is read as 601, a number above is 0.
 pub fn cell_value(k: Contents, n: usize) -> u64
-    requires { ⌜ (601 ≤ n) × (n ≤ 661) ⌝ }
     ensures { λ r. ⌜ r ≡ cell k n ⌝ }
 {
+    if n < 601 {
+        return k.cells[0];
+    }
     let i = n - 601;
+    if 61 <= i {
+        return 0;
+    }
     k.cells[i]
 }

@@ -33,7 +33,7 @@ pub enum Left {
 }
 
 // The answer on the contents of a filing.
-pub fn check_contents(k: Contents) -> Answer
+pub(crate) fn check_contents(k: Contents) -> Answer
     ensures { λ r. ⌜ verdictOf r ≡ contentsVerdict k ⌝ }
 {
     let months = check_months(k);

@@ -10,7 +10,7 @@ ghost use Rattle.filing.specs.Records.{recordRate};
 ghost use Rattle.filing.specs.Inner.Offsets.{cellsAt, contentsAt};
 
 // The cells, yields and rates at these offsets.
-pub fn contents_at(s: &[u8], first: &[usize; 65]) -> Contents
+pub(crate) fn contents_at(s: &[u8], first: &[usize; 65]) -> Contents
     ensures { λ r. ⌜ r ≡ contentsAt (now (s .entry)) (now (first .entry)) ⌝ }
 {
     let cells = cell_values(s, first);

@@ -17,7 +17,13 @@ ghost use Rattle.filing.specs.Inner.Offsets.{offsetsBefore};
 ghost use Rattle.filing.specs.Answers.{verdictOf, recordVerdict};
 
 // The answer on a complete record, given its kind, its length and the offsets noted of the records before it.
-pub fn check_record(s: &[u8], at: usize, kind: u16, length: usize, first: &[usize; 65]) -> Answer
+pub(crate) fn check_record(
+    s: &[u8],
+    at: usize,
+    kind: u16,
+    length: usize,
+    first: &[usize; 65],
+) -> Answer
     requires { ⌜ incomplete (now s) at ≡ false ⌝ }
     requires { ⌜ kind ≡ recordKind (now s) at ⌝ }
     requires { ⌜ length ≡ recordLength (now s) at ⌝ }

@@ -8,7 +8,7 @@ ghost use Rattle.filing.specs.Records.{recordCell, recordValue, recordRa
 ghost use Rattle.filing.specs.Inner.Steps.{stepAt};
 
 // What stands at an offset.
-pub fn record_at(s: &[u8], at: usize) -> Step
+pub(crate) fn record_at(s: &[u8], at: usize) -> Step
     ensures { λ r. ⌜ r ≡ stepAt (now (s .entry)) at ⌝ }
 {
     if s.len() <= at {
@@ -33,21 +33,21 @@ pub fn record_at(s: &[u8], at: usize) -> Step
 }
 
 // The cell of a record of kind 1.
-pub fn record_cell(s: &[u8], at: usize) -> u64
+pub(crate) fn record_cell(s: &[u8], at: usize) -> u64
     ensures { λ r. ⌜ r ≡ recordCell (now (s .entry)) at ⌝ }
 {
     field_at(s, at, 4, 2)
 }
 
 // The value of a record of kind 1, in its cell's unit.
-pub fn record_value(s: &[u8], at: usize) -> u64
+pub(crate) fn record_value(s: &[u8], at: usize) -> u64
     ensures { λ r. ⌜ r ≡ recordValue (now (s .entry)) at ⌝ }
 {
     field_at(s, at, 6, 8)
 }
 
 // The i-th rate of a sheet, from 1, in hundredths of a percent a year.
-pub fn record_rate(s: &[u8], at: usize, i: usize) -> u16
+pub(crate) fn record_rate(s: &[u8], at: usize, i: usize) -> u16
     requires { ⌜ i ≤ 120 ⌝ }
     ensures { λ r. ⌜ r ≡ recordRate (now (s .entry)) at i ⌝ }
 {

@@ -24,7 +24,7 @@ pub struct Scanned {
 }
 
 // Reads the records up to the first faulty one, each once: a reader moves over them.
-pub fn scan(s: &[u8]) -> Scanned
+pub(crate) fn scan(s: &[u8]) -> Scanned
     ensures { λ r. ⌜ (verdictOf (r .answer) ≡ recordsVerdict (now (s .entry)))
         × (r .first ≡ offsetsBefore (now (s .entry)) (firstFaulty (now (s .entry)))) ⌝ }
 {

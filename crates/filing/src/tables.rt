@@ -82,7 +82,7 @@ const LIMITS: [u64; 8] = [
 ];
 
 // The class of a cell: 0 where it is not listed.
-pub fn cell_class(cell: u64) -> usize
+pub(crate) fn cell_class(cell: u64) -> usize
     ensures { λ r. ⌜ r ≡ cellClass cell ⌝ }
 {
     if cell < 601 {
@@ -96,21 +96,21 @@ pub fn cell_class(cell: u64) -> usize
 }
 
 // The largest value of a class.
-pub fn class_limit(class: usize) -> u64
+pub(crate) fn class_limit(class: usize) -> u64
     ensures { λ r. ⌜ r ≡ classLimit class ⌝ }
 {
     entry_at(&LIMITS, class)
 }
 
 // The length of a record of a kind, in bytes: 0 where the kind is unknown.
-pub fn kind_length(kind: usize) -> u64
+pub(crate) fn kind_length(kind: usize) -> u64
     ensures { λ r. ⌜ r ≡ kindLength kind ⌝ }
 {
     entry_at(&[0, 12, 242, 8], kind)
 }
 
 // How many rates a sheet of a kind holds.
-pub fn sheet_rates(kind: usize) -> u64
+pub(crate) fn sheet_rates(kind: usize) -> u64
     ensures { λ r. ⌜ r ≡ sheetRates kind ⌝ }
 {
     entry_at(&[0, 0, 120, 3], kind)

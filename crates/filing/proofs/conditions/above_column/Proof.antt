@@ -10,7 +10,7 @@ use Rattle.filing.proofs.conditions.above_column.Statement.{statement}
 use Rattle.filing.proofs.conditions.above_column.Tie as tie
 
 cell-value-requires : tie.Need-cell-value-requires
-cell-value-requires c κs = search needs
+cell-value-requires c κs = tt
 
 left-after-requires : tie.Need-left-after-requires
 left-after-requires c κs = search needs

@@ -29,7 +29,7 @@ unfolding verdictOf refused
 returns c =
     let k = c .before .before .before .before .before .args .k in
     let i = c .before .before .before .before .loop .i in
-    ap (refused 7) (position-is i (c .position-cells .result) (c .before .before .before .loop-test .taken) (c .position-cells .ensures) .months-is)
+    ap (refused 7) (position-is i (c .position-cells .result) (c .position-cells .ensures) .months-is)
     ∙ tests-here (monthsTest k) monthsRefusal accepted 9 i (c .before .before .before .before .loop .inv) (c .before .before .before .loop-test .taken)
     (sym (c .before .before .months-outside .ensures) ∙ c .before .if1 .taken)
     ∙ sym (months-tests k accepted)

@@ -24,11 +24,10 @@ position-cells-requires : tie.Need-position-cells-requires Inv-loop μ-loop
 position-cells-requires c κs = omega arith
 
 at-position : (c : tie.After-position-cells Inv-loop μ-loop) → PositionIs (c .before .before .loop .i) (c .position-cells .result)
-at-position c =
-    position-is (c .before .before .loop .i) (c .position-cells .result) (c .before .loop-test .taken) (c .position-cells .ensures)
+at-position c = position-is (c .before .before .loop .i) (c .position-cells .result) (c .position-cells .ensures)
 
 cell-value-requires : tie.Need-cell-value-requires Inv-loop μ-loop
-cell-value-requires c κs = at-position (c .before .before) .balance-within
+cell-value-requires c κs = tt
 
 returns : tie.Need-returns Inv-loop μ-loop
 returns c =

@@ -13,10 +13,10 @@ position-cells-requires : tie.Need-position-cells-requires
 position-cells-requires c κs = search needs
 
 at-position : (c : tie.After-position-cells) → PositionIs (c .before .args .i) (c .position-cells .result)
-at-position c = position-is (c .before .args .i) (c .position-cells .result) (c .before .pre) (c .position-cells .ensures)
+at-position c = position-is (c .before .args .i) (c .position-cells .result) (c .position-cells .ensures)
 
 cell-value-requires : tie.Need-cell-value-requires
-cell-value-requires c κs = at-position c .balance-within
+cell-value-requires c κs = tt
 
 -- the balance that the code tests
 balance-is : (c : tie.After-cell-value)
@@ -29,7 +29,7 @@ returns c =
     sym (outside-empty (a .k) (positionAt (a .i)) (sym (balance-is (c .before)) ∙ c .if1 .taken))
 
 cell-value-requires-2 : tie.Need-cell-value-requires-2
-cell-value-requires-2 c κs = at-position (c .before .before) .months-within
+cell-value-requires-2 c κs = tt
 
 -- the months that the code tests
 months-is : (c : tie.After-cell-value2)

