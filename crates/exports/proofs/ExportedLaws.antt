@@ -2,10 +2,10 @@
 use Prim.Native.Nat.{ℕ}
 use mathlib.Core.Path.{_≡_, sym, ap, _∙_}
 use mathlib.Core.List.{List}
-use Rattle.filing.specs.declared.Answer.{Answer}
-use Rattle.filing.specs.Answers.{numberOf, placeOf, verdictOf}
-use Rattle.filing.specs.Verdict.{Verdict}
-use Rattle.filing.proofs.AnswerLaws.{accepted-answer}
+use Rattle.answers.specs.declared.Answer.{Answer}
+use Rattle.answers.specs.Answers.{numberOf, placeOf, verdictOf}
+use Rattle.answers.specs.Verdict.{Verdict}
+use Rattle.answers.proofs.AnswerLaws.{accepted-answer}
 use Rattle.valuation.specs.Promise.{Valued}
 use Rattle.exports.specs.Exported.{ValuedForC}
 

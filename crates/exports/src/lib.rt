@@ -1,5 +1,4 @@
 // The valuing call for programs in C and in languages that call C: include/spritapricot.h declares it.
-use filing::answers;
 use valuation::value;
 ghost use Rattle.exports.specs.Exported.{ValuedForC};
 

@@ -1,1 +1,2 @@
 pub mod StarredProved
+pub mod RefusalCases

@@ -12,7 +12,7 @@ use Rattle.withdrawal.specs.MonthSurvival.{accountOf, earlySurvival, monthSurvi
 use Rattle.withdrawal.proofs.SurvivalLaws.{survival-of-zero}
 use Rattle.pricing.specs.Rounding.{quotient}
 use Rattle.pricing.specs.Run.{balanceBy, outflowBy, flowBy, discountBy, discountFactorBy, discountedBy, priceBy, valueBy}
-use Rattle.valuation.specs.DepositTerms.{servicingCost, termsOf}
+use Rattle.deposits.specs.DepositTerms.{servicingCost, termsOf}
 use Rattle.figures.specs.Starred.{StarredFigures, houseTerms, flat}
 
 -- the tier of a retail rate r at coupon 600: the edges above it are not reached, as edge × 600 > 100 × r

@@ -12,7 +12,7 @@ use Rattle.withdrawal.specs.Survival.{survival}
 use Rattle.pricing.specs.Terms.{Terms}
 use Rattle.pricing.specs.Rounding.{down, up}
 use Rattle.pricing.specs.Run.{priceBy, valueBy}
-use Rattle.valuation.specs.DepositTerms.{termsOf}
+use Rattle.deposits.specs.DepositTerms.{termsOf}
 
 -- the terms of a deposit with coupon c, penalty p, retail rate r and T months, under the house's tiers
 unfoldable pub houseTerms : Bool → (c p r T : ℕ) → Terms

@@ -7,7 +7,7 @@ use mathlib.Core.List.{List}
 use borrow.Author.Tests.{le-leb, lt-leb, leb-true}
 use lib.Dec.{leb}
 use lib.ListN.{length, getD}
-use Rattle.filing.specs.Bytes.{numberAt}
+use Rattle.records.specs.Bytes.{numberAt}
 use Rattle.figures_test.specs.declared.entries.Entry.{Entry}
 use Rattle.figures_test.specs.declared.entries.Found.the-variants.{Whole, Nothing}
 use Rattle.figures_test.specs.Entries.{endAt, beginningAt, entryAt}

@@ -5,7 +5,7 @@ use mathlib.Core.Bool.{cond}
 use mathlib.Core.List.{List}
 use lib.Dec.{leb}
 use lib.ListN.{length}
-use Rattle.filing.specs.Bytes.{numberAt}
+use Rattle.records.specs.Bytes.{numberAt}
 use Rattle.figures_test.specs.declared.entries.Entry.{Entry}
 use Rattle.figures_test.specs.declared.entries.Found.{Found}
 use Rattle.figures_test.specs.declared.entries.Found.the-variants.{Whole, Nothing}

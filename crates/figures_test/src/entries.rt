@@ -3,7 +3,7 @@ use crate::printing::print_entry;
 ghost use mathlib.Core.Path.{_≡_};
 ghost use Prim.Native.Nat.{_+_, _≤_, _<_};
 ghost use lib.ListN.{length};
-ghost use Rattle.filing.specs.Bytes.{numberAt};
+ghost use Rattle.records.specs.Bytes.{numberAt};
 ghost use Rattle.figures_test.specs.Entries.{entryAt};
 
 // An entry: the length of its list of numbers, and where its filing starts and ends.

@@ -1,6 +1,5 @@
 // What is printed of an entry: the answers of the valuing call and of the split, and what they leave.
-use filing::Answer;
-use filing::answers;
+use answers::Answer;
 use output::end_line;
 use output::next_number;
 use output::rest_of_line;

@@ -13,16 +13,17 @@ use Rattle.lists.proofs.TableLaws.{tableFrom-getD, table-le}
 use Rattle.schedule.specs.Cells.{Position, positionAt, withinRow, brokeredCell, penaltyBalanceCell, penaltyMonthsCell, totalCell}
 use Rattle.schedule.specs.Limits.{cellClass, classLimit, rateLimit}
 use Rattle.schedule.proofs.CellLaws.{CellOf, balance-cell, coupon-cell, months-cell, penalty-months-cell}
+use Rattle.records.specs.Records.{recordLength, recordKind, recordValue, recordRate, nextRecord, firstRecord, firstWithKey, recordKey, cellKey, kindKey}
+use Rattle.records.specs.Faults.{faultNumber, kindLength, sheetRates}
+use Rattle.records.specs.RecordVerdicts.{firstFaulty}
+use Rattle.records.proofs.RecordLaws.{first-fails, with-key-passes, record-of-cell-key, record-of-kind-key}
+use Rattle.records.proofs.FaultLaws.{Sound, neither, faultless-sound}
 use Rattle.filing.specs.declared.Contents.{Contents}
-use Rattle.filing.specs.Records.{recordLength, recordKind, recordValue, recordRate, nextRecord, firstRecord, firstWithKey, recordKey, cellKey, kindKey}
-use Rattle.filing.specs.Faults.{faultNumber, kindLength, sheetRates}
 use Rattle.filing.specs.Contents.{cellOffset, cellValue, sheetOffset, contentsOf, cell, cdYield, retailRate}
 use Rattle.filing.specs.Conditions.{sheetMissing, monthsOutside, columnBalances, balances, aboveColumn, totalDiffers}
-use Rattle.filing.specs.Verdict.{firstFaulty, Accepted}
+use Rattle.filing.specs.Verdict.{Accepted}
 use Rattle.filing.specs.Valid.{Valid}
-use Rattle.filing.proofs.RecordLaws.{first-fails, with-key-passes, record-of-cell-key, record-of-kind-key}
-use Rattle.filing.proofs.FaultLaws.{Sound, neither, faultless-sound}
-use Rattle.filing.proofs.VerdictLaws.{accepted-passed, accepted-consistent}
+use Rattle.filing.proofs.VerdictLaws.{accepted-passed, contents-consistent}
 
 -- a cell of 601 to 661, as read from the contents
 cell-read : (s : List ℕ) (n : ℕ) → 601 ≤ n → n ≤ 661 → cell (contentsOf s) n ≡ cellValue s n
@@ -40,7 +41,7 @@ module _ (s : List ℕ) (a : Accepted s) where
       faultless-sound s at
       (eqb-true (faultNumber s at) 0
       (not-false (eqb (faultNumber s at) 0)
-      (first-fails s (λ (i : ℕ). not (eqb (faultNumber s i) 0)) test (length s) (accepted-passed s a .no-faulty) h)))
+      (first-fails s (λ (i : ℕ). not (eqb (faultNumber s i) 0)) test (length s) (omega (arith, accepted-passed s a .none-faulty)) h)))
 
   key-sound : (key : ℕ) → firstWithKey s key (length s) < length s → Sound s (firstWithKey s key (length s))
   unfolding firstWithKey
@@ -88,13 +89,13 @@ module _ (s : List ℕ) (a : Accepted s) where
   unfolding sheetMissing
   yields-present =
       leb-false (length s) (sheetOffset s 2)
-      (neither (leb (length s) (sheetOffset s 2)) (leb (length s) (sheetOffset s 3)) (accepted-passed s a .no-missing) .0)
+      (neither (leb (length s) (sheetOffset s 2)) (leb (length s) (sheetOffset s 3)) (accepted-passed s a .none-missing) .0)
 
   rates-present : sheetOffset s 3 < length s
   unfolding sheetMissing
   rates-present =
       leb-false (length s) (sheetOffset s 3)
-      (neither (leb (length s) (sheetOffset s 2)) (leb (length s) (sheetOffset s 3)) (accepted-passed s a .no-missing) .1)
+      (neither (leb (length s) (sheetOffset s 2)) (leb (length s) (sheetOffset s 3)) (accepted-passed s a .none-missing) .1)
 
   -- the two sheets lie within the bytes, each with its length and kind: 4 and 240 bytes, 4 and 6 bytes
   pub accepted-yields-inside : sheetOffset s 2 + 244 ≤ length s
@@ -144,7 +145,7 @@ pub accepted-valid : (s : List ℕ) → Accepted s → Valid (contentsOf s)
 unfolding classLimit
 accepted-valid s a =
     let k = contentsOf s in
-    let consistent = accepted-consistent k (accepted-passed s a .contents) in
+    let consistent = contents-consistent k (accepted-passed s a .contents) in
     record {
       balance-limit = λ i h. cell-within s a (positionAt i .balance) 1 (balance-cell i h);
       coupon-limit = λ i h. cell-within s a (positionAt i .coupon) 2 (coupon-cell i h);

@@ -12,12 +12,13 @@ use lib.Seq.{ext-getD}
 use Rattle.lists.specs.Tables.{tableFrom}
 use Rattle.lists.proofs.TableLaws.{tableFrom-getD, table-length}
 use Rattle.lists.proofs.FillLaws.{Filled}
+use Rattle.records.specs.Records.{recordValue, recordRate, firstWithKey}
+use Rattle.records.specs.Inner.Offsets.{offsetsBefore}
+use Rattle.records.proofs.ByteLaws.{number-past}
+use Rattle.records.proofs.OffsetLaws.{place-of-cell, place-of-kind, offsets-end}
 use Rattle.filing.specs.declared.Contents.{Contents}
-use Rattle.filing.specs.Records.{recordValue, recordRate, firstWithKey}
 use Rattle.filing.specs.Contents.{cellOffset, cellValue, sheetOffset, contentsOf}
-use Rattle.filing.specs.Inner.Offsets.{offsetsBefore, cellsAt, contentsAt}
-use Rattle.filing.proofs.ByteLaws.{number-past}
-use Rattle.filing.proofs.OffsetLaws.{place-of-cell, place-of-kind, offsets-end}
+use Rattle.filing.specs.Inner.ContentsAt.{cellsAt, contentsAt}
 
 -- a list that is filled with the values of a function from `base` on is its table from there
 pub filled-from : (base n : ℕ) (f : ℕ → ℕ) (l : List ℕ) → Filled (λ (i : ℕ). f (base + i)) 0 n n l → l ≡ tableFrom base n f

@@ -1,69 +1,54 @@
 -- The verdict on a filing, from the verdict on its records on: what each test that the code makes says of it.
 -- Assumes nothing.
 use Prim.Native.Nat.{ℕ, _≤_, _<_}
-use native.Mathlib.Nat.{le-antisymm}
-use native.Mathlib.Omega.{arith}
-use mathlib.Core.Path.{_≡_, refl, sym, _∙_}
-use mathlib.Core.Bool.{Bool, true, false, cond}
+use mathlib.Core.Path.{_≡_, sym, _∙_}
+use mathlib.Core.Bool.{true}
 use mathlib.Core.List.{List}
-use borrow.Author.Tests.{ltb-false, eq-eqb, ne-eqb, le-leb, lt-leb, le-ltb}
-use lib.Dec.{ltb}
+use borrow.Author.Tests.{eq-eqb, ne-eqb, le-leb, lt-leb}
 use lib.ListN.{length}
-use Rattle.filing.specs.Faults.{faultNumber}
+use Rattle.answers.specs.Verdict.{refused, firstRefusal}
+use Rattle.answers.proofs.VerdictLaws.{first-passed, first-refused, condition-holds, condition-refuses, condition-none}
+use Rattle.records.specs.RecordVerdicts.{recordsVerdict}
 use Rattle.filing.specs.Contents.{sheetOffset, contentsOf}
 use Rattle.filing.specs.Conditions.{sheetMissing}
-use Rattle.filing.specs.Verdict.{Verdict, accepted, refused, contentsVerdict, firstFaulty, filingVerdict}
-use Rattle.filing.specs.Answers.{recordVerdict, recordsVerdict}
+use Rattle.filing.specs.Verdict.{sheetVerdict, contentsVerdict, filingVerdict}
 use Rattle.filing.specs.Readings.{emptyContents, readContents}
-use Rattle.filing.proofs.RecordLaws.{first-le}
-use Rattle.filing.proofs.VerdictLaws.{faulty-number}
-use Rattle.filing.proofs.ScanStateLaws.{record-number}
 
--- the verdict on the records has a number just where one of them is faulty
 module _ (s : List ℕ) where
-  records-refused : (b : Bool) (rest : Verdict)
-      → (cond b (recordVerdict s (firstFaulty s)) accepted .number ≡ 0 → ⊥)
-      → cond b (recordVerdict s (firstFaulty s)) accepted ≡ cond b (refused (faultNumber s (firstFaulty s)) (firstFaulty s)) rest
-  unfolding recordVerdict accepted
-  records-refused true rest h = simp (ne-eqb (faultNumber s (firstFaulty s)) 0 (λ e. h (record-number s (firstFaulty s) ∙ e)))
-  records-refused false rest h = absurd (h refl)
-
   -- a faulty record: its verdict is the filing's
   pub filing-refused : (recordsVerdict s .number ≡ 0 → ⊥) → recordsVerdict s ≡ filingVerdict s
-  unfolding recordsVerdict filingVerdict
-  filing-refused h =
-      records-refused (ltb (firstFaulty s) (length s)) (cond (sheetMissing s) (refused 6 (length s)) (contentsVerdict (contentsOf s))) h
+  unfolding filingVerdict
+  filing-refused h = sym (first-refused (recordsVerdict s) _ h)
 
-  none-faulty : (b : Bool) → ltb (firstFaulty s) (length s) ≡ b → cond b (recordVerdict s (firstFaulty s)) accepted .number ≡ 0
-      → length s ≤ firstFaulty s
-  none-faulty true e h = absurd (omega (arith, faulty-number s e, record-number s (firstFaulty s)))
-  none-faulty false e h = ltb-false (firstFaulty s) (length s) e
-
-  -- no faulty record: the search for one ends at the end
-  pub records-passed : recordsVerdict s .number ≡ 0 → firstFaulty s ≡ length s
-  unfolding recordsVerdict firstFaulty
-  records-passed h =
-      le-antisymm (first-le s _ (length s)) (none-faulty (ltb (firstFaulty s) (length s)) refl h)
-
-  module _ (passed : firstFaulty s ≡ length s) where
-    filing-then : filingVerdict s ≡ cond (sheetMissing s) (refused 6 (length s)) (contentsVerdict (contentsOf s))
+  module _ (passed : recordsVerdict s .number ≡ 0) where
+    filing-then : filingVerdict s ≡ firstRefusal (sheetVerdict s) (contentsVerdict (contentsOf s))
     unfolding filingVerdict
-    filing-then = simp (le-ltb (firstFaulty s) (length s) (omega arith))
+    filing-then = first-passed (recordsVerdict s) _ passed
 
-    -- a sheet is missing
+    -- a sheet is missing: 6
+    sheet-refused : sheetMissing s ≡ true → refused 6 (length s) ≡ filingVerdict s
+    unfolding sheetVerdict
+    sheet-refused h =
+        condition-holds (sheetMissing s) 6 (length s) h
+        ∙ sym (filing-then ∙ first-refused (sheetVerdict s) _ (condition-refuses (sheetMissing s) 5 (length s) h))
+
     pub filing-no-yields : length s ≤ sheetOffset s 2 → refused 6 (length s) ≡ filingVerdict s
     unfolding sheetMissing
-    filing-no-yields h = sym (filing-then ∙ simp (le-leb (length s) (sheetOffset s 2) h))
+    filing-no-yields h = sheet-refused (simp (le-leb (length s) (sheetOffset s 2) h))
 
-    -- the yields are there and the retail rates are not: 6
+    -- the yields are there and the retail rates are not
     pub filing-no-rates : sheetOffset s 2 < length s → length s ≤ sheetOffset s 3 → refused 6 (length s) ≡ filingVerdict s
     unfolding sheetMissing
-    filing-no-rates h l = sym (filing-then ∙ simp (lt-leb (length s) (sheetOffset s 2) h, le-leb (length s) (sheetOffset s 3) l))
+    filing-no-rates h l = sheet-refused (simp (lt-leb (length s) (sheetOffset s 2) h, le-leb (length s) (sheetOffset s 3) l))
 
     -- both sheets are there: the verdict on the contents is the filing's
     pub filing-contents : sheetOffset s 2 < length s → sheetOffset s 3 < length s → contentsVerdict (contentsOf s) ≡ filingVerdict s
-    unfolding sheetMissing
-    filing-contents h l = sym (filing-then ∙ simp (lt-leb (length s) (sheetOffset s 2) h, lt-leb (length s) (sheetOffset s 3) l))
+    unfolding sheetMissing sheetVerdict
+    filing-contents h l =
+        sym
+        (filing-then
+        ∙ first-passed (sheetVerdict s) _
+        (condition-none (sheetMissing s) 6 (length s) (simp (lt-leb (length s) (sheetOffset s 2) h, lt-leb (length s) (sheetOffset s 3) l))))
 
   -- what reading gives besides the verdict
   pub contents-refused : (filingVerdict s .number ≡ 0 → ⊥) → emptyContents ≡ readContents s

@@ -1,77 +1,41 @@
--- What the verdict of acceptance says of each test on its way: none of them passed.
+-- What the verdict of acceptance says of each condition: none of them holds.
 -- Assumes nothing.
-use Prim.Native.Nat.{ℕ, zero, suc, _≤_, _<_}
-use native.Mathlib.Nat.{le-of-suc-le-suc, not-suc-le-zero}
+use Prim.Native.Nat.{ℕ, zero, suc, _+_, _%_, _≤_, _<_}
+use native.Mathlib.Nat.{not-suc-le-zero}
 use native.Mathlib.Omega.{arith}
-use mathlib.Core.Path.{_≡_, refl, ap}
-use mathlib.Core.Bool.{Bool, true, false, cond, not}
-use mathlib.Core.List.{List, [], _∷_}
-use borrow.Author.Tests.{ltb-true, ltb-false, eqb-false, not-true}
-use lib.Dec.{ltb, eqb, lit<}
-use lib.ListN.{length, getD}
-use Rattle.schedule.specs.Cells.{Position, positions, positionAt, brokeredCell, penaltyBalanceCell, totalCell}
+use mathlib.Core.Path.{_≡_, sym, ap, _∙_}
+use mathlib.Core.Bool.{false}
+use mathlib.Core.List.{List}
+use lib.Dec.{lit<}
+use lib.ListN.{length}
+use Rattle.schedule.specs.Cells.{positionAt, brokeredCell, penaltyBalanceCell, totalCell}
+use Rattle.answers.specs.Verdict.{Verdict, accepted, firstRefusal}
+use Rattle.answers.proofs.VerdictLaws.{first-none, tried-none, condition-fails}
+use Rattle.records.specs.RecordVerdicts.{firstFaulty, recordsVerdict}
+use Rattle.records.proofs.PassedLaws.{records-passed}
 use Rattle.filing.specs.declared.Contents.{Contents}
-use Rattle.filing.specs.Faults.{faultNumber}
 use Rattle.filing.specs.Contents.{contentsOf}
 use Rattle.filing.specs.Conditions.{sheetMissing, monthsOutside, aboveColumn, totalDiffers}
-use Rattle.filing.specs.Verdict.{Verdict, accepted, refused, monthsVerdict, columnVerdict, columnsVerdict, totalVerdict, contentsVerdict, firstFaulty, filingVerdict, Accepted}
-use Rattle.filing.proofs.RecordLaws.{first-passes}
+use Rattle.filing.specs.Verdict.{sheetVerdict, positionVerdict, monthsVerdict, columnVerdict, columnsVerdict, totalVerdict, contentsVerdict, filingVerdict, Accepted}
+use Rattle.filing.proofs.ConditionLaws.{monthsAt, columnsAt, months-in-turn, columns-in-turn}
 
--- a test whose refusal has a number did not pass, and the verdict is the next one's
-not-refused : (b : Bool) (n at : ℕ) (next : Verdict) → (b ≡ true → 0 < n) → cond b (refused n at) next ≡ accepted → (b ≡ false) × (next ≡ accepted)
-unfolding refused accepted
-not-refused true n at next p h =
-    let none : n ≡ 0 = ap (λ (v : Verdict). v .number) h in
-    absurd (omega (arith, p refl))
-not-refused false n at next p h = (refl, h)
-
--- the tests of an accepted filing, in their order
+-- the conditions on an accepted filing, in their order
 pub record Passed (s : List ℕ) : Type 0 where
-  pub no-faulty : length s ≤ firstFaulty s
-  pub no-missing : sheetMissing s ≡ false
-  pub contents : contentsVerdict (contentsOf s) ≡ accepted
-
--- the first faulty record has a fault, so its refusal has a number
-pub faulty-number : (s : List ℕ) → ltb (firstFaulty s) (length s) ≡ true → 0 < faultNumber s (firstFaulty s)
-unfolding firstFaulty
-faulty-number s e =
-    let h = first-passes s (λ (at : ℕ). not (eqb (faultNumber s at) 0)) (length s) (ltb-true (firstFaulty s) (length s) e) in
-    pos (faultNumber s (firstFaulty s)) (eqb-false (faultNumber s (firstFaulty s)) 0 (not-true (eqb (faultNumber s (firstFaulty s)) 0) h))
-  where
-    pos : (n : ℕ) → (n ≡ 0 → ⊥) → 0 < n
-    pos zero f = absurd (f refl)
-    pos (suc n) f = omega arith
+  pub none-faulty : firstFaulty s ≡ length s
+  pub none-missing : sheetMissing s ≡ false
+  pub contents : contentsVerdict (contentsOf s) .number ≡ 0
 
 pub accepted-passed : (s : List ℕ) → Accepted s → Passed s
-unfolding filingVerdict
-accepted-passed s h =
-    let h1 = not-refused (ltb (firstFaulty s) (length s)) (faultNumber s (firstFaulty s)) (firstFaulty s) _ (faulty-number s) h in
-    let h2 = not-refused (sheetMissing s) 6 (length s) _ (λ e. lit< tt) (h1 .1) in
+unfolding filingVerdict sheetVerdict accepted
+accepted-passed s a =
+    let later = firstRefusal (sheetVerdict s) (contentsVerdict (contentsOf s)) in
+    let records = first-none (recordsVerdict s) later (ap (λ (v : Verdict). v .number) a) in
+    let rest = first-none (sheetVerdict s) (contentsVerdict (contentsOf s)) (records .1) in
     record {
-      no-faulty = ltb-false (firstFaulty s) (length s) (h1 .0);
-      no-missing = h2 .0;
-      contents = h2 .1;
+      none-faulty = records-passed s (records .0);
+      none-missing = condition-fails (sheetMissing s) 5 (length s) (rest .0);
+      contents = rest .1;
     }
-
--- 7 holds at none of the positions
-months-none : (k : Contents) (ps : List Position) (next : Verdict) → monthsVerdict k ps next ≡ accepted
-    → (i : ℕ) (d : Position) → i < length ps → monthsOutside k (getD ps i d) ≡ false
-unfolding monthsVerdict
-months-none k [] next h i d l = absurd (not-suc-le-zero l)
-months-none k (p ∷ ps) next h zero d l = not-refused (monthsOutside k p) 7 (p .months) _ (λ e. lit< tt) h .0
-months-none k (p ∷ ps) next h (suc i) d l =
-    months-none k ps next (not-refused (monthsOutside k p) 7 (p .months) _ (λ e. lit< tt) h .1) i d (le-of-suc-le-suc l)
-
-months-next : (k : Contents) (ps : List Position) (next : Verdict) → monthsVerdict k ps next ≡ accepted → next ≡ accepted
-unfolding monthsVerdict
-months-next k [] next h = h
-months-next k (p ∷ ps) next h = months-next k ps next (not-refused (monthsOutside k p) 7 (p .months) _ (λ e. lit< tt) h .1)
-
--- 8 does not hold at a column's cell
-column-next : (k : Contents) (column n : ℕ) (next : Verdict) → columnVerdict k column n next ≡ accepted
-    → (aboveColumn k column n ≡ false) × (next ≡ accepted)
-unfolding columnVerdict
-column-next k column n next h = not-refused (aboveColumn k column n) 8 n next (λ e. lit< tt) h
 
 -- what holds of columns 1, 2 and 3 holds of each column
 by-column : (P : ℕ → Type 0) → P 1 → P 2 → P 3 → (j : ℕ) → 1 ≤ j → j ≤ 3 → P j
@@ -81,25 +45,37 @@ by-column P a b c (suc (suc zero)) l u = b
 by-column P a b c (suc (suc (suc zero))) l u = c
 by-column P a b c (suc (suc (suc (suc n)))) l u = absurd (omega arith)
 
--- the tests on what an accepted filing says, in their order
+-- the conditions on what an accepted filing says, in their order
 pub record Consistent (k : Contents) : Type 0 where
   pub months-inside : (i : ℕ) → i < 9 → monthsOutside k (positionAt i) ≡ false
   pub brokered-below : (j : ℕ) → 1 ≤ j → j ≤ 3 → aboveColumn k j (brokeredCell j) ≡ false
   pub penalized-below : (j : ℕ) → 1 ≤ j → j ≤ 3 → aboveColumn k j (penaltyBalanceCell j) ≡ false
   pub total-same : totalDiffers k ≡ false
 
-pub accepted-consistent : (k : Contents) → contentsVerdict k ≡ accepted → Consistent k
-unfolding contentsVerdict columnsVerdict totalVerdict positionAt positions
-accepted-consistent k h =
-    let h1 = column-next k 1 (brokeredCell 1) _ (months-next k positions (columnsVerdict k (totalVerdict k)) h) in
-    let h2 = column-next k 2 (brokeredCell 2) _ (h1 .1) in
-    let h3 = column-next k 3 (brokeredCell 3) _ (h2 .1) in
-    let h4 = column-next k 1 (penaltyBalanceCell 1) _ (h3 .1) in
-    let h5 = column-next k 2 (penaltyBalanceCell 2) _ (h4 .1) in
-    let h6 = column-next k 3 (penaltyBalanceCell 3) _ (h5 .1) in
+-- 7 holds at none of the nine positions, 8 at none of the six cells
+months-fail : (k : Contents) → monthsVerdict k .number ≡ 0 → (i : ℕ) → i < 9 → monthsOutside k (positionAt i) ≡ false
+unfolding positionVerdict
+months-fail k h i l =
+    condition-fails (monthsOutside k (positionAt i)) 6 (positionAt i .months)
+    (tried-none (monthsAt k) 9 (ap (λ (v : Verdict). v .number) (sym (months-in-turn k)) ∙ h) i l)
+
+columns-fail : (k : Contents) → columnsVerdict k .number ≡ 0 → (i : ℕ) → i < 6 → aboveColumn k (i % 3 + 1) (i + 650) ≡ false
+unfolding columnVerdict
+columns-fail k h i l =
+    condition-fails (aboveColumn k (i % 3 + 1) (i + 650)) 7 (i + 650)
+    (tried-none (columnsAt k) 6 (ap (λ (v : Verdict). v .number) (sym (columns-in-turn k)) ∙ h) i l)
+
+pub contents-consistent : (k : Contents) → contentsVerdict k .number ≡ 0 → Consistent k
+unfolding contentsVerdict totalVerdict brokeredCell penaltyBalanceCell
+contents-consistent k h =
+    let months = first-none (monthsVerdict k) (firstRefusal (columnsVerdict k) (totalVerdict k)) h in
+    let columns = first-none (columnsVerdict k) (totalVerdict k) (months .1) in
+    let below = columns-fail k (columns .0) in
     record {
-      months-inside = λ i l. months-none k positions (columnsVerdict k (totalVerdict k)) h i _ l;
-      brokered-below = by-column (λ (j : ℕ). aboveColumn k j (brokeredCell j) ≡ false) (h1 .0) (h2 .0) (h3 .0);
-      penalized-below = by-column (λ (j : ℕ). aboveColumn k j (penaltyBalanceCell j) ≡ false) (h4 .0) (h5 .0) (h6 .0);
-      total-same = not-refused (totalDiffers k) 9 totalCell accepted (λ e. lit< tt) (h6 .1) .0;
+      months-inside = months-fail k (months .0);
+      brokered-below =
+          by-column (λ (j : ℕ). aboveColumn k j (brokeredCell j) ≡ false) (below 0 (lit< tt)) (below 1 (lit< tt)) (below 2 (lit< tt));
+      penalized-below =
+          by-column (λ (j : ℕ). aboveColumn k j (penaltyBalanceCell j) ≡ false) (below 3 (lit< tt)) (below 4 (lit< tt)) (below 5 (lit< tt));
+      total-same = condition-fails (totalDiffers k) 8 totalCell (columns .1);
     }

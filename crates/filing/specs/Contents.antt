@@ -5,8 +5,8 @@ use mathlib.Core.List.{List}
 use lib.ListN.{length, getD}
 use lib.Dec.{ltb}
 use Rattle.lists.specs.Tables.{tableFrom}
+use Rattle.records.specs.Records.{recordValue, recordRate, firstWithKey, cellKey, kindKey}
 use Rattle.filing.specs.declared.Contents.{Contents}
-use Rattle.filing.specs.Records.{recordValue, recordRate, firstWithKey, cellKey, kindKey}
 
 -- the offset of a cell's record, or the input's length where there is none
 unfoldable pub cellOffset : List ℕ → ℕ → ℕ

@@ -1,10 +1,6 @@
-pub mod Bytes
-pub mod Records
-pub mod Faults
 pub mod Contents
 pub mod Conditions
 pub mod Verdict
-pub mod Answers
 pub mod Readings
 pub mod Valid
 pub mod Inner

@@ -1,8 +1,8 @@
 // The conditions on what a filing says: refusals 7 to 9, in the paper's order.
-use crate::Answer;
 use crate::Contents;
-use crate::answers::number;
 use crate::cells::cell_value;
+use answers::Answer;
+use answers::first_refusal;
 use schedule::positions::balance_cell;
 use schedule::positions::column_of;
 use schedule::positions::least_months;
@@ -12,9 +12,10 @@ ghost use mathlib.Core.Path.{_≡_};
 ghost use Prim.Native.Nat.{_<_, _≤_};
 ghost use Rattle.lists.specs.Sums.{sum};
 ghost use Rattle.schedule.specs.Cells.{positions, positionAt};
+ghost use Rattle.answers.specs.Verdict.{accepted};
+ghost use Rattle.answers.specs.Answers.{verdictOf};
 ghost use Rattle.filing.specs.Conditions.{monthsOutside, columnBalances, aboveColumn, totalDiffers};
-ghost use Rattle.filing.specs.Verdict.{accepted, monthsVerdict, columnsVerdict, contentsVerdict};
-ghost use Rattle.filing.specs.Answers.{verdictOf};
+ghost use Rattle.filing.specs.Verdict.{monthsVerdict, columnsVerdict, totalVerdict, contentsVerdict};
 ghost use Rattle.filing.specs.Inner.Balances.{positionCells, leftAfter};
 
 // One of the nine positions: the cells of its balance and its WARM, its column, and the least and the most months of its row.
@@ -37,23 +38,14 @@ pub(crate) fn check_contents(k: Contents) -> Answer
     ensures { λ r. ⌜ verdictOf r ≡ contentsVerdict k ⌝ }
 {
     let months = check_months(k);
-    if number(months) != 0 {
-        return months;
-    }
     let columns = check_columns(k);
-    if number(columns) != 0 {
-        return columns;
-    }
-    if total_differs(k) {
-        Answer::TotalDiffers(645)
-    } else {
-        Answer::Accepted
-    }
+    let total = check_total(k);
+    first_refusal(months, first_refusal(columns, total))
 }
 
 // 7, by ascending WARM cell.
 fn check_months(k: Contents) -> Answer
-    ensures { λ r. ⌜ verdictOf r ≡ monthsVerdict k positions accepted ⌝ }
+    ensures { λ r. ⌜ verdictOf r ≡ monthsVerdict k ⌝ }
 {
     let mut i = 0;
     while i < 9 {
@@ -68,7 +60,7 @@ fn check_months(k: Contents) -> Answer
 
 // 8, by ascending cell: the brokered balances 650 to 652, then the balances subject to penalty 653 to 655.
 fn check_columns(k: Contents) -> Answer
-    ensures { λ r. ⌜ verdictOf r ≡ columnsVerdict k accepted ⌝ }
+    ensures { λ r. ⌜ verdictOf r ≡ columnsVerdict k ⌝ }
 {
     let mut i = 0;
     while i < 6 {
@@ -78,6 +70,17 @@ fn check_columns(k: Contents) -> Answer
         i += 1;
     }
     Answer::Accepted
+}
+
+// 9, at the total.
+fn check_total(k: Contents) -> Answer
+    ensures { λ r. ⌜ verdictOf r ≡ totalVerdict k ⌝ }
+{
+    if total_differs(k) {
+        Answer::TotalDiffers(645)
+    } else {
+        Answer::Accepted
+    }
 }
 
 // A position has a balance, and its remaining months lie outside its row.

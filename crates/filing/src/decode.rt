@@ -1,13 +1,12 @@
 // What a filing says, read from the noted offsets of its records.
 use crate::Contents;
-use crate::records::record_rate;
-use crate::records::record_value;
+use records::fields::record_rate;
+use records::fields::record_value;
 ghost use mathlib.Core.Path.{_≡_};
-ghost use Prim.Native.Nat.{_≤_};
 ghost use lib.ListN.{length};
 ghost use Rattle.lists.specs.Tables.{tableFrom};
-ghost use Rattle.filing.specs.Records.{recordRate};
-ghost use Rattle.filing.specs.Inner.Offsets.{cellsAt, contentsAt};
+ghost use Rattle.records.specs.Records.{recordRate};
+ghost use Rattle.filing.specs.Inner.ContentsAt.{cellsAt, contentsAt};
 
 // The cells, yields and rates at these offsets.
 pub(crate) fn contents_at(s: &[u8], first: &[usize; 65]) -> Contents
@@ -41,7 +40,6 @@ fn cell_values(s: &[u8], first: &[usize; 65]) -> [u64; 61]
 
 // Fills in the rates of the sheet at an offset, from the first on.
 fn fill_rates(s: &[u8], at: usize, rates: &mut [u16])
-    requires { ⌜ length (now rates) ≤ 120 ⌝ }
     ensures { λ r. ⌜ now (rates .exit) ≡ tableFrom 1 (length (now (rates .entry))) (recordRate (now (s .entry)) at) ⌝ }
 {
     let mut i = 0;

@@ -1,23 +1,17 @@
 // A filing of certificate deposits, from its bytes to what it says.
 
-pub mod answers;
-mod bytes;
 pub mod cells;
 mod conditions;
 mod decode;
-mod faults;
-mod reader;
-mod records;
-mod scan;
-mod tables;
 
-use crate::answers::number;
 use crate::conditions::check_contents;
 use crate::decode::contents_at;
-use crate::scan::scan;
+use answers::Answer;
+use answers::number;
+use records::scan::scan;
 ghost use mathlib.Core.Path.{_≡_};
+ghost use Rattle.answers.specs.Answers.{verdictOf};
 ghost use Rattle.filing.specs.Verdict.{filingVerdict};
-ghost use Rattle.filing.specs.Answers.{verdictOf};
 ghost use Rattle.filing.specs.Readings.{readContents, emptyContents};
 
 // The answer on a filing, and what the filing says: on a refusal all numbers are 0.
@@ -71,37 +65,4 @@ pub struct Contents {
     pub cells: [u64; 61],
     pub yields: [u16; 120],
     pub rates: [u16; 3],
-}
-
-// What stands at an offset of a filing.
-pub enum Step {
-    // A complete record: its kind, its length (the bytes after the length itself), and the offset of the record after it.
-    Record {
-        kind: u16,
-        length: usize,
-        next: usize,
-    },
-    // A record that runs past the end, or whose length is below 2.
-    Incomplete,
-    // Nothing: the offset is at the end, or past it.
-    End,
-}
-
-// The answer on a filing: acceptance, or the first refusal and its place.
-pub enum Answer {
-    Accepted,
-    // At the record's offset.
-    RecordIncomplete(usize),
-    RecordMisshapen(usize),
-    CellUnlisted(usize),
-    Repeated(usize),
-    OverLimit(usize),
-    // At the input's length.
-    SheetMissing(usize),
-    // At the cell.
-    MonthsOutsideRow(usize),
-    AboveColumnSum(usize),
-    TotalDiffers(usize),
-    // At the list's length.
-    ListTooShort(usize),
 }

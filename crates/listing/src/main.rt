@@ -1,6 +1,5 @@
 // Reads a filing of up to 65,536 bytes from standard input and prints a line for each scenario: its shift, then short lower, short upper, long
 // lower and long upper total in dollars. A refusal prints its number and place.
-use filing::answers;
 use libc::STDIN_FILENO;
 
 fn main() {

@@ -2,8 +2,7 @@
 // (coupon), its WARM (remaining months), its column and the months of its row.
 ghost use mathlib.Core.Path.{_≡_};
 ghost use lib.ListN.{getD};
-ghost use Rattle.second.specs.Cells.{balances, wacs, warms};
-ghost use Rattle.second.specs.Cells.{columns, firstMonths, lastMonths, Limit};
+ghost use Rattle.second.specs.Cells.{balances, wacs, warms, columns, firstMonths, lastMonths, Limit};
 
 const BALANCE: [u64; 9] = [601, 602, 603, 615, 616, 617, 631, 632, 641];
 

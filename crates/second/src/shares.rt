@@ -1,9 +1,7 @@
 // The thirty-six sub-balances: nine cells ascending, each as retail with penalty, retail without,
 // brokered with, brokered without.
 ghost use mathlib.Core.Path.{_≡_};
-ghost use Rattle.second.specs.Shares.{columnSum, partOfFirst, sumBefore, sumAfter};
-ghost use Rattle.second.specs.Shares.{brokeredPart, sumMiddle, retailSubject, brokeredSubject, shareOf};
-ghost use Rattle.second.specs.Shares.{penaltyOf, PlaceOf};
+ghost use Rattle.second.specs.Shares.{columnSum, partOfFirst, sumBefore, sumAfter, brokeredPart, sumMiddle, retailSubject, brokeredSubject, shareOf, penaltyOf, PlaceOf};
 use crate::arith::add;
 use crate::arith::scaled;
 use crate::arith::sub;

@@ -3,8 +3,7 @@
 use Prim.Native.Nat.{ℕ, zero, suc, _+_, _*_, _/_, _≤_}
 use mathlib.Core.Path.{_≡_, refl, ap, _∙_}
 use mathlib.Core.List.{List, [], _∷_}
-use native.Mathlib.Nat.{le-add-right, div-zero, zero-div, div-mul-le-self, lt-div-mul-add, le-div-iff-mul-le, div-lt-iff-lt-mul, mul-div-cancel}
-use native.Mathlib.Nat.{add-zero, add-assoc, sub-self, mul-zero, mul-le-mul-left, mul-le-mul-right, zero-add, zero-lt-suc}
+use native.Mathlib.Nat.{le-add-right, div-zero, zero-div, div-mul-le-self, lt-div-mul-add, le-div-iff-mul-le, div-lt-iff-lt-mul, mul-div-cancel, add-zero, add-assoc, sub-self, mul-zero, mul-le-mul-left, mul-le-mul-right, zero-add, zero-lt-suc}
 use native.Mathlib.Omega.{arith}
 use lib.ListN.{length, getD, take}
 use lib.Seq.{take-nil}

@@ -1,16 +1,16 @@
 -- Laws of the call that splits a filing into a list: how many places are written, and what the list is after them. Assumes nothing.
 use Prim.Native.Nat.{ℕ, _≤_}
-use mathlib.Core.Path.{_≡_, refl, sym, _∙_}
-use mathlib.Core.Bool.{Bool, true, false, cond, true≢false}
+use mathlib.Core.Path.{_≡_, refl, _∙_}
+use mathlib.Core.Bool.{Bool, true, false, cond}
 use mathlib.Core.List.{List, _++_}
 use native.Mathlib.Omega.{arith}
-use borrow.Author.Tests.{ltb-false}
-use lib.Dec.{ltb, eqb}
+use borrow.Author.Tests.{eqb-true}
 use lib.ListN.{length, take, drop, replicate}
 use lib.Seq.{take-all}
 use Rattle.lists.proofs.TableLaws.{table-length}
+use Rattle.answers.proofs.VerdictLaws.{list-none}
 use Rattle.filing.specs.Contents.{contentsOf}
-use Rattle.filing.specs.Verdict.{listVerdict, refused, filingVerdict}
+use Rattle.filing.specs.Verdict.{filingVerdict}
 use Rattle.shares.specs.declared.SubBalance.{SubBalance}
 use Rattle.shares.specs.declared.Outcome.{Outcome}
 use Rattle.shares.specs.Places.{placeAt, placesOf, noPlace}
@@ -18,12 +18,8 @@ use Rattle.shares.specs.Split.{splitVerdict, splitAccepts, placesAfter, 
 
 -- a list that is accepted has room for the places
 accepts-size : (s : List ℕ) (size : ℕ) → splitAccepts s size ≡ true → 36 ≤ size
-unfolding splitAccepts splitVerdict listVerdict refused
-accepts-size s size h = by-size (ltb size 36) refl h
-  where
-    by-size : (b : Bool) → ltb size 36 ≡ b → eqb (cond b (refused 10 size) (filingVerdict s) .number) 0 ≡ true → 36 ≤ size
-    by-size true e h = absurd (true≢false (sym h))
-    by-size false e h = ltb-false size 36 e
+unfolding splitAccepts splitVerdict
+accepts-size s size h = list-none 36 size (filingVerdict s) (eqb-true (splitVerdict s size .number) 0 h)
 
 written-within : (s : List ℕ) (size : ℕ) (b : Bool) → splitAccepts s size ≡ b → (cond b 36 0 ≤ 36) × (cond b 36 0 ≤ size)
 written-within s size true e = omega (arith, accepts-size s size e)

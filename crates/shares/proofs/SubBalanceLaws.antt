@@ -14,8 +14,7 @@ use Rattle.filing.specs.declared.Contents.{Contents}
 use Rattle.filing.specs.Contents.{cell}
 use Rattle.filing.specs.Conditions.{columnBalances, balances}
 use Rattle.filing.specs.Valid.{Valid}
-use Rattle.shares.specs.SubBalances.{brokeredShares, accountParts, penaltyShares, brokeredIn, retailIn, retailPenalized, brokeredPenalized}
-use Rattle.shares.specs.SubBalances.{fourOf, positionOf, balanceAt, subBalanceCount}
+use Rattle.shares.specs.SubBalances.{brokeredShares, accountParts, penaltyShares, brokeredIn, retailIn, retailPenalized, brokeredPenalized, fourOf, positionOf, balanceAt, subBalanceCount}
 use Rattle.shares.proofs.ApportionLaws.{apportion-sum, apportion-le, apportion-length}
 use Rattle.shares.proofs.PartLaws.{parts-sum, retail-part, brokered-part}
 

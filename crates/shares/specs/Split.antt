@@ -5,9 +5,10 @@ use mathlib.Core.Bool.{Bool, cond}
 use mathlib.Core.List.{List, _++_}
 use lib.Dec.{eqb}
 use lib.ListN.{length, drop, replicate}
-use Rattle.filing.specs.declared.Answer.{Answer}
-use Rattle.filing.specs.Verdict.{Verdict, filingVerdict, listVerdict}
-use Rattle.filing.specs.Answers.{verdictOf}
+use Rattle.answers.specs.declared.Answer.{Answer}
+use Rattle.answers.specs.Verdict.{Verdict, firstRefusal, listVerdict}
+use Rattle.answers.specs.Answers.{verdictOf}
+use Rattle.filing.specs.Verdict.{filingVerdict}
 use Rattle.filing.specs.Contents.{contentsOf}
 use Rattle.shares.specs.declared.SubBalance.{SubBalance}
 use Rattle.shares.specs.declared.Outcome.{Outcome}
@@ -16,7 +17,7 @@ use Rattle.shares.specs.Places.{placesOf, noPlace}
 
 -- the verdict on a filing and a list of `size` places: a short list comes first
 unfoldable pub splitVerdict : List ℕ → ℕ → Verdict
-splitVerdict s size = listVerdict subBalanceCount size (filingVerdict s)
+splitVerdict s size = firstRefusal (listVerdict subBalanceCount size) (filingVerdict s)
 
 -- nothing is refused
 unfoldable pub splitAccepts : List ℕ → ℕ → Bool

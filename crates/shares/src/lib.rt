@@ -1,5 +1,5 @@
 // The thirty-six sub-balances of a filing.
-use filing::Answer;
+use answers::Answer;
 
 mod apportion;
 pub mod places;

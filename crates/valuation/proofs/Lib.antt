@@ -1,6 +1,4 @@
-pub mod TermsLaws
-pub mod FactorLaws
-pub mod PriceLaws
+pub mod PlaceTermsLaws
 pub mod PlaceValueLaws
 pub mod ValueLaws
 pub mod PromiseLaws

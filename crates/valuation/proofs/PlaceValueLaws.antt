@@ -15,25 +15,26 @@ use Rattle.filing.specs.Contents.{cdYield}
 use Rattle.filing.specs.Valid.{Valid}
 use Rattle.shares.specs.declared.SubBalance.{SubBalance}
 use Rattle.shares.specs.SubBalances.{balanceAt, monthsAt}
-use Rattle.shares.proofs.SubBalanceLaws.{balanceAt-limit}
 use Rattle.shares.specs.Places.{placeAt, placesOf, noPlace}
+use Rattle.shares.proofs.SubBalanceLaws.{balanceAt-limit}
 use Rattle.withdrawal.specs.Tiers.{TierTable}
 use Rattle.pricing.specs.Rounding.{Rounding, down, up, quotient}
 use Rattle.pricing.specs.Run.{discountFactorBy, priceBy, valueBy}
 use Rattle.pricing.proofs.RoundingLaws.{quotient-le, quotient-zero}
 use Rattle.pricing.proofs.LimitLaws.{discount-limit, price-limit}
 use Rattle.pricing.proofs.RunLaws.{run-ext}
-use Rattle.valuation.specs.declared.Deposit.{Deposit}
-use Rattle.valuation.specs.declared.Bounds.{Bounds}
-use Rattle.valuation.specs.DepositTerms.{depositAt, termsOf, filingTiers, termsAt, monthYield}
-use Rattle.valuation.specs.Inner.Deposits.{listed, listedPrice, AtMostPar}
-use Rattle.valuation.specs.Inner.Factors.{factorAt, factorsBy, WithinRates}
+use Rattle.deposits.specs.declared.Deposit.{Deposit}
+use Rattle.deposits.specs.declared.Bounds.{Bounds}
+use Rattle.deposits.specs.DepositTerms.{termsOf}
+use Rattle.deposits.specs.Inner.Prices.{listed, listedPrice, AtMostPar}
+use Rattle.deposits.specs.Inner.Factors.{factorAt, factorsBy, WithinRates}
+use Rattle.valuation.specs.PlaceTerms.{depositAt, filingTiers, termsAt, monthYield}
 use Rattle.valuation.specs.Inner.PlaceValues.{termOf, longestTo, longestTerm, listedValue, listedValues, balancesIn}
 use Rattle.valuation.specs.Inner.Listed.{WithinValues, valuesBy, numberIn}
 use Rattle.valuation.specs.Numbers.{numbers, numberCount}
 use Rattle.valuation.specs.Run.{valueAt}
 use Rattle.valuation.proofs.NumberLaws.{numbers-listed}
-use Rattle.valuation.proofs.TermsLaws.{either-le, months-limit, terms-bounded}
+use Rattle.valuation.proofs.PlaceTermsLaws.{either-le, months-limit, terms-bounded}
 
 -- the yields of an accepted filing are within the limit
 pub yields-within : (k : Contents) → Valid k → WithinRates (k .yields)

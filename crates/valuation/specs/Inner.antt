@@ -1,5 +1,3 @@
 -- Definitions for the contracts of inner functions. What the promise says does not rest on them.
-pub mod Deposits
-pub mod Factors
 pub mod Listed
 pub mod PlaceValues

@@ -1,4 +1,4 @@
-pub mod DepositTerms
+pub mod PlaceTerms
 pub mod Rows
 pub mod Exact
 pub mod Run

@@ -9,10 +9,11 @@ use lib.ListN.{length, getD, drop}
 use Rattle.lists.specs.Sums.{sumWhere, everywhere}
 use Rattle.fraction.specs.Fraction.{Encloses}
 use Rattle.schedule.specs.Cells.{positionAt, totalCell}
-use Rattle.filing.specs.declared.Answer.{Answer}
-use Rattle.filing.specs.Answers.{verdictOf}
+use Rattle.answers.specs.declared.Answer.{Answer}
+use Rattle.answers.specs.Answers.{verdictOf}
+use Rattle.answers.specs.Verdict.{Verdict, accepted, firstRefusal, listVerdict}
 use Rattle.filing.specs.Contents.{contentsOf, cell}
-use Rattle.filing.specs.Verdict.{Verdict, accepted, filingVerdict, listVerdict}
+use Rattle.filing.specs.Verdict.{filingVerdict}
 use Rattle.shares.specs.SubBalances.{subBalanceCount}
 use Rattle.valuation.specs.Rows.{isShort, isLong}
 use Rattle.valuation.specs.Exact.{exactValueAt, exactTotal}
@@ -20,7 +21,7 @@ use Rattle.valuation.specs.Numbers.{numbers, numberCount}
 
 -- the verdict on a list and a filing: a list under 568 numbers is a 10, and comes first
 unfoldable pub verdictOn : List ℕ → List ℕ → Verdict
-verdictOn s before = listVerdict numberCount (length before) (filingVerdict s)
+verdictOn s before = firstRefusal (listVerdict numberCount (length before)) (filingVerdict s)
 
 -- the list after the call: as it was on a refusal; else the 568 numbers, and then the rest as it was
 unfoldable pub listAfter : List ℕ → List ℕ → List ℕ

@@ -1,14 +1,12 @@
 // Certificate deposits under seven rate scenarios: from a filing's bytes to its 568 numbers.
-pub mod factors;
 pub mod filing_numbers;
 pub mod list;
 pub mod place_values;
-pub mod prices;
 pub mod totals;
 
 use crate::filing_numbers::value_contents;
-use filing::Answer;
-use filing::answers::number;
+use answers::Answer;
+use answers::number;
 use filing::read;
 ghost use Rattle.valuation.specs.Promise.{Valued};
 
@@ -27,22 +25,6 @@ pub fn value(filing: &[u8], numbers: &mut [u64]) -> Answer
     }
     value_contents(reading.contents, numbers);
     answer
-}
-
-// A deposit as its cash flows see it: coupon and shifted retail rate in hundredths of a percent a year, penalty in hundredths of a month,
-// remaining months.
-pub struct Deposit {
-    pub brokered: bool,
-    pub coupon: u64,
-    pub penalty: u64,
-    pub rate: u64,
-    pub months: u64,
-}
-
-// A lower and an upper figure.
-pub struct Bounds {
-    pub lower: u64,
-    pub upper: u64,
 }
 
 // Lower and upper values in dollars: place p of scenario s stands at 36 s + p.

@@ -1,9 +1,9 @@
 // Lower and upper values of every place in every scenario.
-use crate::Bounds;
-use crate::Deposit;
 use crate::Values;
-use crate::factors::factor_table;
-use crate::prices::price_of;
+use deposits::Bounds;
+use deposits::Deposit;
+use deposits::factors::factor_table;
+use deposits::prices::price_of;
 use filing::Contents;
 use pricing::months::value_of;
 use schedule::positions::column_of;
@@ -17,8 +17,8 @@ ghost use Rattle.filing.specs.Valid.{Valid};
 ghost use Rattle.shares.specs.Places.{placesOf};
 ghost use Rattle.withdrawal.specs.Inner.TierArrays.{tierTable, Usable};
 ghost use Rattle.pricing.specs.Rounding.{down, up};
-ghost use Rattle.valuation.specs.DepositTerms.{penaltyAt, rateAt, filingTiers};
-ghost use Rattle.valuation.specs.Inner.Deposits.{DepositLimits, AtMostPar};
+ghost use Rattle.deposits.specs.Inner.Prices.{DepositLimits, AtMostPar};
+ghost use Rattle.valuation.specs.PlaceTerms.{penaltyAt, rateAt, filingTiers};
 ghost use Rattle.valuation.specs.Inner.Listed.{valuesBy};
 ghost use Rattle.valuation.specs.Inner.PlaceValues.{filed, depositFrom, longestTerm, termOf, listedValues};
 

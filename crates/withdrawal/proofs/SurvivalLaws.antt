@@ -7,8 +7,8 @@ use native.Mathlib.Nat.{le-trans, le-antisymm, lt-of-not-le, not-le-of-lt, sub-l
 use native.Mathlib.Omega.{arith}
 use lib.Dec.{T, T-not, leb→le, le→leb, lit<}
 use lib.ListN.{length, getD}
-use Rattle.withdrawal.specs.Survival.{survives, withBits, survival}
 use Rattle.lists.proofs.TestLaws.{both, everyEntry, entry-passes}
+use Rattle.withdrawal.specs.Survival.{survives, withBits, survival}
 
 -- r is the largest number that passes the test
 pub record Largest (test : ℕ → Bool) (r : ℕ) : Type 0 where

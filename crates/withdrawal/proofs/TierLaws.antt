@@ -11,6 +11,7 @@ use lib.Dec.{T, leb, leb→le}
 use lib.ListN.{getD}
 use lib.IntN.{ℤ}
 use Rattle.lists.specs.Tables.{tableFrom}
+use Rattle.lists.proofs.TestLaws.{everyEntry, entries-le}
 use Rattle.withdrawal.specs.declared.WithdrawalTiers.{WithdrawalTiers}
 use Rattle.withdrawal.specs.Gain.{gain, cost}
 use Rattle.withdrawal.specs.Survival.{survival}
@@ -18,7 +19,6 @@ use Rattle.withdrawal.specs.Inner.Incentives.{gainOf}
 use Rattle.withdrawal.specs.Tiers.{WithdrawalTier, tier, reached, firstReached, annualWithdrawal}
 use Rattle.withdrawal.specs.Inner.TierArrays.{NoneBefore, Usable, tierSurvival, tierTable, tierTableOf, TiersFit}
 use Rattle.withdrawal.proofs.GainLaws.{reached-iff, gain-difference}
-use Rattle.lists.proofs.TestLaws.{everyEntry, entries-le}
 
 module _ (t : WithdrawalTiers) (g : ℤ) (k : ℕ) where
   -- the tier at a place

@@ -7,16 +7,20 @@ use mathlib.Core.List.{List}
 use borrow.Author.Needs.{needs}
 use lib.Dec.{lit<}
 use lib.ListN.{length, getD}
+use Rattle.answers.specs.declared.Answer.{Answer}
+use Rattle.answers.specs.declared.Answer.the-variants.{SheetMissing}
+use Rattle.answers.specs.Verdict.{Verdict, refused}
+use Rattle.answers.specs.Answers.{numberOf, verdictOf}
+use Rattle.records.specs.Inner.Offsets.{offsetsBefore}
+use Rattle.records.specs.RecordVerdicts.{recordsVerdict}
+use Rattle.records.proofs.PassedLaws.{records-passed}
 use Rattle.filing.specs.declared.Reading.{Reading}
-use Rattle.filing.specs.declared.Answer.{Answer}
-use Rattle.filing.specs.declared.Answer.the-variants.{SheetMissing}
 use Rattle.filing.specs.Contents.{sheetOffset, contentsOf}
-use Rattle.filing.specs.Inner.Offsets.{offsetsBefore, contentsAt}
-use Rattle.filing.specs.Verdict.{Verdict, refused, contentsVerdict, firstFaulty, filingVerdict}
-use Rattle.filing.specs.Answers.{numberOf, verdictOf, recordsVerdict}
+use Rattle.filing.specs.Inner.ContentsAt.{contentsAt}
+use Rattle.filing.specs.Verdict.{contentsVerdict, filingVerdict}
 use Rattle.filing.specs.Readings.{emptyContents, readContents}
 use Rattle.filing.proofs.ContentsLaws.{sheet-noted, contents-noted}
-use Rattle.filing.proofs.ReadLaws.{filing-refused, records-passed, filing-no-yields, filing-no-rates, filing-contents, contents-refused, contents-accepted}
+use Rattle.filing.proofs.ReadLaws.{filing-refused, filing-no-yields, filing-no-rates, filing-contents, contents-refused, contents-accepted}
 use Rattle.filing.proofs.read.Statement.{statement}
 use Rattle.filing.proofs.read.Tie as tie
 
@@ -50,14 +54,14 @@ returns c =
     (call .ensures .0 ∙ filing-refused s (λ e. c .before .if1 .taken (records-number (c .before .before) ∙ e)))
     (λ e. c .before .if1 .taken (c .before .before .number .ensures ∙ e))
 
--- no record is faulty, so the offsets of all records are noted
-passed : (c : tie.Else1) → firstFaulty (c .before .before .before .before .args .filing .now) ≡ length (c .before .before .before .before .args .filing .now)
-passed c = records-passed _ (sym (records-number (c .before)) ∙ c .if1 .left)
+-- no record is refused, so none is faulty, and the offsets of all are noted
+none : (c : tie.Else1) → recordsVerdict (c .before .before .before .before .args .filing .now) .number ≡ 0
+none c = sym (records-number (c .before)) ∙ c .if1 .left
 
 noted : (c : tie.Else1)
     → c .before .before .scan .result .first
     ≡ offsetsBefore (c .before .before .before .before .args .filing .now) (length (c .before .before .before .before .args .filing .now))
-noted c = c .before .before .scan .ensures .1 ∙ ap (offsetsBefore (c .before .before .before .before .args .filing .now)) (passed c)
+noted c = c .before .before .scan .ensures .1 ∙ ap (offsetsBefore (c .before .before .before .before .args .filing .now)) (records-passed _ (none c))
 
 -- the offset that the code has for a kind of sheet
 sheet-is : (c : tie.Else1) (kind : ℕ) → kind < 4
@@ -76,7 +80,7 @@ returns-2 c =
     let s = c .before .before .before .before .before .before .before .args .filing .now in
     let records = c .before .before .before in
     refused-reading s (c .refusal2 .result) (SheetMissing (length s)) (c .refusal2 .ensures)
-    (filing-no-yields s (passed records) (omega (arith, c .before .if2 .taken, sheet-is records 2 (lit< tt)))) (λ e. omega arith)
+    (filing-no-yields s (none records) (omega (arith, c .before .if2 .taken, sheet-is records 2 (lit< tt)))) (λ e. omega arith)
 
 array-read-if3 : tie.Need-array-read-if3
 array-read-if3 c = search needs
@@ -90,7 +94,7 @@ returns-3 c =
     let s = c .before .before .before .before .before .before .before .before .args .filing .now in
     let records = c .before .before .before .before in
     refused-reading s (c .refusal3 .result) (SheetMissing (length s)) (c .refusal3 .ensures)
-    (filing-no-rates s (passed records) (omega (arith, c .before .before .if2 .left, sheet-is records 2 (lit< tt)))
+    (filing-no-rates s (none records) (omega (arith, c .before .before .if2 .left, sheet-is records 2 (lit< tt)))
     (omega (arith, c .before .if3 .taken, sheet-is records 3 (lit< tt)))) (λ e. omega arith)
 
 contents-at-requires : tie.Need-contents-at-requires
@@ -121,7 +125,7 @@ contents-verdict c =
     let records = c .before .before .before .before .before .before in
     c .check-contents .ensures
     ∙ ap contentsVerdict (contents-are (c .before))
-    ∙ filing-contents s (passed records) (omega (arith, c .before .before .before .before .if2 .left, sheet-is records 2 (lit< tt)))
+    ∙ filing-contents s (none records) (omega (arith, c .before .before .before .before .if2 .left, sheet-is records 2 (lit< tt)))
     (omega (arith, c .before .before .before .if3 .left, sheet-is records 3 (lit< tt)))
 
 returns-4 : tie.Need-returns-4

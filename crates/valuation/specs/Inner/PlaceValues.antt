@@ -11,10 +11,10 @@ use Rattle.shares.specs.SubBalances.{subBalanceCount}
 use Rattle.shares.specs.Places.{noPlace}
 use Rattle.withdrawal.specs.Tiers.{TierTable}
 use Rattle.pricing.specs.Rounding.{Rounding, down, up, quotient}
-use Rattle.valuation.specs.declared.Deposit.{Deposit}
-use Rattle.valuation.specs.declared.Bounds.{Bounds}
-use Rattle.valuation.specs.DepositTerms.{isBrokered, penaltyAt, rateAt}
-use Rattle.valuation.specs.Inner.Deposits.{listedPrice}
+use Rattle.deposits.specs.declared.Deposit.{Deposit}
+use Rattle.deposits.specs.declared.Bounds.{Bounds}
+use Rattle.deposits.specs.Inner.Prices.{listedPrice}
+use Rattle.valuation.specs.PlaceTerms.{isBrokered, penaltyAt, rateAt}
 
 -- contents of which only the cells and the retail rates are known
 abbrev pub filed : List ℕ → List ℕ → Contents

@@ -5,9 +5,9 @@ use native.Mathlib.Omega.{arith}
 use mathlib.Core.Path.{_≡_, ap, _∙_}
 use borrow.Author.Needs.{needs}
 use lib.ListN.{getD}
-use Rattle.filing.specs.Records.{recordValue}
-use Rattle.filing.specs.Inner.Offsets.{cellsAt}
 use Rattle.lists.proofs.FillLaws.{Filled, fill-none, fill-more}
+use Rattle.records.specs.Records.{recordValue}
+use Rattle.filing.specs.Inner.ContentsAt.{cellsAt}
 use Rattle.filing.proofs.ContentsLaws.{filled-from}
 use Rattle.filing.proofs.decode.cell_values.Statement.{statement}
 use Rattle.filing.proofs.decode.cell_values.Tie as tie

@@ -1,7 +1,7 @@
 -- `contents_at` meets its contract: each part is what its callee fills in.
 -- Assumes nothing.
 use borrow.Author.Needs.{needs}
-use Rattle.filing.specs.Inner.Offsets.{contentsAt}
+use Rattle.filing.specs.Inner.ContentsAt.{contentsAt}
 use Rattle.filing.proofs.ContentsLaws.{contents-eq}
 use Rattle.filing.proofs.decode.contents_at.Statement.{statement}
 use Rattle.filing.proofs.decode.contents_at.Tie as tie
@@ -16,7 +16,7 @@ slice-aggregate-fill-rates : tie.Need-slice-aggregate-fill-rates
 slice-aggregate-fill-rates c = search needs
 
 fill-rates-requires : tie.Need-fill-rates-requires
-fill-rates-requires c κs = search needs
+fill-rates-requires c κs = tt
 
 element-copy-out-fill-rates-2 : tie.Need-element-copy-out-fill-rates-2
 element-copy-out-fill-rates-2 c = search needs
@@ -25,7 +25,7 @@ slice-aggregate-fill-rates-2 : tie.Need-slice-aggregate-fill-rates-2
 slice-aggregate-fill-rates-2 c = search needs
 
 fill-rates-requires-2 : tie.Need-fill-rates-requires-2
-fill-rates-requires-2 c κs = search needs
+fill-rates-requires-2 c κs = tt
 
 returns : tie.Need-returns
 unfolding contentsAt

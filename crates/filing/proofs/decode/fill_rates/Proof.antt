@@ -5,8 +5,8 @@ use native.Mathlib.Nat.{add-comm}
 use native.Mathlib.Omega.{arith}
 use mathlib.Core.Path.{_≡_, refl, ap, _∙_}
 use lib.ListN.{length}
-use Rattle.filing.specs.Records.{recordRate}
 use Rattle.lists.proofs.FillLaws.{Filled, fill-more}
+use Rattle.records.specs.Records.{recordRate}
 use Rattle.filing.proofs.ContentsLaws.{filled-from}
 use Rattle.filing.proofs.decode.fill_rates.Statement.{statement}
 use Rattle.filing.proofs.decode.fill_rates.Tie as tie
@@ -24,7 +24,7 @@ add-record-rate : tie.Need-add-record-rate Inv-loop μ-loop
 add-record-rate c = omega arith
 
 record-rate-requires : tie.Need-record-rate-requires Inv-loop μ-loop
-record-rate-requires c κs = omega arith
+record-rate-requires c κs = tt
 
 mul-rates : tie.Need-mul-rates Inv-loop μ-loop
 mul-rates c = omega arith

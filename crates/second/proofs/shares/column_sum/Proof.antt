@@ -5,8 +5,8 @@ use Prim.Native.Nat.{_-_, _≤_, zero-le}
 use native.Mathlib.Omega.{arith}
 use mathlib.Core.Path.{_≡_, refl, sym, _∙_}
 use mathlib.Core.Logic.{⊎-elim}
-use Rattle.second.proofs.ShareLaws.{column-sum-suc, column-sum-other}
 use Rattle.second.specs.Shares.{columnSum}
+use Rattle.second.proofs.ShareLaws.{column-sum-suc, column-sum-other}
 use Rattle.second.proofs.shares.column_sum.Statement.{statement}
 use Rattle.second.proofs.shares.column_sum.Tie as tie
 

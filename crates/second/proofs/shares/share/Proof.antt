@@ -1,8 +1,8 @@
 -- `second::shares::share` meets its contract: each kind has its own part.
 -- Assumes nothing.
 use native.Mathlib.Omega.{arith}
-use Rattle.second.proofs.ShareLaws.{share-last}
 use Rattle.second.specs.Shares.{shareOf}
+use Rattle.second.proofs.ShareLaws.{share-last}
 use borrow.Author.Needs.{needs}
 use Rattle.second.proofs.shares.share.Statement.{statement}
 use Rattle.second.proofs.shares.share.Tie as tie

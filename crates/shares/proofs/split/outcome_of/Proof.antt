@@ -2,9 +2,10 @@
 use borrow.Author.Needs.{needs}
 use mathlib.Core.Path.{refl, sym, ap, _∙_}
 use native.Mathlib.Omega.{arith}
-use Rattle.filing.specs.Answers.{numberOf, verdictOf}
+use Rattle.answers.specs.Answers.{numberOf, verdictOf}
+use Rattle.filing.proofs.ReadingLaws.{reading-accepted}
 use Rattle.shares.specs.Places.{placesOf}
-use Rattle.shares.proofs.OutcomeLaws.{split-short, split-filing, outcome-refused, outcome-accepted, reading-accepted}
+use Rattle.shares.proofs.OutcomeLaws.{split-short, split-filing, outcome-refused, outcome-accepted}
 use Rattle.shares.proofs.split.outcome_of.Statement.{statement}
 use Rattle.shares.proofs.split.outcome_of.Tie as tie
 

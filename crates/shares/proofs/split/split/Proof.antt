@@ -40,14 +40,14 @@ use denote.Triple.Table.{entered, cited}
 use denote.Triple.Walked.{says, Stays, stay-none-slice, gave-slice, walkOf, goes-none-slice, goes-gave-slice, Walks, ends-at, walked, walk-meets}
 use denote.Exit.{yes}
 use denote.Signature.{plain}
+use Rattle.answers.proofs.Answer as N
+use Rattle.answers.proofs.Answer.Laws as N′
 use Rattle.shares.specs.Split.{OutcomeOf, SplitOf}
 use Rattle.shares.specs.declared.SubBalance.{SubBalance}
 use Rattle.shares.specs.declared.Outcome.{Outcome}
 use Rattle.shares.proofs.PlaceRows.{Place, Places, localType, places-of-field, places-makes}
 use Rattle.shares.proofs.Outcome as O
 use Rattle.shares.proofs.Outcome.Laws as O′
-use Rattle.filing.proofs.Answer as N
-use Rattle.filing.proofs.Answer.Laws as N′
 use Rattle.shares.proofs.split.outcome_of as outcome-of
 use Rattle.shares.proofs.split.outcome_of.Symbol as outcome-def
 use Rattle.shares.proofs.split.outcome_of.Symbol.{name as #shares·outcome-of}

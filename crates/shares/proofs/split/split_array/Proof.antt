@@ -45,12 +45,12 @@ use denote.Triple.Table.{entered, cited}
 use denote.Triple.Walked.{says, Stays, stay-none, stay-none-slice, walkOf, goes-none, goes-none-slice, Walks, ends-at, walked, walk-meets}
 use denote.Exit.{yes}
 use denote.Signature.{plain}
+use Rattle.answers.specs.declared.Answer.{Answer}
+use Rattle.answers.proofs.Answer as N
+use Rattle.answers.proofs.Answer.Laws as N′
 use Rattle.shares.specs.Split.{SplitOf}
 use Rattle.shares.specs.declared.SubBalance.{SubBalance}
-use Rattle.filing.specs.declared.Answer.{Answer}
 use Rattle.shares.specs.declared.SplitPlaces.{SplitPlaces}
-use Rattle.filing.proofs.Answer as N
-use Rattle.filing.proofs.Answer.Laws as N′
 use Rattle.shares.proofs.SplitPlaces as L
 use Rattle.shares.proofs.SplitPlaces.Laws as L′
 use Rattle.shares.proofs.PlaceRows.{Place, Places, localType, placesVals, places-tells, places-typed, places-makes, field-of-places, places-spelt}

@@ -5,7 +5,7 @@ use Rattle.valuation.specs.Numbers.{numberCount}
 -- `valuation::filing_numbers::value_contents` meets its contract. Assumes nothing.
 use mathlib.Core.Path.{_∙_, ap}
 use Rattle.pricing.specs.Rounding.{down, up}
-use Rattle.valuation.specs.DepositTerms.{filingTiers}
+use Rattle.valuation.specs.PlaceTerms.{filingTiers}
 use Rattle.valuation.proofs.PlaceValueLaws.{values-within, numbers-are}
 use borrow.Author.Needs.{needs}
 use Rattle.valuation.proofs.filing_numbers.value_contents.Statement.{statement}

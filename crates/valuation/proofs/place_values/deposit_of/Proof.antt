@@ -1,6 +1,6 @@
 -- `valuation::place_values::deposit_of` meets its contract. Assumes nothing.
 use Rattle.filing.specs.Contents.{cell, retailRate}
-use Rattle.valuation.specs.DepositTerms.{isBrokered, penaltyAt, rateAt}
+use Rattle.valuation.specs.PlaceTerms.{isBrokered, penaltyAt, rateAt}
 use Rattle.valuation.specs.Inner.PlaceValues.{depositFrom}
 use borrow.Author.Needs.{needs}
 use Rattle.valuation.proofs.place_values.deposit_of.Statement.{statement}

@@ -6,7 +6,7 @@ use Rattle.schedule.specs.Cells.{penaltyMonthsCell}
 use Rattle.filing.specs.Contents.{cell}
 use Rattle.shares.specs.SubBalances.{positionOf}
 use Rattle.shares.proofs.SubBalanceLaws.{column-range}
-use Rattle.valuation.specs.DepositTerms.{penaltyAt}
+use Rattle.valuation.specs.PlaceTerms.{penaltyAt}
 use borrow.Author.Needs.{needs}
 use Rattle.valuation.proofs.place_values.penalty_of.Statement.{statement}
 use Rattle.valuation.proofs.place_values.penalty_of.Tie as tie

@@ -4,7 +4,7 @@ use native.Mathlib.Omega.{arith}
 use Rattle.filing.specs.Contents.{retailRate}
 use Rattle.shares.specs.SubBalances.{positionOf}
 use Rattle.shares.proofs.SubBalanceLaws.{column-range}
-use Rattle.valuation.specs.DepositTerms.{rateAt}
+use Rattle.valuation.specs.PlaceTerms.{rateAt}
 use borrow.Author.Needs.{needs}
 use Rattle.valuation.proofs.place_values.rate_of.Statement.{statement}
 use Rattle.valuation.proofs.place_values.rate_of.Tie as tie

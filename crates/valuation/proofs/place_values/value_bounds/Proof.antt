@@ -1,12 +1,11 @@
 use Prim.Native.Nat.{_^_}
 use lib.Dec.{lit<}
-use Rattle.pricing.specs.Rounding.{down, up}
-use Rattle.pricing.proofs.RoundingLaws.{quotient-zero}
 use Rattle.withdrawal.specs.Inner.TierArrays.{tierTable}
-use Rattle.valuation.proofs.PriceLaws.{listed-price-limit}
+use Rattle.pricing.specs.Rounding.{down, up, roundingOf}
+use Rattle.pricing.proofs.RoundingLaws.{quotient-zero}
+use Rattle.deposits.proofs.PriceLaws.{listed-price-limit}
 -- `valuation::place_values::value_bounds` meets its contract. Assumes nothing.
-use Rattle.pricing.specs.Rounding.{roundingOf}
-use Rattle.valuation.specs.Inner.Deposits.{listedPrices}
+use Rattle.deposits.specs.Inner.Prices.{listedPrices}
 use Rattle.valuation.specs.Inner.PlaceValues.{listedValue, listedValues}
 use borrow.Author.Needs.{needs}
 use Rattle.valuation.proofs.place_values.value_bounds.Statement.{statement}

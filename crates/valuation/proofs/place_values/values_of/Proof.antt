@@ -10,11 +10,11 @@ use Rattle.shares.specs.Places.{placeAt, noPlace}
 use Rattle.shares.proofs.SubBalanceLaws.{balanceAt-limit}
 use Rattle.withdrawal.specs.Inner.TierArrays.{tierTable}
 use Rattle.pricing.specs.Rounding.{down, up, roundingOf}
+use Rattle.deposits.specs.Inner.Factors.{factorsBy}
 use Rattle.valuation.specs.Run.{valueAt}
-use Rattle.valuation.specs.Inner.Factors.{factorsBy}
 use Rattle.valuation.specs.Inner.Listed.{valuesBy}
 use Rattle.valuation.specs.Inner.PlaceValues.{longestTerm}
-use Rattle.valuation.proofs.TermsLaws.{deposit-is, deposit-limits}
+use Rattle.valuation.proofs.PlaceTermsLaws.{deposit-is, deposit-limits}
 use Rattle.valuation.proofs.PlaceValueLaws.{yields-within, place-is, factors-at-most-par, values-are}
 use Rattle.valuation.proofs.place_values.values_of.Statement.{statement}
 use Rattle.valuation.proofs.place_values.values_of.Tie as tie

@@ -5,9 +5,9 @@ use mathlib.Core.Path.{refl}
 use native.Mathlib.Nat.{lt-of-lt-of-le}
 use lib.ListN.{getD}
 use borrow.Author.Needs.{needs}
+use Rattle.lists.proofs.FillLaws.{Filled, fill-none, fill-more}
 use Rattle.withdrawal.specs.Survival.{survival}
 use Rattle.withdrawal.specs.Inner.TierArrays.{tierTable}
-use Rattle.lists.proofs.FillLaws.{Filled, fill-none, fill-more}
 use Rattle.withdrawal.proofs.tiers.with_survivals.Statement.{statement}
 use Rattle.withdrawal.proofs.tiers.with_survivals.Tie as tie
 

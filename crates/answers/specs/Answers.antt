@@ -1,0 +1,37 @@
+-- The answers of the code as verdicts of the paper's table (01:28-39): each case's number and place. Definitions only.
+use Prim.Native.Nat.{ℕ}
+use Rattle.answers.specs.declared.Answer.{Answer}
+use Rattle.answers.specs.declared.Answer.the-variants.{Accepted, RecordIncomplete, RecordMisshapen, CellUnlisted, Repeated, OverLimit, SheetMissing, MonthsOutsideRow, AboveColumnSum, TotalDiffers, ListTooShort}
+use Rattle.answers.specs.Verdict.{Verdict}
+
+-- the number of an answer
+abbrev pub numberOf : Answer → ℕ
+numberOf Accepted = 0
+numberOf (RecordIncomplete offset) = 1
+numberOf (RecordMisshapen offset) = 2
+numberOf (CellUnlisted offset) = 3
+numberOf (Repeated offset) = 4
+numberOf (OverLimit offset) = 5
+numberOf (SheetMissing size) = 6
+numberOf (MonthsOutsideRow cell) = 7
+numberOf (AboveColumnSum cell) = 8
+numberOf (TotalDiffers cell) = 9
+numberOf (ListTooShort size) = 10
+
+-- the place of an answer
+abbrev pub placeOf : Answer → ℕ
+placeOf Accepted = 0
+placeOf (RecordIncomplete offset) = offset
+placeOf (RecordMisshapen offset) = offset
+placeOf (CellUnlisted offset) = offset
+placeOf (Repeated offset) = offset
+placeOf (OverLimit offset) = offset
+placeOf (SheetMissing size) = size
+placeOf (MonthsOutsideRow cell) = cell
+placeOf (AboveColumnSum cell) = cell
+placeOf (TotalDiffers cell) = cell
+placeOf (ListTooShort size) = size
+
+-- the verdict that an answer stands for
+unfoldable pub verdictOf : Answer → Verdict
+verdictOf a = record { number = numberOf a; place = placeOf a }

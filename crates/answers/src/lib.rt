@@ -1,0 +1,71 @@
+// The answers on a filing, and the paper's number and place of each.
+ghost use mathlib.Core.Path.{_≡_};
+ghost use Rattle.answers.specs.Verdict.{firstRefusal};
+ghost use Rattle.answers.specs.Answers.{numberOf, placeOf, verdictOf};
+
+// The answer on a filing: acceptance, or the first refusal and its place.
+pub enum Answer {
+    Accepted,
+    // At the record's offset.
+    RecordIncomplete(usize),
+    RecordMisshapen(usize),
+    CellUnlisted(usize),
+    Repeated(usize),
+    OverLimit(usize),
+    // At the input's length.
+    SheetMissing(usize),
+    // At the cell.
+    MonthsOutsideRow(usize),
+    AboveColumnSum(usize),
+    TotalDiffers(usize),
+    // At the list's length.
+    ListTooShort(usize),
+}
+
+// The number of a refusal, 0 for acceptance.
+pub fn number(answer: Answer) -> u64
+    ensures { λ r. ⌜ r ≡ numberOf answer ⌝ }
+{
+    match answer {
+        Answer::Accepted => 0,
+        Answer::RecordIncomplete(_) => 1,
+        Answer::RecordMisshapen(_) => 2,
+        Answer::CellUnlisted(_) => 3,
+        Answer::Repeated(_) => 4,
+        Answer::OverLimit(_) => 5,
+        Answer::SheetMissing(_) => 6,
+        Answer::MonthsOutsideRow(_) => 7,
+        Answer::AboveColumnSum(_) => 8,
+        Answer::TotalDiffers(_) => 9,
+        Answer::ListTooShort(_) => 10,
+    }
+}
+
+// The place of a refusal, 0 for acceptance.
+pub fn place(answer: Answer) -> usize
+    ensures { λ r. ⌜ r ≡ placeOf answer ⌝ }
+{
+    match answer {
+        Answer::Accepted => 0,
+        Answer::RecordIncomplete(at) => at,
+        Answer::RecordMisshapen(at) => at,
+        Answer::CellUnlisted(at) => at,
+        Answer::Repeated(at) => at,
+        Answer::OverLimit(at) => at,
+        Answer::SheetMissing(size) => size,
+        Answer::MonthsOutsideRow(cell) => cell,
+        Answer::AboveColumnSum(cell) => cell,
+        Answer::TotalDiffers(cell) => cell,
+        Answer::ListTooShort(size) => size,
+    }
+}
+
+// The first refusal of two answers, in their order.
+pub fn first_refusal(first: Answer, next: Answer) -> Answer
+    ensures { λ r. ⌜ verdictOf r ≡ firstRefusal (verdictOf first) (verdictOf next) ⌝ }
+{
+    if number(first) != 0 {
+        return first;
+    }
+    next
+}

@@ -1,0 +1,3 @@
+pub mod TermsLaws
+pub mod FactorLaws
+pub mod PriceLaws

@@ -1,0 +1,40 @@
+-- `month_factors` meets its contract. Assumes nothing.
+use native.Mathlib.Numerals.{add-one}
+use Rattle.deposits.proofs.FactorLaws.{shifted-rates-at-most, month-past, month-within}
+use borrow.Author.Needs.{needs}
+use Rattle.deposits.proofs.factors.month_factors.Statement.{statement}
+use Rattle.deposits.proofs.factors.month_factors.Tie as tie
+
+returns : tie.Need-returns
+returns c = month-past _ _ _ _ (c .if1 .taken)
+
+mul-shifted-rates : tie.Need-mul-shifted-rates
+mul-shifted-rates c = search needs
+
+element-copy-out-shifted-rates : tie.Need-element-copy-out-shifted-rates
+element-copy-out-shifted-rates c = search needs
+
+shifted-rates-requires : tie.Need-shifted-rates-requires
+shifted-rates-requires c κs = search needs
+
+add-discount-factors : tie.Need-add-discount-factors
+add-discount-factors c = search needs
+
+discount-factors-requires : tie.Need-discount-factors-requires
+discount-factors-requires c κs = rw (c .before .shifted-rates .ensures) (shifted-rates-at-most _ (c .before .before .before .before .pre .0 _))
+
+returns-2 : tie.Need-returns-2
+returns-2 c =
+    rw (c .discount-factors .ensures, c .before .before .shifted-rates .ensures, add-one) (month-within _ _ _ _ (c .before .before .before .before .if1 .left))
+
+pub month-factors-spec : {M : Type 1} → statement M
+month-factors-spec =
+    tie.close
+    (tie.spec
+    returns
+    mul-shifted-rates
+    element-copy-out-shifted-rates
+    shifted-rates-requires
+    add-discount-factors
+    discount-factors-requires
+    returns-2)

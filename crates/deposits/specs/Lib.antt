@@ -1,0 +1,2 @@
+pub mod DepositTerms
+pub mod Inner

@@ -1,0 +1,192 @@
+-- Closed cases of what a filing says and of the verdict on it, so that a wrong clause of a definition breaks a case: the small examples of the table
+-- (01:28-39), the shortest inputs, each limit and the number after it, the order of the tests, and accepted filings. Each is computed.
+-- Assumes nothing.
+use Prim.Native.Nat.{ℕ, zero, suc, _+_, _-_, _*_, _^_, _%_, _/_}
+use mathlib.Core.Path.{_≡_, refl}
+use mathlib.Core.List.{List, [], _∷_, _++_, map}
+use Rattle.lists.specs.Sums.{sum}
+use Rattle.lists.specs.Tables.{tableFrom, those, contains, joined}
+use Rattle.schedule.specs.Cells.{position, positions, inColumn, withinRow, brokeredCell, penaltyBalanceCell, penaltyMonthsCell, unusedCells}
+use Rattle.schedule.specs.Limits.{cellClass, classLimit}
+use Rattle.answers.specs.Verdict.{Verdict, accepted, refused, refusedIf, firstRefusal, firstOf, listVerdict}
+use Rattle.records.specs.Bytes.{numberAt}
+use Rattle.records.specs.Records.{recordLength, recordKind, recordCell, recordValue, recordRate, nextRecord, searchRecords, firstRecord, cellKey, kindKey, recordKey, firstWithKey}
+use Rattle.records.specs.Faults.{incomplete, kindLength, misshapen, unlisted, repeated, rateOver, sheetRates, overLimit, faultNumber}
+use Rattle.records.specs.RecordVerdicts.{firstFaulty, recordVerdict, recordsVerdict}
+use Rattle.filing.specs.declared.Contents.{Contents}
+use Rattle.filing.specs.Contents.{cellOffset, cellValue, sheetOffset, contentsOf, cell, cdYield, retailRate}
+use Rattle.filing.specs.Conditions.{sheetMissing, monthsOutside, columnBalances, balances, aboveColumn, totalDiffers}
+use Rattle.filing.specs.Verdict.{sheetVerdict, positionVerdict, monthsVerdict, columnVerdict, columnsVerdict, totalVerdict, contentsVerdict, filingVerdict}
+
+-- n bytes of a number, the least first
+abbrev bytes : ℕ → ℕ → List ℕ
+bytes zero x = []
+bytes (suc n) x = (x % 256) ∷ bytes n (x / 256)
+
+-- the records of cells, each with its value
+abbrev filed : List (ℕ × ℕ) → List ℕ
+filed [] = []
+filed (c ∷ cs) = bytes 2 12 ++ bytes 2 1 ++ bytes 2 (c .0) ++ bytes 8 (c .1) ++ filed cs
+
+-- the sheets, with the rate of a month and of a column
+abbrev yieldSheet : (ℕ → ℕ) → List ℕ
+yieldSheet rate = bytes 2 242 ++ bytes 2 2 ++ joined (tableFrom 1 120 (λ (t : ℕ). bytes 2 (rate t)))
+
+abbrev rateSheet : (ℕ → ℕ) → List ℕ
+rateSheet rate = bytes 2 8 ++ bytes 2 3 ++ joined (tableFrom 1 3 (λ (j : ℕ). bytes 2 (rate j)))
+
+-- a filing of cells with both sheets, which take 254 bytes
+abbrev complete : List (ℕ × ℕ) → List ℕ
+complete cells = yieldSheet (λ (t : ℕ). 10 * t) ++ rateSheet (λ (j : ℕ). 100 * j) ++ filed cells
+
+-- a filing and the verdict on it
+record Case : Type 0 where
+  input : List ℕ
+  verdict : Verdict
+
+abbrev gives : List ℕ → Verdict → Case
+gives s v = record { input = s; verdict = v }
+
+-- 1 and 2: the shortest inputs, a length below 2, a record that runs past the end, and a length that is not the kind's
+abbrev shape-cases : List Case
+shape-cases =
+    gives [] (refused 6 0)
+    ∷ gives (5 ∷ []) (refused 1 0)
+    ∷ gives (12 ∷ 0 ∷ []) (refused 1 0)
+    ∷ gives (0 ∷ 0 ∷ []) (refused 1 0)
+    ∷ gives (1 ∷ 0 ∷ 9 ∷ []) (refused 1 0)
+    ∷ gives ((1 ∷ 0 ∷ 9 ∷ []) ++ filed ((601, 0) ∷ [])) (refused 1 0)
+    ∷ gives (2 ∷ 0 ∷ 9 ∷ []) (refused 1 0)
+    ∷ gives (2 ∷ 0 ∷ 9 ∷ 0 ∷ []) (refused 2 0)
+    ∷ gives (3 ∷ 0 ∷ 9 ∷ 0 ∷ []) (refused 1 0)
+    ∷ gives (2 ∷ 0 ∷ 0 ∷ 0 ∷ []) (refused 2 0)
+    ∷ gives (bytes 2 12 ++ bytes 2 1 ++ bytes 9 601) (refused 1 0)
+    ∷ gives (bytes 2 11 ++ bytes 2 1 ++ bytes 9 601) (refused 2 0)
+    ∷ gives (bytes 2 13 ++ bytes 2 1 ++ bytes 11 601) (refused 2 0)
+    ∷ gives (bytes 2 8 ++ bytes 2 2 ++ bytes 6 0) (refused 2 0)
+    ∷ gives (bytes 2 12 ++ bytes 2 3 ++ bytes 10 0) (refused 2 0)
+    ∷ gives (bytes 2 8 ++ bytes 2 4 ++ bytes 6 0) (refused 2 0)
+    ∷ gives (filed ((601, 0) ∷ []) ++ (5 ∷ [])) (refused 1 14)
+    ∷ []
+
+-- 3 to 5: a cell that is not listed, a cell twice, a value at its limit and one over; a filing that passes lacks its sheets, a 6
+abbrev cell-cases : List Case
+cell-cases =
+    gives (filed ((600, 0) ∷ [])) (refused 3 0)
+    ∷ gives (filed ((600, 2 ^ 64 - 1) ∷ [])) (refused 3 0)
+    ∷ gives (filed ((600, 0) ∷ (600, 0) ∷ [])) (refused 3 0)
+    ∷ gives (filed ((611, 0) ∷ [])) (refused 3 0)
+    ∷ gives (filed ((662, 0) ∷ [])) (refused 3 0)
+    ∷ gives (filed ((601, 0) ∷ (601, 0) ∷ [])) (refused 4 14)
+    ∷ gives (filed ((604, 0) ∷ (604, 0) ∷ [])) (refused 4 14)
+    ∷ gives (filed ((601, 0) ∷ (605, 0) ∷ (601, 1000000000) ∷ [])) (refused 4 28)
+    ∷ gives (filed ((601, 1000000000) ∷ (600, 0) ∷ [])) (refused 5 0)
+    ∷ gives (filed ((601, 999999999) ∷ [])) (refused 6 14)
+    ∷ gives (filed ((601, 1000000000) ∷ [])) (refused 5 0)
+    ∷ gives (filed ((641, 999999999) ∷ [])) (refused 6 14)
+    ∷ gives (filed ((641, 1000000000) ∷ [])) (refused 5 0)
+    ∷ gives (filed ((605, 1500) ∷ [])) (refused 6 14)
+    ∷ gives (filed ((605, 1501) ∷ [])) (refused 5 0)
+    ∷ gives (filed ((643, 1500) ∷ [])) (refused 6 14)
+    ∷ gives (filed ((643, 1501) ∷ [])) (refused 5 0)
+    ∷ gives (filed ((608, 120) ∷ [])) (refused 6 14)
+    ∷ gives (filed ((608, 121) ∷ [])) (refused 5 0)
+    ∷ gives (filed ((644, 120) ∷ [])) (refused 6 14)
+    ∷ gives (filed ((644, 121) ∷ [])) (refused 5 0)
+    ∷ gives (filed ((650, 3999999996) ∷ [])) (refused 6 14)
+    ∷ gives (filed ((650, 3999999997) ∷ [])) (refused 5 0)
+    ∷ gives (filed ((655, 3999999996) ∷ [])) (refused 6 14)
+    ∷ gives (filed ((655, 3999999997) ∷ [])) (refused 5 0)
+    ∷ gives (filed ((656, 3600) ∷ [])) (refused 6 14)
+    ∷ gives (filed ((656, 3601) ∷ [])) (refused 5 0)
+    ∷ gives (filed ((658, 3600) ∷ [])) (refused 6 14)
+    ∷ gives (filed ((658, 3601) ∷ [])) (refused 5 0)
+    ∷ gives (filed ((645, 8999999991) ∷ [])) (refused 6 14)
+    ∷ gives (filed ((645, 8999999992) ∷ [])) (refused 5 0)
+    ∷ gives (filed ((604, 2 ^ 64 - 1) ∷ [])) (refused 6 14)
+    ∷ gives (filed ((661, 2 ^ 64 - 1) ∷ [])) (refused 6 14)
+    ∷ []
+
+-- 4 to 6 at the sheets: each rate at its limit and one over, a sheet twice, a sheet missing
+abbrev sheet-cases : List Case
+sheet-cases =
+    gives (yieldSheet (λ (t : ℕ). 2500)) (refused 6 244)
+    ∷ gives (yieldSheet (λ (t : ℕ). 2380 + t)) (refused 6 244)
+    ∷ gives (yieldSheet (λ (t : ℕ). 2381 + t)) (refused 5 0)
+    ∷ gives (yieldSheet (λ (t : ℕ). 2502 - t)) (refused 5 0)
+    ∷ gives (rateSheet (λ (j : ℕ). 2500)) (refused 6 10)
+    ∷ gives (rateSheet (λ (j : ℕ). 2498 + j)) (refused 5 0)
+    ∷ gives (rateSheet (λ (j : ℕ). 2502 - j)) (refused 5 0)
+    ∷ gives (yieldSheet (λ (t : ℕ). 0) ++ yieldSheet (λ (t : ℕ). 2501)) (refused 4 244)
+    ∷ gives (rateSheet (λ (j : ℕ). 0) ++ rateSheet (λ (j : ℕ). 0)) (refused 4 10)
+    ∷ []
+
+-- 7: a balance that is not zero with its months at the ends of its row and beyond them, and without months; the first WARM cell answers
+abbrev months-cases : List Case
+months-cases =
+    gives (complete ((615, 10) ∷ (622, 3) ∷ [])) (refused 7 622)
+    ∷ gives (complete ((615, 10) ∷ (622, 4) ∷ [])) (refused 9 645)
+    ∷ gives (complete ((615, 10) ∷ (622, 12) ∷ [])) (refused 9 645)
+    ∷ gives (complete ((615, 10) ∷ (622, 13) ∷ [])) (refused 7 622)
+    ∷ gives (complete ((601, 10) ∷ (608, 0) ∷ [])) (refused 7 608)
+    ∷ gives (complete ((601, 10) ∷ (608, 1) ∷ [])) (refused 9 645)
+    ∷ gives (complete ((601, 10) ∷ (608, 3) ∷ [])) (refused 9 645)
+    ∷ gives (complete ((601, 10) ∷ (608, 4) ∷ [])) (refused 7 608)
+    ∷ gives (complete ((631, 10) ∷ (636, 12) ∷ [])) (refused 7 636)
+    ∷ gives (complete ((631, 10) ∷ (636, 13) ∷ [])) (refused 9 645)
+    ∷ gives (complete ((631, 10) ∷ (636, 36) ∷ [])) (refused 9 645)
+    ∷ gives (complete ((631, 10) ∷ (636, 37) ∷ [])) (refused 7 636)
+    ∷ gives (complete ((641, 10) ∷ (644, 36) ∷ [])) (refused 7 644)
+    ∷ gives (complete ((641, 10) ∷ (644, 37) ∷ [])) (refused 9 645)
+    ∷ gives (complete ((641, 10) ∷ (644, 120) ∷ [])) (refused 9 645)
+    ∷ gives (complete ((632, 10) ∷ (603, 10) ∷ [])) (refused 7 610)
+    ∷ gives (complete ((601, 10) ∷ (650, 11) ∷ [])) (refused 7 608)
+    ∷ gives (complete ((622, 3) ∷ [])) accepted
+    ∷ []
+
+-- 8: a column's brokered and penalty balance at the column's sum and above it; the first cell answers
+abbrev column-cases : List Case
+column-cases =
+    gives (complete ((601, 10) ∷ (608, 1) ∷ (650, 11) ∷ [])) (refused 8 650)
+    ∷ gives (complete ((601, 10) ∷ (608, 1) ∷ (650, 10) ∷ [])) (refused 9 645)
+    ∷ gives (complete ((601, 10) ∷ (608, 1) ∷ (653, 11) ∷ [])) (refused 8 653)
+    ∷ gives (complete ((601, 10) ∷ (608, 1) ∷ (653, 11) ∷ (651, 1) ∷ [])) (refused 8 651)
+    ∷ gives (complete ((602, 10) ∷ (609, 1) ∷ (616, 20) ∷ (623, 4) ∷ (631, 30) ∷ (636, 13) ∷ (651, 61) ∷ [])) (refused 8 651)
+    ∷ gives (complete ((602, 10) ∷ (609, 1) ∷ (616, 20) ∷ (623, 4) ∷ (631, 30) ∷ (636, 13) ∷ (651, 60) ∷ (654, 60) ∷ [])) (refused 9 645)
+    ∷ gives (complete ((603, 10) ∷ (610, 1) ∷ (617, 20) ∷ (624, 4) ∷ (632, 30) ∷ (637, 13) ∷ (641, 40) ∷ (644, 37) ∷ (655, 101) ∷ [])) (refused 8 655)
+    ∷ []
+
+-- 9 and acceptance: the total, without a WAC, with cells in any order, and with the cells that are not used
+abbrev total-cases : List Case
+total-cases =
+    gives (complete ((601, 10) ∷ (608, 1) ∷ [])) (refused 9 645)
+    ∷ gives (complete ((601, 10) ∷ (608, 1) ∷ (645, 11) ∷ [])) (refused 9 645)
+    ∷ gives (complete ((601, 10) ∷ (608, 1) ∷ (645, 10) ∷ [])) accepted
+    ∷ gives (complete []) accepted
+    ∷ gives (complete ((645, 1) ∷ [])) (refused 9 645)
+    ∷ gives (complete ((656, 3600) ∷ (604, 7) ∷ (661, 2 ^ 64 - 1) ∷ [])) accepted
+    ∷ gives (filed ((645, 60) ∷ []) ++ rateSheet (λ (j : ℕ). 0) ++ filed ((636, 13) ∷ (631, 30) ∷ (623, 4) ∷ (616, 20) ∷ []) ++ yieldSheet (λ (t : ℕ). 0) ++ filed ((609, 1) ∷ (602, 10) ∷ [])) accepted
+    ∷ []
+
+abbrev cases : List Case
+cases = shape-cases ++ cell-cases ++ sheet-cases ++ months-cases ++ column-cases ++ total-cases
+
+-- every case holds
+verdicts-hold : map (λ (c : Case). filingVerdict (c .input)) cases ≡ map (λ (c : Case). c .verdict) cases
+unfolding numberAt recordLength recordKind recordCell recordValue recordRate nextRecord searchRecords firstRecord cellKey kindKey recordKey firstWithKey incomplete kindLength misshapen unlisted repeated rateOver sheetRates overLimit faultNumber cellClass classLimit contains position positions brokeredCell penaltyBalanceCell penaltyMonthsCell unusedCells firstFaulty sheetOffset sheetMissing filingVerdict refused cellOffset cellValue contentsOf cell monthsOutside columnBalances balances aboveColumn totalDiffers sum those inColumn withinRow sheetVerdict positionVerdict monthsVerdict columnVerdict columnsVerdict totalVerdict contentsVerdict recordVerdict recordsVerdict accepted refusedIf firstRefusal firstOf tableFrom joined
+verdicts-hold = refl
+
+-- what a filing says: cells that are present and absent, the ends of the yields and of the rates, and reads beyond them
+abbrev sample : Contents
+sample = contentsOf (complete ((601, 10) ∷ (661, 20) ∷ []))
+
+contents-hold :
+    cell sample 601 ∷ cell sample 602 ∷ cell sample 661 ∷ cdYield sample 1 ∷ cdYield sample 120 ∷ cdYield sample 121 ∷ retailRate sample 1 ∷ retailRate sample 3 ∷ []
+    ≡ 10 ∷ 0 ∷ 20 ∷ 10 ∷ 1200 ∷ 0 ∷ 100 ∷ 300 ∷ []
+unfolding numberAt recordLength recordKind recordCell recordValue recordRate nextRecord searchRecords firstRecord cellKey kindKey recordKey firstWithKey cellOffset cellValue sheetOffset contentsOf cell cdYield retailRate tableFrom joined
+contents-hold = refl
+
+-- 10 comes before the verdict on the filing, at the list's length
+lists-hold : firstRefusal (listVerdict 568 567) (refused 1 0) ∷ firstRefusal (listVerdict 568 568) (refused 1 0) ∷ [] ≡ refused 10 567 ∷ refused 1 0 ∷ []
+unfolding listVerdict refusedIf firstRefusal refused accepted
+lists-hold = refl

@@ -1,0 +1,13 @@
+pub mod ByteLaws
+pub mod RecordLaws
+pub mod StepLaws
+pub mod RateLaws
+pub mod FaultLaws
+pub mod RecordVerdictLaws
+pub mod ScanLaws
+pub mod OffsetLaws
+pub mod ScanStateLaws
+pub mod PassedLaws
+pub mod VisitLaws
+pub mod WalkLaws
+pub mod ReaderLaws

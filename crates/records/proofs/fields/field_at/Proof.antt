@@ -1,0 +1,34 @@
+-- `field_at` meets its contract: a number that starts past the end is 0.
+-- Assumes nothing.
+use borrow.Author.Needs.{needs}
+use native.Mathlib.Omega.{arith}
+use mathlib.Core.Path.{sym}
+use Prim.Native.Nat.{_+_}
+use Rattle.records.proofs.ByteLaws.{number-past}
+use Rattle.records.proofs.fields.field_at.Statement.{statement}
+use Rattle.records.proofs.fields.field_at.Tie as tie
+
+returns : tie.Need-returns
+returns c =
+    let a = c .before .before .args in
+    sym (number-past (a .s .now) (a .at + a .skip) (a .width) (omega arith))
+
+sub-if2 : tie.Need-sub-if2
+sub-if2 c = search needs
+
+returns-2 : tie.Need-returns-2
+returns-2 c =
+    let a = c .before .before .before .args in
+    sym (number-past (a .s .now) (a .at + a .skip) (a .width) (omega arith))
+
+add-number-at : tie.Need-add-number-at
+add-number-at c = search needs
+
+number-at-requires : tie.Need-number-at-requires
+number-at-requires c κs = search needs
+
+returns-3 : tie.Need-returns-3
+returns-3 c = search needs
+
+pub field-at-spec : {M : Type 1} → statement M
+field-at-spec = tie.close (tie.spec returns sub-if2 returns-2 add-number-at number-at-requires returns-3)

@@ -1,0 +1,5 @@
+pub mod Bytes
+pub mod Records
+pub mod Faults
+pub mod RecordVerdicts
+pub mod Inner

@@ -1,0 +1,47 @@
+-- The deposit at each place of a filing in each scenario, with its terms (01:48-55, 01:59), from what the filing says. Definitions only.
+use Prim.Native.Nat.{ℕ, _%_}
+use mathlib.Core.Bool.{Bool, cond}
+use lib.Dec.{leb, eqb}
+use Rattle.schedule.specs.Cells.{penaltyMonthsCell}
+use Rattle.schedule.specs.Shift.{shiftedRate}
+use Rattle.filing.specs.declared.Contents.{Contents}
+use Rattle.filing.specs.Contents.{cell, cdYield, retailRate}
+use Rattle.shares.specs.SubBalances.{positionOf, couponAt, monthsAt}
+use Rattle.withdrawal.specs.Tiers.{TierTable, houseTiers}
+use Rattle.pricing.specs.Terms.{Terms}
+use Rattle.deposits.specs.DepositTerms.{termsOf}
+use Rattle.deposits.specs.declared.Deposit.{Deposit}
+
+-- the places of each four: retail with and without penalty, then brokered with and without (01:45)
+unfoldable pub isBrokered : ℕ → Bool
+isBrokered place = leb 2 (place % 4)
+
+-- the penalty of a place, hundredths of a month: its column's, or 0 where the place is without penalty (01:49)
+unfoldable pub penaltyAt : Contents → ℕ → ℕ
+penaltyAt k place = cond (eqb (place % 2) 0) (cell k (penaltyMonthsCell (positionOf place .column))) 0
+
+-- the shifted retail rate of a place's column, hundredths of a percent a year
+unfoldable pub rateAt : Contents → ℕ → ℕ → ℕ
+rateAt k scenario place = shiftedRate scenario (retailRate k (positionOf place .column))
+
+-- the deposit at a place, 0 to 35, in a scenario, 0 to 6
+unfoldable pub depositAt : Contents → ℕ → ℕ → Deposit
+depositAt k scenario place =
+    record {
+      brokered = isBrokered place;
+      coupon = couponAt k place;
+      penalty = penaltyAt k place;
+      rate = rateAt k scenario place;
+      months = monthsAt k place;
+    }
+
+-- the tiers of a filing: the house's
+unfoldable pub filingTiers : Contents → TierTable
+filingTiers k = houseTiers
+
+unfoldable pub termsAt : Contents → ℕ → ℕ → Terms
+termsAt k scenario place = termsOf (filingTiers k) (depositAt k scenario place)
+
+-- the CD yield of a month in a scenario, hundredths of a percent a year
+unfoldable pub monthYield : Contents → ℕ → ℕ → ℕ
+monthYield k scenario month = shiftedRate scenario (cdYield k month)
