@@ -11,7 +11,7 @@ use Rattle.schedule.specs.Limits.{cellClass, classLimit}
 use Rattle.answers.specs.Verdict.{Verdict, accepted, refused, refusedIf, firstRefusal, firstOf, listVerdict}
 use Rattle.records.specs.Bytes.{numberAt}
 use Rattle.records.specs.Records.{recordLength, recordKind, recordCell, recordValue, recordRate, nextRecord, searchRecords, firstRecord, cellKey, kindKey, recordKey, firstWithKey}
-use Rattle.records.specs.Faults.{incomplete, kindLength, misshapen, unlisted, repeated, rateOver, sheetRates, overLimit, faultNumber}
+use Rattle.records.specs.Faults.{incomplete, kindLength, misshapen, unlisted, repeated, rateOver, sheetRates, overLimit}
 use Rattle.records.specs.RecordVerdicts.{firstFaulty, recordVerdict, recordsVerdict}
 use Rattle.filing.specs.declared.Contents.{Contents}
 use Rattle.filing.specs.Contents.{cellOffset, cellValue, sheetOffset, contentsOf, cell, cdYield, retailRate}
@@ -173,7 +173,7 @@ cases = shape-cases ++ cell-cases ++ sheet-cases ++ months-cases ++ column-cases
 
 -- every case holds
 verdicts-hold : map (λ (c : Case). filingVerdict (c .input)) cases ≡ map (λ (c : Case). c .verdict) cases
-unfolding numberAt recordLength recordKind recordCell recordValue recordRate nextRecord searchRecords firstRecord cellKey kindKey recordKey firstWithKey incomplete kindLength misshapen unlisted repeated rateOver sheetRates overLimit faultNumber cellClass classLimit contains position positions brokeredCell penaltyBalanceCell penaltyMonthsCell unusedCells firstFaulty sheetOffset sheetMissing filingVerdict refused cellOffset cellValue contentsOf cell monthsOutside columnBalances balances aboveColumn totalDiffers sum those inColumn withinRow sheetVerdict positionVerdict monthsVerdict columnVerdict columnsVerdict totalVerdict contentsVerdict recordVerdict recordsVerdict accepted refusedIf firstRefusal firstOf tableFrom joined
+unfolding numberAt recordLength recordKind recordCell recordValue recordRate nextRecord searchRecords firstRecord cellKey kindKey recordKey firstWithKey incomplete kindLength misshapen unlisted repeated rateOver sheetRates overLimit cellClass classLimit contains position positions brokeredCell penaltyBalanceCell penaltyMonthsCell unusedCells firstFaulty sheetOffset sheetMissing filingVerdict refused cellOffset cellValue contentsOf cell monthsOutside columnBalances balances aboveColumn totalDiffers sum those inColumn withinRow sheetVerdict positionVerdict monthsVerdict columnVerdict columnsVerdict totalVerdict contentsVerdict recordVerdict recordsVerdict accepted refusedIf firstRefusal firstOf tableFrom joined
 verdicts-hold = refl
 
 -- what a filing says: cells that are present and absent, the ends of the yields and of the rates, and reads beyond them

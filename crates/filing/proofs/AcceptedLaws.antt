@@ -14,8 +14,8 @@ use Rattle.schedule.specs.Cells.{Position, positionAt, withinRow, brokeredCell,
 use Rattle.schedule.specs.Limits.{cellClass, classLimit, rateLimit}
 use Rattle.schedule.proofs.CellLaws.{CellOf, balance-cell, coupon-cell, months-cell, penalty-months-cell}
 use Rattle.records.specs.Records.{recordLength, recordKind, recordValue, recordRate, nextRecord, firstRecord, firstWithKey, recordKey, cellKey, kindKey}
-use Rattle.records.specs.Faults.{faultNumber, kindLength, sheetRates}
-use Rattle.records.specs.RecordVerdicts.{firstFaulty}
+use Rattle.records.specs.Faults.{kindLength, sheetRates}
+use Rattle.records.specs.RecordVerdicts.{firstFaulty, recordVerdict}
 use Rattle.records.proofs.RecordLaws.{first-fails, with-key-passes, record-of-cell-key, record-of-kind-key}
 use Rattle.records.proofs.FaultLaws.{Sound, neither, faultless-sound}
 use Rattle.filing.specs.declared.Contents.{Contents}
@@ -39,9 +39,9 @@ module _ (s : List ℕ) (a : Accepted s) where
   found-sound test h =
       let at = firstRecord s test (length s) in
       faultless-sound s at
-      (eqb-true (faultNumber s at) 0
-      (not-false (eqb (faultNumber s at) 0)
-      (first-fails s (λ (i : ℕ). not (eqb (faultNumber s i) 0)) test (length s) (omega (arith, accepted-passed s a .none-faulty)) h)))
+      (eqb-true (recordVerdict s at .number) 0
+      (not-false (eqb (recordVerdict s at .number) 0)
+      (first-fails s (λ (i : ℕ). not (eqb (recordVerdict s i .number) 0)) test (length s) (omega (arith, accepted-passed s a .none-faulty)) h)))
 
   key-sound : (key : ℕ) → firstWithKey s key (length s) < length s → Sound s (firstWithKey s key (length s))
   unfolding firstWithKey

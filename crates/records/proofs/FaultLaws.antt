@@ -9,8 +9,11 @@ use borrow.Author.Tests.{ltb-false, leb-true, leb-false, eqb-true, eq-eqb, not-f
 use lib.Dec.{leb, ltb, eqb}
 use lib.ListN.{length}
 use Rattle.schedule.specs.Limits.{cellClass, classLimit, rateLimit}
+use Rattle.answers.specs.Verdict.{firstOf}
+use Rattle.answers.proofs.VerdictLaws.{first-none, condition-fails}
 use Rattle.records.specs.Records.{recordLength, recordKind, recordCell, recordValue, recordRate, nextRecord}
-use Rattle.records.specs.Faults.{incomplete, kindLength, misshapen, unlisted, repeated, rateOver, sheetRates, overLimit, faultNumber}
+use Rattle.records.specs.Faults.{incomplete, kindLength, misshapen, unlisted, repeated, rateOver, sheetRates, overLimit}
+use Rattle.records.specs.RecordVerdicts.{recordVerdict}
 
 -- neither of two tests passes
 pub neither : (a b : Bool) → (a || b) ≡ false → (a ≡ false) × (b ≡ false)
@@ -86,12 +89,7 @@ pub record Sound (s : List ℕ) (at : ℕ) : Type 0 where
   pub value-limit : recordKind s at ≡ 1 → recordValue s at ≤ classLimit (cellClass (recordCell s at))
   pub rate-limit : (i : ℕ) → 1 ≤ i → i ≤ sheetRates (recordKind s at) → recordRate s at i ≤ rateLimit
 
--- the fault's number is 0: each test before it failed
-no-fault : (b : Bool) (n rest : ℕ) → cond b (suc n) rest ≡ 0 → (b ≡ false) × (rest ≡ 0)
-no-fault true n rest e = absurd (omega arith)
-no-fault false n rest e = (refl, e)
-
--- a record whose fault number is 0: each of the tests 1 to 5 fails
+-- each of the tests 1 to 5 fails
 pub record Faultless (s : List ℕ) (at : ℕ) : Type 0 where
   pub complete : incomplete s at ≡ false
   pub shaped : misshapen s at ≡ false
@@ -99,24 +97,24 @@ pub record Faultless (s : List ℕ) (at : ℕ) : Type 0 where
   pub single : repeated s at ≡ false
   pub limited : overLimit s at ≡ false
 
--- a fault number of 0 says that no test passed
-pub faultless : (s : List ℕ) (at : ℕ) → faultNumber s at ≡ 0 → Faultless s at
-unfolding faultNumber
+-- a record that is not refused: no test passed
+pub faultless : (s : List ℕ) (at : ℕ) → recordVerdict s at .number ≡ 0 → Faultless s at
+unfolding recordVerdict firstOf
 faultless s at h =
-    let h1 = no-fault (incomplete s at) 0 _ h in
-    let h2 = no-fault (misshapen s at) 1 _ (h1 .1) in
-    let h3 = no-fault (unlisted s at) 2 _ (h2 .1) in
-    let h4 = no-fault (repeated s at) 3 _ (h3 .1) in
-    let h5 = no-fault (overLimit s at) 4 _ (h4 .1) in
+    let h1 = first-none _ _ h in
+    let h2 = first-none _ _ (h1 .1) in
+    let h3 = first-none _ _ (h2 .1) in
+    let h4 = first-none _ _ (h3 .1) in
+    let h5 = first-none _ _ (h4 .1) in
     record {
-      complete = h1 .0;
-      shaped = h2 .0;
-      listed = h3 .0;
-      single = h4 .0;
-      limited = h5 .0;
+      complete = condition-fails (incomplete s at) 0 at (h1 .0);
+      shaped = condition-fails (misshapen s at) 1 at (h2 .0);
+      listed = condition-fails (unlisted s at) 2 at (h3 .0);
+      single = condition-fails (repeated s at) 3 at (h4 .0);
+      limited = condition-fails (overLimit s at) 4 at (h5 .0);
     }
 
-pub faultless-sound : (s : List ℕ) (at : ℕ) → faultNumber s at ≡ 0 → Sound s at
+pub faultless-sound : (s : List ℕ) (at : ℕ) → recordVerdict s at .number ≡ 0 → Sound s at
 faultless-sound s at h =
     let f = faultless s at h in
     record {

@@ -9,9 +9,9 @@ use borrow.Author.Tests.{ltb-true, ltb-false, eq-eqb, ne-eqb}
 use lib.Dec.{ltb, eqb}
 use lib.ListN.{length, List·getD-eq-default}
 use Rattle.schedule.specs.Limits.{cellClass, classLimit}
-use Rattle.answers.specs.Verdict.{accepted, refused}
+use Rattle.answers.specs.Verdict.{accepted, refused, refusedIf, firstRefusal, firstOf}
 use Rattle.records.specs.Records.{recordLength, recordKind, recordCell, recordValue, nextRecord, recordKey, cellKey, kindKey}
-use Rattle.records.specs.Faults.{incomplete, kindLength, misshapen, unlisted, repeated, rateOver, sheetRates, overLimit, faultNumber}
+use Rattle.records.specs.Faults.{incomplete, kindLength, misshapen, unlisted, repeated, rateOver, sheetRates, overLimit}
 use Rattle.records.specs.RecordVerdicts.{recordVerdict}
 use Rattle.records.proofs.FaultLaws.{neither, shaped-length}
 
@@ -25,7 +25,7 @@ kind-known kind false e h =
 module _ (s : List ℕ) (at : ℕ) where
   -- 1 holds
   pub verdict-incomplete : incomplete s at ≡ true → recordVerdict s at ≡ refused 1 at
-  unfolding recordVerdict faultNumber
+  unfolding recordVerdict refusedIf firstRefusal firstOf refused accepted
   verdict-incomplete a = simp a
 
   -- a complete record has a length of at least 2, which lies within the bytes
@@ -39,29 +39,29 @@ module _ (s : List ℕ) (at : ℕ) where
   module _ (complete : incomplete s at ≡ false) where
     -- 1 does not hold, and 2 does
     pub verdict-misshapen : misshapen s at ≡ true → recordVerdict s at ≡ refused 2 at
-    unfolding recordVerdict faultNumber
+    unfolding recordVerdict refusedIf firstRefusal firstOf refused accepted
     verdict-misshapen b = simp (complete, b)
 
     -- 3 is the first that holds
     pub verdict-unlisted : misshapen s at ≡ false → unlisted s at ≡ true → recordVerdict s at ≡ refused 3 at
-    unfolding recordVerdict faultNumber
+    unfolding recordVerdict refusedIf firstRefusal firstOf refused accepted
     verdict-unlisted b c = simp (complete, b, c)
 
     -- 4 is the first that holds
     pub verdict-repeated : misshapen s at ≡ false → unlisted s at ≡ false → repeated s at ≡ true → recordVerdict s at ≡ refused 4 at
-    unfolding recordVerdict faultNumber
+    unfolding recordVerdict refusedIf firstRefusal firstOf refused accepted
     verdict-repeated b c d = simp (complete, b, c, d)
 
     -- 5 is the first that holds
     pub verdict-over : misshapen s at ≡ false → unlisted s at ≡ false → repeated s at ≡ false → overLimit s at ≡ true
         → recordVerdict s at ≡ refused 5 at
-    unfolding recordVerdict faultNumber
+    unfolding recordVerdict refusedIf firstRefusal firstOf refused accepted
     verdict-over b c d e = simp (complete, b, c, d, e)
 
     -- none holds
     pub verdict-sound : misshapen s at ≡ false → unlisted s at ≡ false → repeated s at ≡ false → overLimit s at ≡ false
         → recordVerdict s at ≡ accepted
-    unfolding recordVerdict faultNumber
+    unfolding recordVerdict refusedIf firstRefusal firstOf refused accepted
     verdict-sound b c d e = simp (complete, b, c, d, e)
 
   -- the test of the length, from the fact

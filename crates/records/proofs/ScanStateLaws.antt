@@ -4,32 +4,22 @@
 use Prim.Native.Nat.{ℕ, _≤_, _<_}
 use native.Mathlib.Nat.{le-refl}
 use native.Mathlib.Omega.{arith}
-use mathlib.Core.Path.{_≡_, refl, sym}
-use mathlib.Core.Bool.{Bool, true, false, cond, not}
+use mathlib.Core.Path.{_≡_}
+use mathlib.Core.Bool.{Bool, not}
 use mathlib.Core.List.{List}
-use borrow.Author.Tests.{lt-ltb, le-ltb, eqb-true, eq-eqb, ne-eqb}
+use borrow.Author.Tests.{lt-ltb, le-ltb, eq-eqb, ne-eqb}
 use lib.Dec.{eqb}
 use lib.ListN.{length, set, replicate}
-use Rattle.answers.specs.Verdict.{Verdict, accepted, refused}
+use Rattle.answers.specs.Verdict.{Verdict, accepted}
 use Rattle.records.specs.Records.{nextRecord}
-use Rattle.records.specs.Faults.{faultNumber}
 use Rattle.records.specs.Inner.Offsets.{recordPlace, offsetsBefore}
 use Rattle.records.specs.RecordVerdicts.{firstFaulty, recordVerdict, recordsVerdict}
 use Rattle.records.proofs.FaultLaws.{faultless, complete-ends}
 use Rattle.records.proofs.ScanLaws.{Reached, here, reached-next, Ahead, ahead-start, ahead-here, ahead-next, ahead-done}
 use Rattle.records.proofs.OffsetLaws.{offsets-start, offsets-next}
 
--- the verdict on a record has the number of its fault
-pub record-number : (s : List ℕ) (at : ℕ) → recordVerdict s at .number ≡ faultNumber s at
-unfolding recordVerdict accepted refused
-record-number s at = by (faultNumber s at) (eqb (faultNumber s at) 0) refl
-  where
-    by : (n : ℕ) (b : Bool) → eqb n 0 ≡ b → cond b accepted (refused n at) .number ≡ n
-    by n true e = sym (eqb-true n 0 e)
-    by n false e = refl
-
 abbrev faulty : List ℕ → ℕ → Bool
-faulty s at = not (eqb (faultNumber s at) 0)
+faulty s at = not (eqb (recordVerdict s at .number) 0)
 
 -- all records before `at` are faultless, and the offsets of the first of each key are noted
 pub record Scanning (s first : List ℕ) (at : ℕ) : Type 0 where
@@ -55,22 +45,22 @@ scanning-start s =
 
 module _ (s first : List ℕ) (at : ℕ) (state : Scanning s first at) where
   -- next: a faultless record is read, and its offset noted
-  pub scanning-next : at < length s → faultNumber s at ≡ 0 → Scanning s (set first (recordPlace s at) at) (nextRecord s at)
+  pub scanning-next : at < length s → recordVerdict s at .number ≡ 0 → Scanning s (set first (recordPlace s at) at) (nextRecord s at)
   scanning-next l n =
       let f = faultless s at n in
       record {
         within = complete-ends s at (f .complete);
         reached = reached-next s (state .reached);
-        ahead = ahead-next s (faulty s) (length s) at (state .ahead) l (simp (eq-eqb (faultNumber s at) 0 n));
+        ahead = ahead-next s (faulty s) (length s) at (state .ahead) l (simp (eq-eqb (recordVerdict s at .number) 0 n));
         noted = rw (state .noted) (offsets-next s at (state .reached) f);
       }
 
   -- here: a faulty record ends the scan with its verdict
-  pub scanning-faulty : at < length s → (faultNumber s at ≡ 0 → ⊥) → Scanned s first (recordVerdict s at)
+  pub scanning-faulty : at < length s → (recordVerdict s at .number ≡ 0 → ⊥) → Scanned s first (recordVerdict s at)
   unfolding firstFaulty recordsVerdict
   scanning-faulty l h =
       let found : firstFaulty s ≡ at =
-      ahead-here s (faulty s) (length s) at (state .ahead) l (simp (ne-eqb (faultNumber s at) 0 h)) in
+      ahead-here s (faulty s) (length s) at (state .ahead) l (simp (ne-eqb (recordVerdict s at .number) 0 h)) in
       record {
         verdict-is = rw (found, lt-ltb at (length s) l);
         offsets-are = rw found (state .noted);

@@ -13,7 +13,6 @@ use Rattle.answers.specs.declared.Answer.the-variants.{Accepted}
 use Rattle.answers.specs.Verdict.{accepted}
 use Rattle.answers.specs.Answers.{verdictOf}
 use Rattle.records.specs.Records.{nextRecord}
-use Rattle.records.specs.Faults.{faultNumber}
 use Rattle.records.specs.Inner.Offsets.{recordPlace}
 use Rattle.records.specs.RecordVerdicts.{recordVerdict}
 use Rattle.records.specs.declared.scan.Scanned.{Scanned}
@@ -35,25 +34,25 @@ module _ (s first : List ℕ) (at : ℕ) where
 
   module _ (within : at < length s) (a : Answer) (verdict : verdictOf a ≡ recordVerdict s at) where
     -- the record has a fault
-    pub visited-faulty : (faultNumber s at ≡ 0 → ⊥) → Visited s first at (record { answer = a; first = first; at = at; going = false })
+    pub visited-faulty : (recordVerdict s at .number ≡ 0 → ⊥) → Visited s first at (record { answer = a; first = first; at = at; going = false })
     unfolding soundAt
     visited-faulty h =
         record {
-          going-is = simp (lt-ltb at (length s) within, ne-eqb (faultNumber s at) 0 h);
-          at-is = simp (lt-ltb at (length s) within, ne-eqb (faultNumber s at) 0 h);
-          first-is = simp (lt-ltb at (length s) within, ne-eqb (faultNumber s at) 0 h);
+          going-is = simp (lt-ltb at (length s) within, ne-eqb (recordVerdict s at .number) 0 h);
+          at-is = simp (lt-ltb at (length s) within, ne-eqb (recordVerdict s at .number) 0 h);
+          first-is = simp (lt-ltb at (length s) within, ne-eqb (recordVerdict s at .number) 0 h);
           verdict-is = simp (lt-ltb at (length s) within) verdict;
         }
 
     -- the record has none
-    pub visited-sound : faultNumber s at ≡ 0 → (place next : ℕ) → place ≡ recordPlace s at → next ≡ nextRecord s at
+    pub visited-sound : recordVerdict s at .number ≡ 0 → (place next : ℕ) → place ≡ recordPlace s at → next ≡ nextRecord s at
         → Visited s first at (record { answer = a; first = set first place at; at = next; going = true })
     unfolding soundAt
     visited-sound h place next p n =
         record {
-          going-is = simp (lt-ltb at (length s) within, eq-eqb (faultNumber s at) 0 h);
-          at-is = simp (lt-ltb at (length s) within, eq-eqb (faultNumber s at) 0 h) n;
-          first-is = simp (lt-ltb at (length s) within, eq-eqb (faultNumber s at) 0 h) (rw p);
+          going-is = simp (lt-ltb at (length s) within, eq-eqb (recordVerdict s at .number) 0 h);
+          at-is = simp (lt-ltb at (length s) within, eq-eqb (recordVerdict s at .number) 0 h) n;
+          first-is = simp (lt-ltb at (length s) within, eq-eqb (recordVerdict s at .number) 0 h) (rw p);
           verdict-is = simp (lt-ltb at (length s) within) verdict;
         }
 
@@ -74,7 +73,7 @@ module _ (s : List ℕ) (k k′ : Scanned) (goes : k .going ≡ true) (state : S
   -- what the visited record makes of the state, by whether it stands within the bytes and whether it has no fault
   by-record : (within sound : Bool)
       → ltb (k .at) (length s) ≡ within
-      → eqb (faultNumber s (k .at)) 0 ≡ sound
+      → eqb (recordVerdict s (k .at) .number) 0 ≡ sound
       → k′ .going ≡ (within && sound)
       → k′ .at ≡ cond (within && sound) (nextRecord s (k .at)) (k .at)
       → k′ .first ≡ cond (within && sound) (set (k .first) (recordPlace s (k .at)) (k .at)) (k .first)
@@ -83,12 +82,12 @@ module _ (s : List ℕ) (k k′ : Scanned) (goes : k .going ≡ true) (state : S
   unfolding scanLeft
   by-record true true w f g a n v =
       let l = ltb-true (k .at) (length s) w in
-      let next = scanning-next s (k .first) (k .at) (state .reading goes) l (eqb-true (faultNumber s (k .at)) 0 f) in (
+      let next = scanning-next s (k .first) (k .at) (state .reading goes) l (eqb-true (recordVerdict s (k .at) .number) 0 f) in (
         record { reading = λ e. rw (a, n) next; ended = λ e. absurd (true≢false (sym g ∙ e)) },
         rw (g, goes, a) (omega (arith, next-lt s (k .at), next .within)),
       )
   by-record true false w f g a n v =
-      let end = scanning-faulty s (k .first) (k .at) (state .reading goes) (ltb-true (k .at) (length s) w) (eqb-false (faultNumber s (k .at)) 0 f) in (
+      let end = scanning-faulty s (k .first) (k .at) (state .reading goes) (ltb-true (k .at) (length s) w) (eqb-false (recordVerdict s (k .at) .number) 0 f) in (
         record { reading = λ e. absurd (true≢false (sym e ∙ g)); ended = λ e. rw (n, v) end },
         rw (g, goes) (omega arith),
       )
@@ -102,4 +101,4 @@ module _ (s : List ℕ) (k k′ : Scanned) (goes : k .going ≡ true) (state : S
   pub scan-at-next : Visited s (k .first) (k .at) k′ → ScanAt s k′ × (scanLeft s k′ < scanLeft s k)
   unfolding soundAt
   scan-at-next h =
-      by-record (ltb (k .at) (length s)) (eqb (faultNumber s (k .at)) 0) refl refl (h .going-is) (h .at-is) (h .first-is) (h .verdict-is)
+      by-record (ltb (k .at) (length s)) (eqb (recordVerdict s (k .at) .number) 0) refl refl (h .going-is) (h .at-is) (h .first-is) (h .verdict-is)

@@ -41,13 +41,3 @@ unfoldable pub overLimit : List ℕ → ℕ → Bool
 overLimit s at =
     cond (eqb (recordKind s at) 1) (ltb (classLimit (cellClass (recordCell s at))) (recordValue s at))
     (rateOver s at (sheetRates (recordKind s at)))
-
--- the number of the record's first fault, 0 where it has none
-unfoldable pub faultNumber : List ℕ → ℕ → ℕ
-faultNumber s at =
-    cond (incomplete s at) 1
-    (cond (misshapen s at) 2
-    (cond (unlisted s at) 3
-    (cond (repeated s at) 4
-    (cond (overLimit s at) 5
-    0))))

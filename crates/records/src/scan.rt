@@ -9,8 +9,7 @@ ghost use mathlib.Core.Path.{_≡_};
 ghost use Rattle.answers.specs.Answers.{verdictOf};
 ghost use Rattle.records.specs.Records.{recordKind};
 ghost use Rattle.records.specs.Inner.Offsets.{recordPlace, offsetsBefore};
-ghost use Rattle.records.specs.Faults.{faultNumber};
-ghost use Rattle.records.specs.RecordVerdicts.{firstFaulty, recordsVerdict};
+ghost use Rattle.records.specs.RecordVerdicts.{firstFaulty, recordVerdict, recordsVerdict};
 ghost use Rattle.records.specs.Inner.Steps.{stepAt};
 ghost use Rattle.records.specs.Inner.Scans.{scanStart, Visited};
 
@@ -95,7 +94,7 @@ fn visit(s: &[u8], step: Step, scanned: Scanned) -> Scanned
 // The place of a sound record among the offsets.
 fn record_place(s: &[u8], at: usize, kind: u16) -> usize
     requires { ⌜ kind ≡ recordKind (now s) at ⌝ }
-    requires { ⌜ faultNumber (now s) at ≡ 0 ⌝ }
+    requires { ⌜ recordVerdict (now s) at .number ≡ 0 ⌝ }
     ensures { λ r. ⌜ r ≡ recordPlace (now (s .entry)) at ⌝ }
 {
     if kind == 1 {

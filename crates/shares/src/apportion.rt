@@ -5,7 +5,13 @@ ghost use Rattle.shares.specs.Apportion.{cumulativeShare, shareBehind};
 ghost use Rattle.shares.specs.Inner.Rows.{rowShares};
 
 // The four sub-balances of a row, from its column's sum, the sum of the rows above it, its balance, and the column's brokered and penalty balances.
-pub(crate) fn row_shares(total: u64, before: u64, balance: u64, brokered: u64, penalized: u64) -> [u64; 4]
+pub(crate) fn row_shares(
+    total: u64,
+    before: u64,
+    balance: u64,
+    brokered: u64,
+    penalized: u64,
+) -> [u64; 4]
     requires { ⌜ (before + balance ≤ total) × (total ≤ 3999999996) × (brokered ≤ total) × (penalized ≤ total) ⌝ }
     ensures { λ r. ⌜ r ≡ rowShares total before balance brokered penalized ⌝ }
 {

@@ -10,7 +10,6 @@ use Rattle.answers.specs.Verdict.{accepted}
 use Rattle.answers.specs.Answers.{verdictOf}
 use Rattle.records.specs.declared.scan.Scanned.{Scanned}
 use Rattle.records.specs.Records.{nextRecord}
-use Rattle.records.specs.Faults.{faultNumber}
 use Rattle.records.specs.Inner.Offsets.{recordPlace}
 use Rattle.records.specs.RecordVerdicts.{recordVerdict}
 
@@ -20,7 +19,7 @@ scanStart size = record { answer = Accepted; first = replicate 65 size; at = 0; 
 
 -- a record stands at the offset, and it has no fault
 unfoldable pub soundAt : List ℕ → ℕ → Bool
-soundAt s at = ltb at (length s) && eqb (faultNumber s at) 0
+soundAt s at = ltb at (length s) && eqb (recordVerdict s at .number) 0
 
 -- What the record at offset `at` makes of the offsets noted before it. A sound record is noted, and the scan goes on after it. A faulty one
 -- ends the scan with its verdict, and so does the end of the input, with acceptance

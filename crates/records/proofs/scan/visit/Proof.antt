@@ -6,11 +6,10 @@ use mathlib.Core.Path.{_≡_, sym, ap, _∙_}
 use borrow.Author.Needs.{needs}
 use Rattle.answers.specs.Answers.{verdictOf}
 use Rattle.answers.specs.Verdict.{Verdict, refused}
-use Rattle.records.specs.Faults.{faultNumber}
+use Rattle.records.specs.RecordVerdicts.{recordVerdict}
 use Rattle.records.proofs.FaultLaws.{faultless}
 use Rattle.records.proofs.OffsetLaws.{faultless-place}
 use Rattle.records.proofs.RecordVerdictLaws.{verdict-incomplete}
-use Rattle.records.proofs.ScanStateLaws.{record-number}
 use Rattle.records.proofs.StepLaws.{end-past, incomplete-at, StandsAt, record-stands}
 use Rattle.records.proofs.VisitLaws.{visited-end, visited-faulty, visited-sound}
 use Rattle.records.proofs.scan.visit.Statement.{statement}
@@ -42,11 +41,9 @@ number-requires c κs = search needs
 -- the number that the code tests is the record's fault
 fault : (c : tie.After-number)
     → c .number .result
-    ≡ faultNumber (c .before .before .before .before .before .before .before .before .args .s .now)
-    (c .before .before .before .before .before .before .before .before .args .scanned .at)
+    ≡ recordVerdict (c .before .before .before .before .before .before .before .before .args .s .now) (c .before .before .before .before .before .before .before .before .args .scanned .at) .number
 unfolding verdictOf
-fault c =
-    c .number .ensures ∙ ap (λ (v : Verdict). v .number) (c .before .check-record .ensures) ∙ record-number _ _
+fault c = c .number .ensures ∙ ap (λ (v : Verdict). v .number) (c .before .check-record .ensures)
 
 returns : tie.Need-returns
 returns c =
@@ -60,8 +57,7 @@ record-place-requires c κs =
 
 -- the record is faultless
 no-fault : (c : tie.After-record-place)
-    → faultNumber (c .before .before .before .before .before .before .before .before .before .before .args .s .now)
-    (c .before .before .before .before .before .before .before .before .before .before .args .scanned .at)
+    → recordVerdict (c .before .before .before .before .before .before .before .before .before .before .args .s .now) (c .before .before .before .before .before .before .before .before .before .before .args .scanned .at) .number
     ≡ 0
 no-fault c = sym (fault (c .before .before)) ∙ c .before .if1 .left
 
@@ -88,7 +84,7 @@ returns-3 c =
     let at = start .args .scanned .at in
     let cut = incomplete-at s at (sym (start .pre .1) ∙ c .enum-told2 .given .1) in
     let one = verdict-incomplete s at (cut .1) in
-    let fault : faultNumber s at ≡ 1 = sym (record-number s at) ∙ ap (λ (v : Verdict). v .number) one in
+    let fault : recordVerdict s at .number ≡ 1 = ap (λ (v : Verdict). v .number) one in
     visited-faulty s (start .args .scanned .first) at (cut .0) _ (sym one) (λ e. omega arith)
 
 returns-4 : tie.Need-returns-4
