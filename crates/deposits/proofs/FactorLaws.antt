@@ -40,7 +40,8 @@ module _ (ρ : Rounding) (yields : List ℕ) (longest month : ℕ) where
 -- a list whose first m sevens are a table, with the next seven stored
 pub seven-stored : (f : ℕ → ℕ) (l seven : List ℕ) (m : ℕ) → length l ≡ 840 → m < 120 → take (7 * m) l ≡ table (7 * m) f
     → seven ≡ table 7 (λ (s : ℕ). f (7 * m + s))
-    → take (7 * (m + 1)) (set (set (set (set (set (set (set l (7 * m) (getD seven 0 0)) (7 * m + 1) (getD seven 1 0)) (7 * m + 2) (getD seven 2 0)) (7 * m + 3) (getD seven 3 0)) (7 * m + 4) (getD seven 4 0)) (7 * m + 5) (getD seven 5 0)) (7 * m + 6) (getD seven 6 0))
+    → take (7 * (m + 1)) (set (set (set (set (set (set (set l (7 * m) (getD seven 0 0)) (7 * m + 1) (getD seven 1 0)) (7 * m + 2) (getD seven 2 0))
+    (7 * m + 3) (getD seven 3 0)) (7 * m + 4) (getD seven 4 0)) (7 * m + 5) (getD seven 5 0)) (7 * m + 6) (getD seven 6 0))
     ≡ table (7 * (m + 1)) f
 seven-stored f l seven m long h held e =
     next 6 _ (7 * (m + 1)) (lit< tt) (simp length-set long) (omega arith)

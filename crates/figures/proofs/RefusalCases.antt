@@ -165,7 +165,8 @@ total-cases =
     ∷ gives (complete []) accepted
     ∷ gives (complete ((645, 1) ∷ [])) (refused 9 645)
     ∷ gives (complete ((656, 3600) ∷ (604, 7) ∷ (661, 2 ^ 64 - 1) ∷ [])) accepted
-    ∷ gives (filed ((645, 60) ∷ []) ++ rateSheet (λ (j : ℕ). 0) ++ filed ((636, 13) ∷ (631, 30) ∷ (623, 4) ∷ (616, 20) ∷ []) ++ yieldSheet (λ (t : ℕ). 0) ++ filed ((609, 1) ∷ (602, 10) ∷ [])) accepted
+    ∷ gives (filed ((645, 60) ∷ []) ++ rateSheet (λ (j : ℕ). 0) ++ filed ((636, 13) ∷ (631, 30) ∷ (623, 4) ∷ (616, 20) ∷ [])
+    ++ yieldSheet (λ (t : ℕ). 0) ++ filed ((609, 1) ∷ (602, 10) ∷ [])) accepted
     ∷ []
 
 abbrev cases : List Case
@@ -181,7 +182,8 @@ abbrev sample : Contents
 sample = contentsOf (complete ((601, 10) ∷ (661, 20) ∷ []))
 
 contents-hold :
-    cell sample 601 ∷ cell sample 602 ∷ cell sample 661 ∷ cdYield sample 1 ∷ cdYield sample 120 ∷ cdYield sample 121 ∷ retailRate sample 1 ∷ retailRate sample 3 ∷ []
+    cell sample 601 ∷ cell sample 602 ∷ cell sample 661 ∷ cdYield sample 1 ∷ cdYield sample 120 ∷ cdYield sample 121 ∷ retailRate sample 1
+    ∷ retailRate sample 3 ∷ []
     ≡ 10 ∷ 0 ∷ 20 ∷ 10 ∷ 1200 ∷ 0 ∷ 100 ∷ 300 ∷ []
 unfolding numberAt recordLength recordKind recordCell recordValue recordRate nextRecord searchRecords firstRecord cellKey kindKey recordKey firstWithKey cellOffset cellValue sheetOffset contentsOf cell cdYield retailRate tableFrom joined
 contents-hold = refl

@@ -28,7 +28,13 @@ unfolding gain cost atMost houseTiers tier reached firstReached annualWithdrawal
 edge-missed n h =
     let a : ℕ = 100 * (12000000 * (599 * n) + 0) in
     let k : ℕ = 12000000 * 600 * n in
-    simp (lt-leb (150 * k) a (omega arith), lt-leb (130 * k) a (omega arith), lt-leb (115 * k) a (omega arith), lt-leb (100 * k) a (omega arith), le-leb (80 * k) a (omega arith))
+    simp (
+      lt-leb (150 * k) a (omega arith),
+      lt-leb (130 * k) a (omega arith),
+      lt-leb (115 * k) a (omega arith),
+      lt-leb (100 * k) a (omega arith),
+      le-leb (80 * k) a (omega arith),
+    )
 
 pub starred : StarredFigures
 unfolding sum apportion sharesFrom cumulativeShare accountParts gain cost atMost houseTiers tier reached firstReached annualWithdrawal earlySurvival monthSurvival quotient balanceBy outflowBy flowBy discountBy discountFactorBy discountedBy priceBy valueBy accountOf servicingCost termsOf houseTerms flat

@@ -21,10 +21,12 @@ outflowsBy ρ k (suc t) = outflowsBy ρ k t + outflowBy ρ k t
 -- balance and outflow of month t + 1 from any balances l ≤ u at its start
 step : (k : Terms) → Bounded k → (t l u : ℕ) → l ≤ u
     → quotient up (u * (k .growth + 3 * k .survival (suc t))) (3 * 10 ^ 9) + quotient up (u * (k .servicing + 10 ^ 9 - k .survival (suc t))) (10 ^ 9)
-    ≤ quotient down (l * (k .growth + 3 * k .survival (suc t))) (3 * 10 ^ 9) + quotient down (l * (k .servicing + 10 ^ 9 - k .survival (suc t))) (10 ^ 9) + grown (u - l)
+    ≤ quotient down (l * (k .growth + 3 * k .survival (suc t))) (3 * 10 ^ 9) + quotient down (l * (k .servicing + 10 ^ 9 - k .survival (suc t)))
+    (10 ^ 9) + grown (u - l)
 step k b t l u h =
     subst₂
-    (λ (v s : ℕ). quotient up (v * (k .growth + 3 * q)) (3 * 10 ^ 9) + quotient up (v * s) (10 ^ 9) ≤ quotient down (l * (k .growth + 3 * q)) (3 * 10 ^ 9) + quotient down (l * s) (10 ^ 9) + grown (u - l))
+    (λ (v s : ℕ). quotient up (v * (k .growth + 3 * q)) (3 * 10 ^ 9) + quotient up (v * s) (10 ^ 9) ≤ quotient down (l * (k .growth + 3 * q))
+    (3 * 10 ^ 9) + quotient down (l * s) (10 ^ 9) + grown (u - l))
     (add-sub-of-le h) same
     (month-step (k .growth) (k .servicing) q (10 ^ 9 - q) l (u - l) (b .growth-limit) (b .servicing-limit) (add-sub-of-le (b .survival-limit (suc t))))
   where

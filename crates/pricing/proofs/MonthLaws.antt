@@ -23,7 +23,8 @@ pub month-step : (growth servicing q e l d : ℕ) → growth ≤ 37500000 → se
     ≤ quotient down (l * (growth + 3 * q)) (3 * 10 ^ 9) + quotient down (l * (servicing + e)) (10 ^ 9) + grown d
 unfolding grown
 month-step growth servicing q e l d hg hs hq =
-    let b₁ : quotient up ((l + d) * (growth + 3 * q)) (3 * 10 ^ 9) * (3 * 10 ^ 9) < (l + d) * (growth + 3 * q) + 3 * 10 ^ 9 = ceiling-lt _ (3 * 10 ^ 9) (lit< tt) in
+    let b₁ : quotient up ((l + d) * (growth + 3 * q)) (3 * 10 ^ 9) * (3 * 10 ^ 9) < (l + d) * (growth + 3 * q) + 3 * 10 ^ 9 = ceiling-lt _
+    (3 * 10 ^ 9) (lit< tt) in
     let b₀ : l * (growth + 3 * q) < quotient down (l * (growth + 3 * q)) (3 * 10 ^ 9) * (3 * 10 ^ 9) + 3 * 10 ^ 9 = floor-gt _ (3 * 10 ^ 9) (lit< tt) in
     let o₁ : quotient up ((l + d) * (servicing + e)) (10 ^ 9) * 10 ^ 9 < (l + d) * (servicing + e) + 10 ^ 9 = ceiling-lt _ (10 ^ 9) (lit< tt) in
     let o₀ : l * (servicing + e) < quotient down (l * (servicing + e)) (10 ^ 9) * 10 ^ 9 + 10 ^ 9 = floor-gt _ (10 ^ 9) (lit< tt) in

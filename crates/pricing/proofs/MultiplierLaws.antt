@@ -26,7 +26,12 @@ module _ (x a w k : ℕ) (pos : 0 < w) (fits : x * w < k) where
       (below q p
       (omega (arith, mul-le-mul-right w (floor-le (x * m) k), mul-le-mul-right x (ceiling-lt (a * k) w pos), mul-le-mul-right k (floor-gt (x * a) w pos))))
       (below p q
-      (omega (arith, mul-le-mul-right k (floor-le (x * a) w), mul-le-mul-right x (ceiling-ge (a * k) w pos), mul-le-mul-right w (floor-gt (x * m) k (omega arith)))))
+      (omega (
+        arith,
+        mul-le-mul-right k (floor-le (x * a) w),
+        mul-le-mul-right x (ceiling-ge (a * k) w pos),
+        mul-le-mul-right w (floor-gt (x * m) k (omega arith)),
+      )))
     where
       m : ℕ
       m = quotient up (a * k) w
@@ -42,9 +47,19 @@ module _ (x a w k : ℕ) (pos : 0 < w) (fits : x * w < k) where
   ceiling-scaled =
       le-antisymm
       (below q p
-      (omega (arith, mul-le-mul-right w (ceiling-lt (x * m) k (omega arith)), mul-le-mul-right x (floor-le (a * k) w), mul-le-mul-right k (ceiling-ge (x * a) w pos))))
+      (omega (
+        arith,
+        mul-le-mul-right w (ceiling-lt (x * m) k (omega arith)),
+        mul-le-mul-right x (floor-le (a * k) w),
+        mul-le-mul-right k (ceiling-ge (x * a) w pos),
+      )))
       (below p q
-      (omega (arith, mul-le-mul-right k (ceiling-lt (x * a) w pos), mul-le-mul-right x (floor-gt (a * k) w pos), mul-le-mul-right w (ceiling-ge (x * m) k (omega arith)))))
+      (omega (
+        arith,
+        mul-le-mul-right k (ceiling-lt (x * a) w pos),
+        mul-le-mul-right x (floor-gt (a * k) w pos),
+        mul-le-mul-right w (ceiling-ge (x * m) k (omega arith)),
+      )))
     where
       m : ℕ
       m = quotient down (a * k) w

@@ -34,12 +34,18 @@ month-width k z t h = apart (flowBy down k t) (flowBy up k t) (encloses-le (flow
     y = z (suc t)
 
     apart : (f v : ℕ) → f ≤ v
-        → quotient up (v * discountBy up y (suc t)) (10 ^ 9) * 10 ^ 9 + f * 10 ^ 9 ≤ quotient down (f * discountBy down y (suc t)) (10 ^ 9) * 10 ^ 9 + f * 120 + v * 10 ^ 9 + 2 * 10 ^ 9
+        → quotient up (v * discountBy up y (suc t)) (10 ^ 9) * 10 ^ 9 + f * 10 ^ 9 ≤ quotient down (f * discountBy down y (suc t)) (10 ^ 9) * 10 ^ 9 +
+        f * 120 + v * 10 ^ 9 + 2 * 10 ^ 9
     apart f v hf =
         subst
-        (λ (w : ℕ). quotient up (w * discountBy up y (suc t)) (10 ^ 9) * 10 ^ 9 + f * 10 ^ 9 ≤ quotient down (f * discountBy down y (suc t)) (10 ^ 9) * 10 ^ 9 + f * 120 + w * 10 ^ 9 + 2 * 10 ^ 9)
+        (λ (w : ℕ). quotient up (w * discountBy up y (suc t)) (10 ^ 9) * 10 ^ 9 + f * 10 ^ 9 ≤ quotient down (f * discountBy down y (suc t)) (10 ^ 9)
+        * 10 ^ 9 + f * 120 + w * 10 ^ 9 + 2 * 10 ^ 9)
         (add-sub-of-le hf)
-        (omega (arith, product-width f (v - f) (discountBy down y (suc t)) (discountBy up y (suc t)) (suc t) (discount-le y (suc t)) (discount-width y (suc t)) h))
+        (omega (
+          arith,
+          product-width f (v - f) (discountBy down y (suc t)) (discountBy up y (suc t)) (suc t) (discount-le y (suc t))
+              (discount-width y (suc t)) h,
+        ))
 
 -- the sum of the products to month t, by the flows' own width, a discount factor's width of 120 at most, and two roundings a month
 sum-width : (k : Terms) (z : ℕ → ℕ) (t : ℕ) → t ≤ 120
@@ -52,8 +58,16 @@ sum-width k z (suc t) h = omega (arith, sum-width k z t (le-of-suc-le h), month-
 last-width : (k : Terms) (z : ℕ → ℕ) → Bounded k → (t : ℕ) → suc t ≡ k .months
     → discountedBy up k (discountFactorBy up z) (suc t) ≤ discountedBy down k (discountFactorBy down z) (suc t) + 4000
 last-width k z b t e =
-    omega
-    (arith, sum-width k z (suc t) within, payments-last down k t e, payments-last up k t e, amount-width k b (suc t), amount-le k b (suc t), width-limit within, amount-limit within)
+    omega (
+      arith,
+      sum-width k z (suc t) within,
+      payments-last down k t e,
+      payments-last up k t e,
+      amount-width k b (suc t),
+      amount-le k b (suc t),
+      width-limit within,
+      amount-limit within,
+    )
   where
     within : suc t ≤ 120
     within = omega (arith, b .months-limit)
@@ -74,5 +88,9 @@ price-width k z b = term-width k z b (k .months) refl
 pub value-width : (balance : ℕ) (k : Terms) (z : ℕ → ℕ) → Bounded k → 250 * valueBy up balance k z ≤ 250 * valueBy down balance k z + (balance + 500)
 unfolding valueBy
 value-width balance k z b =
-    omega
-    (arith, ceiling-lt (balance * priceBy up k z) (10 ^ 6) (lit< tt), floor-gt (balance * priceBy down k z) (10 ^ 6) (lit< tt), mul-le-mul-left balance (price-width k z b))
+    omega (
+      arith,
+      ceiling-lt (balance * priceBy up k z) (10 ^ 6) (lit< tt),
+      floor-gt (balance * priceBy down k z) (10 ^ 6) (lit< tt),
+      mul-le-mul-left balance (price-width k z b),
+    )

@@ -87,7 +87,8 @@ module _ (s : List ℕ) (k k′ : Scanned) (goes : k .going ≡ true) (state : S
         rw (g, goes, a) (omega (arith, next-lt s (k .at), next .within)),
       )
   by-record true false w f g a n v =
-      let end = scanning-faulty s (k .first) (k .at) (state .reading goes) (ltb-true (k .at) (length s) w) (eqb-false (recordVerdict s (k .at) .number) 0 f) in (
+      let end = scanning-faulty s (k .first) (k .at) (state .reading goes) (ltb-true (k .at) (length s) w)
+      (eqb-false (recordVerdict s (k .at) .number) 0 f) in (
         record { reading = λ e. absurd (true≢false (sym e ∙ g)); ended = λ e. rw (n, v) end },
         rw (g, goes) (omega arith),
       )

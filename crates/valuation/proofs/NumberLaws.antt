@@ -40,7 +40,8 @@ module _ (k : Contents) where
   pub numbers-length : length (numbers k) ≡ 568
   unfolding numbers
   numbers-length =
-      length-append (joined (table 36 (placeNumbers k))) (joined (table 7 (scenarioTotals k))) ∙ rw (places-length, joined-length 4 0 7 (scenarioTotals k) scenarioTotals-length)
+      length-append (joined (table 36 (placeNumbers k))) (joined (table 7 (scenarioTotals k)))
+      ∙ rw (places-length, joined-length 4 0 7 (scenarioTotals k) scenarioTotals-length)
 
   -- number r of a place's fifteen
   place-read : (i place r : ℕ) → i ≡ 15 * place + r → place < 36 → r < 15 → getD (numbers k) i 0 ≡ getD (placeNumbers k place) r 0
@@ -117,7 +118,8 @@ module _ (k : Contents) where
       each-lt 2 (λ (r : ℕ). valueIn (cond (eqb r 0) (valuesBy down k) (valuesBy up k)) scenario place ≡ getD (valuesOf k place scenario) r 0)
       (value-listed down scenario place hs hp, (value-listed up scenario place hs hp, tt))
 
-  totals-listed : (scenario : ℕ) → scenario < 7 → (r : ℕ) → r < 4 → totalNumberIn (valuesBy down k) (valuesBy up k) scenario r ≡ getD (scenarioTotals k scenario) r 0
+  totals-listed : (scenario : ℕ) → scenario < 7 → (r : ℕ) → r < 4 → totalNumberIn (valuesBy down k) (valuesBy up k) scenario r
+      ≡ getD (scenarioTotals k scenario) r 0
   unfolding totalNumberIn sideAt inTotal scenarioTotals
   totals-listed scenario h =
       each-lt 4 (λ (r : ℕ). totalNumberIn (valuesBy down k) (valuesBy up k) scenario r ≡ getD (scenarioTotals k scenario) r 0)
@@ -133,7 +135,8 @@ module _ (k : Contents) where
   place-listed i place (suc j) e hp hr =
       let p : suc j - 1 ≡ j = omega arith in
       rw (eqb·suc-zero j, p)
-      (values-listed (j / 2) place (omega arith) hp (j % 2) (omega arith) ∙ sym (value-read i (j / 2) place (j % 2) (omega arith) (omega arith) hp (omega arith)))
+      (values-listed (j / 2) place (omega arith) hp (j % 2) (omega arith)
+      ∙ sym (value-read i (j / 2) place (j % 2) (omega arith) (omega arith) hp (omega arith)))
 
   number-listed : (i : ℕ) → i < 568 → numberIn (table 36 (balanceAt k)) (valuesBy down k) (valuesBy up k) i ≡ getD (numbers k) i 0
   unfolding numberIn
@@ -146,7 +149,8 @@ module _ (k : Contents) where
       go false t =
           let l : 540 ≤ i = ltb-false i 540 t in
           let s : (i - 540) / 4 < 7 = omega arith in
-          rw t (totals-listed ((i - 540) / 4) s ((i - 540) % 4) (omega arith) ∙ sym (total-read i ((i - 540) / 4) ((i - 540) % 4) (omega arith) s (omega arith)))
+          rw t (totals-listed ((i - 540) / 4) s ((i - 540) % 4) (omega arith)
+          ∙ sym (total-read i ((i - 540) / 4) ((i - 540) % 4) (omega arith) s (omega arith)))
 
   -- the numbers made from a filing's balances and values are its 568 numbers
   pub numbers-listed : table 568 (numberIn (table 36 (balanceAt k)) (valuesBy down k) (valuesBy up k)) ≡ numbers k

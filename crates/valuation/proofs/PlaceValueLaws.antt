@@ -84,12 +84,14 @@ months-le-longest k place h pos = le-trans held (longest-le (placesOf k) 36 plac
 
 -- the price by the list is the price by the yields
 price-is : (ρ : Rounding) (k : Contents) → Valid k → (scenario place : ℕ) → scenario < 7 → place < 36 → 0 < balanceAt k place
-    → listedPrice ρ (filingTiers k) (depositAt k scenario place) (factorsBy ρ (k .yields) (longestTerm (placesOf k))) scenario ≡ priceBy ρ (termsAt k scenario place) (monthYield k scenario)
+    → listedPrice ρ (filingTiers k) (depositAt k scenario place) (factorsBy ρ (k .yields) (longestTerm (placesOf k))) scenario ≡ priceBy ρ
+    (termsAt k scenario place) (monthYield k scenario)
 unfolding listedPrice priceBy termsAt depositAt termsOf
 price-is ρ k v scenario place hs hp pos =
     run-ext ρ (termsOf (filingTiers k) (depositAt k scenario place)) (listed (factorsBy ρ (k .yields) (longestTerm (placesOf k))) scenario)
     (discountFactorBy ρ (monthYield k scenario)) (monthsAt k place)
-    (λ t l. factor-is ρ k (longestTerm (placesOf k)) scenario t hs (lt-of-lt-of-le l (months-limit k v place hp)) (lt-of-lt-of-le l (months-le-longest k place hp pos)))
+    (λ t l. factor-is ρ k (longestTerm (placesOf k)) scenario t hs (lt-of-lt-of-le l (months-limit k v place hp))
+    (lt-of-lt-of-le l (months-le-longest k place hp pos)))
 
 -- a zero balance has one value at any price
 no-value : (ρ : Rounding) (balance x y : ℕ) → balance ≡ 0 → quotient ρ (balance * x) (10 ^ 6) ≡ quotient ρ (balance * y) (10 ^ 6)
@@ -97,7 +99,8 @@ no-value ρ balance x y e = rw e (quotient-zero ρ x (10 ^ 6) (lit< tt) ∙ sym 
 
 -- the value by the list is the value of the place
 pub place-value : (ρ : Rounding) (k : Contents) → Valid k → (scenario place : ℕ) → scenario < 7 → place < 36
-    → listedValue ρ (balanceAt k place) (filingTiers k) (depositAt k scenario place) (factorsBy ρ (k .yields) (longestTerm (placesOf k))) scenario ≡ valueAt ρ k scenario place
+    → listedValue ρ (balanceAt k place) (filingTiers k) (depositAt k scenario place) (factorsBy ρ (k .yields) (longestTerm (placesOf k))) scenario
+    ≡ valueAt ρ k scenario place
 unfolding listedValue valueAt valueBy
 place-value ρ k v scenario place hs hp =
     ⊎-elim (no-value ρ (balanceAt k place) _ _) (λ pos. rw (price-is ρ k v scenario place hs hp pos))
@@ -125,7 +128,11 @@ unfolding valuesBy valueAt valueBy
 values-within ρ k v =
     table-le 0 252 _ (5 * 10 ^ 12)
     (λ j l u. quotient-le ρ _ (10 ^ 6) (5 * 10 ^ 12) (lit< tt)
-    (omega (arith, mul-le-mul (balanceAt-limit k v (j % 36) (omega arith)) (price-limit (termsAt k (j / 36) (j % 36)) (monthYield k (j / 36)) (terms-bounded k v (j / 36) (j % 36) (omega arith)) ρ))))
+    (omega (
+      arith,
+      mul-le-mul (balanceAt-limit k v (j % 36) (omega arith))
+          (price-limit (termsAt k (j / 36) (j % 36)) (monthYield k (j / 36)) (terms-bounded k v (j / 36) (j % 36) (omega arith)) ρ),
+    )))
 
 -- the 568 numbers from the lists that the code has in hand
 pub numbers-are : (k : Contents) (ps : List SubBalance) (balances lower upper : List ℕ) → ps ≡ placesOf k → balances ≡ balancesIn ps

@@ -42,8 +42,15 @@ four-places : (k : Contents) (i : ℕ)
     → balanceAt k (4 * i) + balanceAt k (4 * i + 1) + balanceAt k (4 * i + 2) + balanceAt k (4 * i + 3) ≡ sum (fourOf k (positionAt i))
 four-places k i =
     let first : 4 * i ≡ 4 * i + 0 = omega arith in
-    omega
-    (arith, ap (balanceAt k) first, four-place k i 0 (lit< tt), four-place k i 1 (lit< tt), four-place k i 2 (lit< tt), four-place k i 3 (lit< tt), four-is k (positionAt i))
+    omega (
+      arith,
+      ap (balanceAt k) first,
+      four-place k i 0 (lit< tt),
+      four-place k i 1 (lit< tt),
+      four-place k i 2 (lit< tt),
+      four-place k i 3 (lit< tt),
+      four-is k (positionAt i),
+    )
 
 -- the first 568 of a longer list
 module _ (k : Contents) (rest : List ℕ) where
@@ -99,7 +106,8 @@ module _ (k : Contents) (rest : List ℕ) where
     shares-in = sumWhere-ext everywhere _ (balanceAt k) subBalanceCount balance-in ∙ balanceAt-total k v
 
     four-in : (i : ℕ) → i < 9
-        → balanceIn (numbers k ++ rest) (4 * i) + balanceIn (numbers k ++ rest) (4 * i + 1) + balanceIn (numbers k ++ rest) (4 * i + 2) + balanceIn (numbers k ++ rest) (4 * i + 3)
+        → balanceIn (numbers k ++ rest) (4 * i) + balanceIn (numbers k ++ rest) (4 * i + 1) + balanceIn (numbers k ++ rest) (4 * i + 2) + balanceIn
+        (numbers k ++ rest) (4 * i + 3)
         ≡ cell k (positionAt i .balance)
     four-in i h =
         rw (balance-in (4 * i) (omega arith), balance-in (4 * i + 1) (omega arith), balance-in (4 * i + 2) (omega arith), balance-in (4 * i + 3) (omega arith))

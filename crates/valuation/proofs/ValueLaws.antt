@@ -52,8 +52,17 @@ pub all-width : (k : Contents) → Valid k → (scenario : ℕ)
     → 250 * totalBy up everywhere k scenario ≤ 250 * totalBy down everywhere k scenario + (cell k totalCell + 18000)
 unfolding totalBy
 all-width k v scenario =
-    omega
-    (arith, sumWhere-mono everywhere (λ (i : ℕ). 250 * u i) (λ (i : ℕ). 250 * l i + (b i + 500)) subBalanceCount (valueAt-width k v scenario), sumWhere-mul 250 everywhere u subBalanceCount, sumWhere-mul 250 everywhere l subBalanceCount, sumWhere-add everywhere (λ (i : ℕ). 250 * l i) (λ (i : ℕ). b i + 500) subBalanceCount, sumWhere-add everywhere b (λ (_ : ℕ). 500) subBalanceCount, constant-sum 500 subBalanceCount, balanceAt-total k v)
+    omega (
+      arith,
+      sumWhere-mono everywhere (λ (i : ℕ). 250 * u i) (λ (i : ℕ). 250 * l i + (b i + 500)) subBalanceCount (valueAt-width k v scenario),
+      sumWhere-mul 250 everywhere u subBalanceCount,
+      sumWhere-mul 250 everywhere l subBalanceCount,
+      sumWhere-add everywhere (λ (i : ℕ). 250 * l i)
+          (λ (i : ℕ). b i + 500) subBalanceCount,
+      sumWhere-add everywhere b (λ (_ : ℕ). 500) subBalanceCount,
+      constant-sum 500 subBalanceCount,
+      balanceAt-total k v,
+    )
   where
     u : ℕ → ℕ
     u = valueAt up k scenario

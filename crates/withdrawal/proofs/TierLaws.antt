@@ -71,7 +71,8 @@ module _ (t : WithdrawalTiers) (g : ℤ) (k : ℕ) where
       (u .survival-is i h ∙ ap survival (sym (withdrawal-from-reached i h e) ∙ withdrawal-from-none i (le-of-lt h) none))
 
   -- the survival where none is reached
-  pub tier-survival-none : Usable t → (i : ℕ) → t .count ≤ i → i ≤ t .count → NoneBefore t g k i → tierSurvival t i ≡ survival (annualWithdrawal (tierTable t) g k)
+  pub tier-survival-none : Usable t → (i : ℕ) → t .count ≤ i → i ≤ t .count → NoneBefore t g k i → tierSurvival t i
+      ≡ survival (annualWithdrawal (tierTable t) g k)
   unfolding tierSurvival
   tier-survival-none u i h l none =
       rw (le-ltb i (t .count) h)

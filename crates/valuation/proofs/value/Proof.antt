@@ -22,14 +22,18 @@ returns-2 : tie.Need-returns-2
 returns-2 c =
     let s = c .before .before .before .before .before .before in
     let read = c .before .before .read in
-    refused-filing (s .args .filing .now) (s .args .numbers .now) (c .before .before .before .if1 .left) (read .result .answer) (read .ensures .0) (λ e. c .if2 .taken (c .before .number .ensures ∙ e))
+    refused-filing (s .args .filing .now) (s .args .numbers .now) (c .before .before .before .if1 .left) (read .result .answer) (read .ensures .0)
+    (λ e. c .if2 .taken (c .before .number .ensures ∙ e))
 
 value-contents-requires : tie.Need-value-contents-requires
 value-contents-requires c κs =
     let s = c .before .before .before .before .before .before .before in
     let read = c .before .before .before .read in
-    let long = c .before .before .before .before .if1 .left in
-    (rw (read .ensures .1) (read-valid (s .args .filing .now) (s .args .numbers .now) long (read .result .answer) (read .ensures .0) (sym (c .before .before .number .ensures) ∙ c .before .if2 .left)), long)
+    let long = c .before .before .before .before .if1 .left in (
+      rw (read .ensures .1) (read-valid (s .args .filing .now) (s .args .numbers .now) long (read .result .answer) (read .ensures .0)
+          (sym (c .before .before .number .ensures) ∙ c .before .if2 .left)),
+      long,
+    )
 
 same-length : tie.Need-same-length
 same-length c = search needs
@@ -38,7 +42,8 @@ returns-3 : tie.Need-returns-3
 returns-3 c =
     let s = c .before .before .before .before .before .before .before .before .before .before in
     let read = c .before .before .before .before .before .before .read in
-    valued-filing (s .args .filing .now) (s .args .numbers .now) (c .before .before .before .before .before .before .before .if1 .left) (read .result .answer) (read .ensures .0)
+    valued-filing (s .args .filing .now) (s .args .numbers .now) (c .before .before .before .before .before .before .before .if1 .left)
+    (read .result .answer) (read .ensures .0)
     (sym (c .before .before .before .before .before .number .ensures) ∙ c .before .before .before .before .if2 .left) _
     (c .before .before .value-contents .ensures ∙ ap (λ (k : Contents). numbers k ++ drop numberCount (s .args .numbers .now)) (read .ensures .1))
 

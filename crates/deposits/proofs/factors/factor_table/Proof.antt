@@ -122,7 +122,8 @@ loop-again c =
     let loop = c .before .before .loop in (
       omega arith,
       simp length-set (loop .inv .1),
-      seven-stored (factorAt (roundingOf (a .up)) (a .yields .now) (a .longest)) (loop .factors) (c .month-factors .result) (loop .month) (loop .inv .1) (omega arith)
+      seven-stored (factorAt (roundingOf (a .up)) (a .yields .now) (a .longest)) (loop .factors) (c .month-factors .result) (loop .month)
+          (loop .inv .1) (omega arith)
           (loop .inv .2) (c .month-factors .ensures),
     )
 

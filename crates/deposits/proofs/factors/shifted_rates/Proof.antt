@@ -39,7 +39,12 @@ loop-less : tie.Need-loop-less Inv-loop μ-loop
 loop-less c = omega arith
 
 loop-again : tie.Need-loop-again Inv-loop μ-loop
-loop-again c = (omega arith, fill-more _ 0 7 _ _ _ (omega arith) (c .shifted .ensures ∙ ap (λ (s : ℕ). shiftedRate s (c .before .before .before .before .args .rate)) (c .before .new .ensures)) (c .before .before .before .loop .inv .1))
+loop-again c = (
+  omega arith,
+  fill-more _ 0 7 _ _ _ (omega arith)
+      (c .shifted .ensures ∙ ap (λ (s : ℕ). shiftedRate s (c .before .before .before .before .args .rate)) (c .before .new .ensures))
+      (c .before .before .before .loop .inv .1),
+)
 
 returns : tie.Need-returns Inv-loop μ-loop
 unfolding shiftedRates

@@ -14,7 +14,8 @@ use Rattle.deposits.proofs.prices.price_of.Tie as tie
 
 abbrev Inv-loop : tie.InvT-loop
 Inv-loop d tiers lower upper scenario growth servicing months low₀ high₀ tier₀ t₀ low high tier t =
-    (t ≤ d .months) × (low ≡ runBy down (termsOf (tierTable tiers) d) (listed lower scenario) t) × (high ≡ runBy up (termsOf (tierTable tiers) d) (listed upper scenario) t)
+    (t ≤ d .months) × (low ≡ runBy down (termsOf (tierTable tiers) d) (listed lower scenario) t)
+    × (high ≡ runBy up (termsOf (tierTable tiers) d) (listed upper scenario) t)
     × (tier ≤ tiers .count) × NoneUpTo tiers (d .coupon) (d .penalty) (d .rate) (d .months - t) tier
 
 abbrev μ-loop : tie.MeasureT-loop
@@ -55,9 +56,13 @@ element-copy-out-next-month c = omega arith
 
 next-month-requires : tie.Need-next-month-requires Inv-loop μ-loop
 next-month-requires c κs =
-    month-small down (tierTable (c .before .before .before .before .before .before .args .tiers)) (c .before .before .before .before .before .before .args .d) (c .before .before .before .before .before .before .args .lower .now) (c .before .before .before .before .before .before .args .scenario) (c .before .before .before .loop .t) (c .before .before .before .before .servicing-cost .result)
-    (c .before .month-survival .result .survival) _ (c .before .before .before .loop .low) (c .before .before .before .before .servicing-cost .ensures) (c .before .month-survival .ensures .0)
-    refl (c .before .before .before .loop .inv .1) (c .before .before .before .before .before .before .pre .0 .0) (c .before .before .before .before .before .before .pre .1 .0) (c .before .before .loop-test .taken)
+    let start = c .before .before .before .before .before .before in
+    let a = start .args in
+    let state = c .before .before .before .loop in
+    let cost = c .before .before .before .before .servicing-cost in
+    let month = c .before .month-survival in
+    month-small down (tierTable (a .tiers)) (a .d) (a .lower .now) (a .scenario) (state .t) (cost .result) (month .result .survival) _ (state .low)
+    (cost .ensures) (month .ensures .0) refl (state .inv .1) (start .pre .0 .0) (start .pre .1 .0) (c .before .before .loop-test .taken)
 
 mul-next-month-2 : tie.Need-mul-next-month-2 Inv-loop μ-loop
 mul-next-month-2 c = omega arith
@@ -67,9 +72,13 @@ element-copy-out-next-month-2 c = omega arith
 
 next-month-requires-2 : tie.Need-next-month-requires-2 Inv-loop μ-loop
 next-month-requires-2 c κs =
-    month-small up (tierTable (c .before .before .before .before .before .before .before .before .args .tiers)) (c .before .before .before .before .before .before .before .before .args .d) (c .before .before .before .before .before .before .before .before .args .upper .now) (c .before .before .before .before .before .before .before .before .args .scenario) (c .before .before .before .before .before .loop .t) (c .before .before .before .before .before .before .servicing-cost .result)
-    (c .before .before .before .month-survival .result .survival) _ (c .before .before .before .before .before .loop .high) (c .before .before .before .before .before .before .servicing-cost .ensures) (c .before .before .before .month-survival .ensures .0)
-    refl (c .before .before .before .before .before .loop .inv .2) (c .before .before .before .before .before .before .before .before .pre .0 .0) (c .before .before .before .before .before .before .before .before .pre .1 .1) (c .before .before .before .before .loop-test .taken)
+    let start = c .before .before .before .before .before .before .before .before in
+    let a = start .args in
+    let state = c .before .before .before .before .before .loop in
+    let cost = c .before .before .before .before .before .before .servicing-cost in
+    let month = c .before .before .before .month-survival in
+    month-small up (tierTable (a .tiers)) (a .d) (a .upper .now) (a .scenario) (state .t) (cost .result) (month .result .survival) _ (state .high)
+    (cost .ensures) (month .ensures .0) refl (state .inv .2) (start .pre .0 .0) (start .pre .1 .1) (c .before .before .before .before .loop-test .taken)
 
 add-t : tie.Need-add-t Inv-loop μ-loop
 add-t c = omega arith
@@ -86,10 +95,12 @@ loop-again c =
     let month = c .before .before .before .before .month-survival in (
       omega arith,
       c .before .before .next-month .ensures ∙
-          month-on down (tierTable (a .tiers)) (a .d) (a .lower .now) (a .scenario) (l .t) (cost .result) (month .result .survival) _ (l .low) (cost .ensures) (month .ensures .0)
+          month-on down (tierTable (a .tiers)) (a .d) (a .lower .now) (a .scenario) (l .t) (cost .result) (month .result .survival) _ (l .low)
+          (cost .ensures) (month .ensures .0)
           refl (l .inv .1),
       c .next-month2 .ensures ∙
-          month-on up (tierTable (a .tiers)) (a .d) (a .upper .now) (a .scenario) (l .t) (cost .result) (month .result .survival) _ (l .high) (cost .ensures) (month .ensures .0)
+          month-on up (tierTable (a .tiers)) (a .d) (a .upper .now) (a .scenario) (l .t) (cost .result) (month .result .survival) _ (l .high)
+          (cost .ensures) (month .ensures .0)
           refl (l .inv .2),
       month .ensures .1 .0,
       month .ensures .1 .1,

@@ -31,7 +31,8 @@ returns c = search needs
 
 -- where the entry that was found starts and ends
 within : (c : tie.After-known-told Inv-loop μ-loop)
-    → Within (c .before .before .before .before .before .before .before .args .input .now) (c .before .before .before .before .before .loop .at) (c .before .entry .given .0 .0)
+    → Within (c .before .before .before .before .before .before .before .args .input .now) (c .before .before .before .before .before .loop .at)
+    (c .before .entry .given .0 .0)
 within c = entry-within _ _ _ (sym (c .before .before .before .entry-at .ensures) ∙ c .before .entry .given .1)
 
 sub-print-entry : tie.Need-sub-print-entry Inv-loop μ-loop

@@ -27,7 +27,8 @@ returns c =
     let value = c .before .before .before .before .cell-value in
     let call = c .before .before .before .left-after in
     left-above (a .k) (a .column) (a .n) (c .before .left .given .0 .0)
-    (sym (value .ensures) ∙ amount-left (value .result) (sum (columnBalances (a .k) (a .column))) (c .before .left .given .0 .0) (sym (call .ensures) ∙ c .before .left .given .1))
+    (sym (value .ensures) ∙ amount-left (value .result) (sum (columnBalances (a .k) (a .column))) (c .before .left .given .0 .0)
+    (sym (call .ensures) ∙ c .before .left .given .1))
 
 returns-2 : tie.Need-returns-2
 returns-2 c =

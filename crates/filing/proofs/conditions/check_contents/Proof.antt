@@ -24,7 +24,12 @@ returns : tie.Need-returns
 unfolding contentsVerdict
 returns c =
     c .first-refusal2 .ensures
-    ∙ rw (c .before .first-refusal .ensures, c .before .before .check-total .ensures, c .before .before .before .check-columns .ensures, c .before .before .before .before .check-months .ensures)
+    ∙ rw (
+      c .before .first-refusal .ensures,
+      c .before .before .check-total .ensures,
+      c .before .before .before .check-columns .ensures,
+      c .before .before .before .before .check-months .ensures,
+    )
 
 pub check-contents-spec : {M : Type 1} → statement M
 check-contents-spec =

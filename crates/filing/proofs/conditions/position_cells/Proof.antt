@@ -22,8 +22,13 @@ most-months-requires c κs = search needs
 returns : tie.Need-returns
 unfolding positionCells
 returns c =
-    simp
-    (c .before .before .before .before .balance-cell .ensures, c .before .before .before .months-cell .ensures, c .before .before .column-of .ensures, c .before .least-months .ensures, c .most-months .ensures)
+    simp (
+      c .before .before .before .before .balance-cell .ensures,
+      c .before .before .before .months-cell .ensures,
+      c .before .before .column-of .ensures,
+      c .before .least-months .ensures,
+      c .most-months .ensures,
+    )
 
 pub position-cells-spec : {M : Type 1} → statement M
 position-cells-spec =

@@ -37,7 +37,12 @@ loop-again : tie.Need-loop-again Inv-loop μ-loop
 loop-again c =
     let start = c .before .before .before .before .before .before in (
       omega arith,
-      rw (c .next-factors .ensures, c .before .before .before .before .loop .inv .1, c .before .before .before .before .before .multipliers-of .ensures, add-one)
+      rw (
+        c .next-factors .ensures,
+        c .before .before .before .before .loop .inv .1,
+        c .before .before .before .before .before .multipliers-of .ensures,
+        add-one,
+      )
           (discounts-suc (roundingOf (start .args .up)) (start .args .rates .now) (c .before .before .before .before .loop .counter) (start .pre)),
     )
 

@@ -29,14 +29,23 @@ add-t16 c = search needs
 returns : tie.Need-returns
 unfolding nextBalance nextFlow nextRun
 returns c =
-    simp
-    (c .before .before .if1 .taken, c .before .discounted .ensures .0, c .before .before .before .outflow-of .ensures .0, c .before .before .before .before .next-balance .ensures .0)
+    simp (
+      c .before .before .if1 .taken,
+      c .before .discounted .ensures .0,
+      c .before .before .before .outflow-of .ensures .0,
+      c .before .before .before .before .next-balance .ensures .0,
+    )
 
 returns-2 : tie.Need-returns-2
 unfolding nextBalance nextFlow nextRun
 returns-2 c =
-    simp
-    (c .before .before .if1 .left, c .before .discounted2 .ensures .0, c .before .before .before .outflow-of .ensures .0, c .before .before .before .before .next-balance .ensures .0, add-zero)
+    simp (
+      c .before .before .if1 .left,
+      c .before .discounted2 .ensures .0,
+      c .before .before .before .outflow-of .ensures .0,
+      c .before .before .before .before .next-balance .ensures .0,
+      add-zero,
+    )
 
 pub next-month-spec : {M : Type 1} → statement M
 next-month-spec =

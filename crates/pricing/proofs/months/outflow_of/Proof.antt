@@ -31,7 +31,8 @@ returns : tie.Need-returns
 returns c = (
   c .quotient .ensures,
   rw (c .quotient .ensures)
-      (quotient-le (roundingOf (c .before .args .up)) (c .before .args .balance * (c .before .args .servicing + 1000000000 - c .before .args .survival)) 1000000000 4600000000 (lit< tt) (omega (arith, product-le (c .before)))),
+      (quotient-le (roundingOf (c .before .args .up)) (c .before .args .balance *
+      (c .before .args .servicing + 1000000000 - c .before .args .survival)) 1000000000 4600000000 (lit< tt) (omega (arith, product-le (c .before)))),
 )
 
 pub outflow-of-spec : {M : Type 1} → statement M

@@ -41,7 +41,8 @@ number-requires c κs = search needs
 -- the number that the code tests is the record's fault
 fault : (c : tie.After-number)
     → c .number .result
-    ≡ recordVerdict (c .before .before .before .before .before .before .before .before .args .s .now) (c .before .before .before .before .before .before .before .before .args .scanned .at) .number
+    ≡ recordVerdict (c .before .before .before .before .before .before .before .before .args .s .now)
+    (c .before .before .before .before .before .before .before .before .args .scanned .at) .number
 unfolding verdictOf
 fault c = c .number .ensures ∙ ap (λ (v : Verdict). v .number) (c .before .check-record .ensures)
 
@@ -49,7 +50,8 @@ returns : tie.Need-returns
 returns c =
     let start = c .before .before .before .before .before .before .before .before .before in
     let r = stands (c .before .before .before .before .before) in
-    visited-faulty (start .args .s .now) (start .args .scanned .first) (start .args .scanned .at) (r .within) _ (c .before .before .check-record .ensures) (λ e. c .if1 .taken (fault (c .before) ∙ e))
+    visited-faulty (start .args .s .now) (start .args .scanned .first) (start .args .scanned .at) (r .within) _
+    (c .before .before .check-record .ensures) (λ e. c .if1 .taken (fault (c .before) ∙ e))
 
 record-place-requires : tie.Need-record-place-requires
 record-place-requires c κs =
@@ -57,7 +59,8 @@ record-place-requires c κs =
 
 -- the record is faultless
 no-fault : (c : tie.After-record-place)
-    → recordVerdict (c .before .before .before .before .before .before .before .before .before .before .args .s .now) (c .before .before .before .before .before .before .before .before .before .before .args .scanned .at) .number
+    → recordVerdict (c .before .before .before .before .before .before .before .before .before .before .args .s .now)
+    (c .before .before .before .before .before .before .before .before .before .before .args .scanned .at) .number
     ≡ 0
 no-fault c = sym (fault (c .before .before)) ∙ c .before .if1 .left
 

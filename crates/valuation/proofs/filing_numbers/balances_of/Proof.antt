@@ -37,8 +37,11 @@ loop-less : tie.Need-loop-less Inv-loop μ-loop
 loop-less c = omega arith
 
 loop-again : tie.Need-loop-again Inv-loop μ-loop
-loop-again c =
-    (omega arith, fill-more (λ (j : ℕ). getD (c .before .before .before .args .t1) j noPlace .balance) 0 36 (c .before .before .loop .i) (c .before .before .loop .balances) _ (omega arith) refl (c .before .before .loop .inv .1))
+loop-again c = (
+  omega arith,
+  fill-more (λ (j : ℕ). getD (c .before .before .before .args .t1) j noPlace .balance) 0 36 (c .before .before .loop .i)
+      (c .before .before .loop .balances) _ (omega arith) refl (c .before .before .loop .inv .1),
+)
 
 returns : tie.Need-returns Inv-loop μ-loop
 unfolding balancesIn

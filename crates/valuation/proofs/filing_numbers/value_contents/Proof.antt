@@ -42,7 +42,9 @@ returns c =
     let places = c .before .before .before .before .before .before .before .before .before .before .before .before .places-of in
     let balances = c .before .before .before .before .before .before .before .before .before .balances-of in
     c .before .before .write-numbers .ensures ∙
-    ap (λ (l : List ℕ). l ++ drop numberCount (s .args .list .now)) (numbers-are (s .args .k) (places .result) (balances .result) (values .result .lower) (values .result .upper) (places .ensures) (balances .ensures) (values .ensures .0) (values .ensures .1))
+    ap (λ (l : List ℕ). l ++ drop numberCount (s .args .list .now))
+    (numbers-are (s .args .k) (places .result) (balances .result) (values .result .lower) (values .result .upper) (places .ensures)
+    (balances .ensures) (values .ensures .0) (values .ensures .1))
 
 pub value-contents-spec : {M : Type 1} → statement M
 value-contents-spec =

@@ -34,7 +34,8 @@ loop-less c = omega arith
 loop-again : tie.Need-loop-again Inv-loop μ-loop
 loop-again c = (
   omega arith,
-  overwritten-suc _ (c .before .before .loop .i) (c .before .before .before .before .args .list .now) (c .before .before .loop .list) (c .number-at .result) (omega arith) (c .number-at .ensures) (c .before .before .loop .inv .1),
+  overwritten-suc _ (c .before .before .loop .i) (c .before .before .before .before .args .list .now) (c .before .before .loop .list)
+      (c .number-at .result) (omega arith) (c .number-at .ensures) (c .before .before .loop .inv .1),
 )
 
 same-length : tie.Need-same-length Inv-loop μ-loop

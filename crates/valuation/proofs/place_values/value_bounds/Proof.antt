@@ -22,14 +22,20 @@ price-of-requires c κs = search needs
 value-of-requires : tie.Need-value-of-requires
 unfolding listedPrices
 value-of-requires c κs =
-    let s = c .before .before in
-    (s .pre .0 .0, rw (c .price-of .ensures) (listed-price-limit down (tierTable (s .args .tiers)) (s .args .d) (s .args .lower .now) _ (s .pre .0 .1) (s .pre .1 .0)))
+    let s = c .before .before in (
+      s .pre .0 .0,
+      rw (c .price-of .ensures) (listed-price-limit down (tierTable (s .args .tiers)) (s .args .d) (s .args .lower .now) _ (s .pre .0 .1)
+          (s .pre .1 .0)),
+    )
 
 value-of-requires-2 : tie.Need-value-of-requires-2
 unfolding listedPrices
 value-of-requires-2 c κs =
-    let s = c .before .before .before in
-    (s .pre .0 .0, rw (c .before .price-of .ensures) (listed-price-limit up (tierTable (s .args .tiers)) (s .args .d) (s .args .upper .now) _ (s .pre .0 .1) (s .pre .1 .1)))
+    let s = c .before .before .before in (
+      s .pre .0 .0,
+      rw (c .before .price-of .ensures) (listed-price-limit up (tierTable (s .args .tiers)) (s .args .d) (s .args .upper .now) _
+          (s .pre .0 .1) (s .pre .1 .1)),
+    )
 
 returns-2 : tie.Need-returns-2
 unfolding listedPrices listedValue listedValues roundingOf

@@ -57,8 +57,18 @@ value-bounds-requires c κs =
     let scenario : i / 36 < 7 = omega arith in
     let place = ap (λ (ps : List SubBalance). getD ps (i % 36) noPlace) (s .pre .0 .1) ∙ place-is k (i % 36) at in
     let deposit = c .before .before .deposit-of .ensures ∙ deposit-is k (i / 36) (i % 36) _ place in (
-      (rw (s .pre .0 .1, place-is k (i % 36) at) (balanceAt-limit k (s .pre .0 .0) (i % 36) at), deposit-limits k (s .pre .0 .0) (i / 36) (i % 36) scenario at _ deposit, s .pre .1 .1, scenario),
-      (rw (c .before .before .before .before .before .before .before .before .before .before .before .factor-table .ensures) (factors-at-most-par _ _ _), rw (c .before .before .before .before .before .before .before .before .before .factor-table2 .ensures) (factors-at-most-par _ _ _)),
+      (
+        rw (s .pre .0 .1, place-is k (i % 36) at) (balanceAt-limit k (s .pre .0 .0) (i % 36) at),
+        deposit-limits k (s .pre .0 .0) (i / 36) (i % 36) scenario at _ deposit,
+        s .pre .1 .1,
+        scenario,
+      ),
+      (
+        rw (c .before .before .before .before .before .before .before .before .before .before .before .factor-table .ensures)
+            (factors-at-most-par _ _ _),
+        rw (c .before .before .before .before .before .before .before .before .before .factor-table2 .ensures)
+            (factors-at-most-par _ _ _),
+      ),
     )
 
 mul-lower : tie.Need-mul-lower Inv-loop μ-loop
@@ -89,9 +99,12 @@ loop-again c =
     let at : l .i % 36 < 36 = omega arith in
     let place = ap (λ (ps : List SubBalance). getD ps (l .i % 36) noPlace) (s .pre .0 .1) ∙ place-is k (l .i % 36) at in
     let v = values-are k (s .pre .0 .0) (l .i / 36) (l .i % 36) (omega arith) at _ (tierTable (s .args .tiers)) _ _ _ (c .value-bounds .result)
-    (rw (s .pre .0 .1, place-is k (l .i % 36) at)) (s .pre .1 .0) (c .before .before .before .deposit-of .ensures ∙ deposit-is k (l .i / 36) (l .i % 36) _ place)
-    (c .before .before .before .before .before .before .before .before .before .before .before .before .factor-table .ensures ∙ ap (λ (n : ℕ). factorsBy down (k .yields) n) longest)
-    (c .before .before .before .before .before .before .before .before .before .before .factor-table2 .ensures ∙ ap (λ (n : ℕ). factorsBy up (k .yields) n) longest) (c .value-bounds .ensures) in (
+    (rw (s .pre .0 .1, place-is k (l .i % 36) at)) (s .pre .1 .0)
+    (c .before .before .before .deposit-of .ensures ∙ deposit-is k (l .i / 36) (l .i % 36) _ place)
+    (c .before .before .before .before .before .before .before .before .before .before .before .before .factor-table .ensures
+    ∙ ap (λ (n : ℕ). factorsBy down (k .yields) n) longest)
+    (c .before .before .before .before .before .before .before .before .before .before .factor-table2 .ensures
+    ∙ ap (λ (n : ℕ). factorsBy up (k .yields) n) longest) (c .value-bounds .ensures) in (
       omega arith,
       fill-more (λ (j : ℕ). valueAt down k (j / 36) (j % 36)) 0 252 (l .i) (l .lower) _ (omega arith) (v .0) (l .inv .1),
       fill-more (λ (j : ℕ). valueAt up k (j / 36) (j % 36)) 0 252 (l .i) (l .upper) _ (omega arith) (v .1) (l .inv .2),
@@ -100,8 +113,10 @@ loop-again c =
 returns : tie.Need-returns Inv-loop μ-loop
 unfolding valuesBy
 returns c =
-    let e : c .before .loop .i ≡ 252 = omega arith in
-    (fill-all _ 0 252 (c .before .loop .lower) (rw e at (c .before .loop .inv .1)), fill-all _ 0 252 (c .before .loop .upper) (rw e at (c .before .loop .inv .2)))
+    let e : c .before .loop .i ≡ 252 = omega arith in (
+      fill-all _ 0 252 (c .before .loop .lower) (rw e at (c .before .loop .inv .1)),
+      fill-all _ 0 252 (c .before .loop .upper) (rw e at (c .before .loop .inv .2)),
+    )
 
 pub values-of-spec : {M : Type 1} → statement M
 values-of-spec =

@@ -10,7 +10,8 @@ use Rattle.valuation.proofs.totals.total.Statement.{statement}
 use Rattle.valuation.proofs.totals.total.Tie as tie
 
 abbrev Inv-loop : tie.InvT-loop
-Inv-loop values scenario long first sum₀ place₀ sum place = (place ≤ 36) × (sum ≤ 5 * 10 ^ 12 * place) × (sum ≡ sumWhere (inTotal long) (valueIn values scenario) place)
+Inv-loop values scenario long first sum₀ place₀ sum place = (place ≤ 36) × (sum ≤ 5 * 10 ^ 12 * place)
+    × (sum ≡ sumWhere (inTotal long) (valueIn values scenario) place)
 
 abbrev μ-loop : tie.MeasureT-loop
 μ-loop values scenario long first sum₀ place₀ sum place = 36 - place
@@ -34,7 +35,11 @@ element-copy-out-sum : tie.Need-element-copy-out-sum Inv-loop μ-loop
 element-copy-out-sum c = omega arith
 
 add-sum-2 : tie.Need-add-sum-2 Inv-loop μ-loop
-add-sum-2 c = omega (arith, c .before .before .before .before .before .pre .1 (36 * c .before .before .before .before .before .args .scenario + c .before .before .before .before .loop .place))
+add-sum-2 c = omega (
+  arith,
+  c .before .before .before .before .before .pre .1
+      (36 * c .before .before .before .before .before .args .scenario + c .before .before .before .before .loop .place),
+)
 
 add-place : tie.Need-add-place Inv-loop μ-loop
 add-place c = omega arith
@@ -44,9 +49,18 @@ loop-less c = omega arith
 
 loop-again : tie.Need-loop-again Inv-loop μ-loop
 loop-again c =
+    let a = c .before .before .before .before .args in
+    let state = c .before .before .before .loop in
     ⊎-elim
-    (λ w. omega (arith, total-suc (c .before .before .before .before .args .values .now) (c .before .before .before .before .args .scenario) (c .before .before .before .loop .place) (c .before .before .before .before .args .long) (sym (w .0 .taken) ∙ c .before .in-total .ensures), c .before .before .before .before .pre .1 (36 * c .before .before .before .before .args .scenario + c .before .before .before .loop .place)))
-    (λ w. omega (arith, total-suc (c .before .before .before .before .args .values .now) (c .before .before .before .before .args .scenario) (c .before .before .before .loop .place) (c .before .before .before .before .args .long) (sym (w .0 .left) ∙ c .before .in-total .ensures)))
+    (λ w. omega (
+      arith,
+      total-suc (a .values .now) (a .scenario) (state .place) (a .long) (sym (w .0 .taken) ∙ c .before .in-total .ensures),
+      c .before .before .before .before .pre .1 (36 * a .scenario + state .place),
+    ))
+    (λ w. omega (
+      arith,
+      total-suc (a .values .now) (a .scenario) (state .place) (a .long) (sym (w .0 .left) ∙ c .before .in-total .ensures),
+    ))
     (c .if1 .came)
 
 returns : tie.Need-returns Inv-loop μ-loop

@@ -47,7 +47,11 @@ returns c =
     record {
       gain-is = gain-difference _ _ _ _ (sub-t6 c);
       cost-is = refl;
-      small = record { earned-le = omega (arith, earned-le c); forfeited-le = omega (arith, penalty-le c); cost-le = omega (arith, mul-le-mul (c .pre .0) (c .pre .3)) };
+      small = record {
+        earned-le = omega (arith, earned-le c);
+        forfeited-le = omega (arith, penalty-le c);
+        cost-le = omega (arith, mul-le-mul (c .pre .0) (c .pre .3));
+      };
     }
 
 pub gain-and-cost-spec : {M : Type 1} → statement M

@@ -31,8 +31,12 @@ returns : tie.Need-returns Inv-loop μ-loop
 returns c =
     let s = c .before .before .before .before .before in
     let l = c .before .before .before .before .loop in
-    let h : l .i < s .args .t1 .count = search needs in
-    (l .inv .0, l .inv .1, tier-survival-reached (s .args .t1) (gainOf (s .args .incentive)) (s .args .incentive .cost) (s .pre .0 .0) (l .i) h (l .inv .1) (sym (c .before .reaches .ensures) ∙ c .if1 .taken))
+    let h : l .i < s .args .t1 .count = search needs in (
+      l .inv .0,
+      l .inv .1,
+      tier-survival-reached (s .args .t1) (gainOf (s .args .incentive)) (s .args .incentive .cost) (s .pre .0 .0) (l .i) h
+          (l .inv .1) (sym (c .before .reaches .ensures) ∙ c .if1 .taken),
+    )
 
 add-i : tie.Need-add-i Inv-loop μ-loop
 add-i c = search needs
@@ -48,8 +52,12 @@ loop-again c =
 returns-2 : tie.Need-returns-2 Inv-loop μ-loop
 returns-2 c =
     let s = c .before .before in
-    let l = c .before .loop in
-    (l .inv .0, l .inv .1, tier-survival-none (s .args .t1) (gainOf (s .args .incentive)) (s .args .incentive .cost) (s .pre .0 .0) (l .i) (c .loop-test .left) (l .inv .0) (l .inv .1))
+    let l = c .before .loop in (
+      l .inv .0,
+      l .inv .1,
+      tier-survival-none (s .args .t1) (gainOf (s .args .incentive)) (s .args .incentive .cost) (s .pre .0 .0) (l .i)
+          (c .loop-test .left) (l .inv .0) (l .inv .1),
+    )
 
 pub first-reached-spec : {M : Type 1} → statement M
 first-reached-spec =
