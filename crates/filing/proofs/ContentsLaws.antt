@@ -13,7 +13,7 @@ use Rattle.lists.specs.Tables.{tableFrom}
 use Rattle.lists.proofs.TableLaws.{tableFrom-getD, table-length}
 use Rattle.lists.proofs.FillLaws.{Filled}
 use Rattle.records.specs.Records.{recordValue, recordRate, firstWithKey}
-use Rattle.records.specs.Inner.Offsets.{offsetsBefore}
+use Rattle.records.specs.Inner.Offsets.{kindPlaces, cellsBase, offsetsBefore}
 use Rattle.records.proofs.ByteLaws.{number-past}
 use Rattle.records.proofs.OffsetLaws.{place-of-cell, place-of-kind, offsets-end}
 use Rattle.filing.specs.declared.Contents.{Contents}
@@ -38,10 +38,10 @@ value-past s f true e = refl
 value-past s f false e = number-past s (f + 6) 8 (omega (arith, ltb-false f (length s) e))
 
 -- the value at a cell's noted offset
-value-noted : (s : List ℕ) (n : ℕ) → 601 ≤ n → n < 662 → recordValue s (getD (offsetsBefore s (length s)) (n - 597) 0) ≡ cellValue s n
+value-noted : (s : List ℕ) (n : ℕ) → 601 ≤ n → n < 662 → recordValue s (getD (offsetsBefore s (length s)) (n - cellsBase) 0) ≡ cellValue s n
 unfolding cellValue cellOffset
 value-noted s n l u =
-    ap (recordValue s) (offsets-end s (n - 597) (omega arith) ∙ ap (λ (k : ℕ). firstWithKey s k (length s)) (place-of-cell n l))
+    ap (recordValue s) (offsets-end s (n - cellsBase) (omega arith) ∙ ap (λ (k : ℕ). firstWithKey s k (length s)) (place-of-cell n l))
     ∙ value-past s (cellOffset s n) (ltb (cellOffset s n) (length s)) refl
 
 -- tables of functions that agree are equal
@@ -52,7 +52,7 @@ table-eq base (suc n) f g h =
     rw (h base (omega arith) (omega arith), table-eq (suc base) n f g (λ j l u. h j (omega arith) (omega arith)))
 
 -- the noted offset of a kind of sheet
-pub sheet-noted : (s : List ℕ) (kind : ℕ) → kind < 4 → getD (offsetsBefore s (length s)) kind 0 ≡ sheetOffset s kind
+pub sheet-noted : (s : List ℕ) (kind : ℕ) → kind < kindPlaces → getD (offsetsBefore s (length s)) kind 0 ≡ sheetOffset s kind
 unfolding sheetOffset
 sheet-noted s kind h =
     offsets-end s kind (omega arith) ∙ ap (λ (k : ℕ). firstWithKey s k (length s)) (place-of-kind kind h)
@@ -62,6 +62,6 @@ pub contents-noted : (s : List ℕ) → contentsAt s (offsetsBefore s (length s)
 unfolding contentsAt cellsAt contentsOf
 contents-noted s =
     contents-eq
-    (table-eq 601 61 (λ (n : ℕ). recordValue s (getD (offsetsBefore s (length s)) (n - 597) 0)) (cellValue s) (value-noted s))
+    (table-eq 601 61 (λ (n : ℕ). recordValue s (getD (offsetsBefore s (length s)) (n - cellsBase) 0)) (cellValue s) (value-noted s))
     (ap (λ (at : ℕ). tableFrom 1 120 (recordRate s at)) (sheet-noted s 2 (lit< tt)))
     (ap (λ (at : ℕ). tableFrom 1 3 (recordRate s at)) (sheet-noted s 3 (lit< tt)))

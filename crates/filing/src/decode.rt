@@ -1,5 +1,7 @@
 // What a filing says, read from the noted offsets of its records.
 use crate::Contents;
+use records::KIND_PLACES;
+use records::OFFSET_COUNT;
 use records::fields::record_rate;
 use records::fields::record_value;
 ghost use mathlib.Core.Path.{_≡_};
@@ -9,7 +11,7 @@ ghost use Rattle.records.specs.Records.{recordRate};
 ghost use Rattle.filing.specs.Inner.ContentsAt.{cellsAt, contentsAt};
 
 // The cells, yields and rates at these offsets.
-pub(crate) fn contents_at(s: &[u8], first: &[usize; 65]) -> Contents
+pub(crate) fn contents_at(s: &[u8], first: &[usize; OFFSET_COUNT]) -> Contents
     ensures { λ r. ⌜ r ≡ contentsAt (now (s .entry)) (now (first .entry)) ⌝ }
 {
     let cells = cell_values(s, first);
@@ -25,13 +27,13 @@ pub(crate) fn contents_at(s: &[u8], first: &[usize; 65]) -> Contents
 }
 
 // The values of cells 601 to 661.
-fn cell_values(s: &[u8], first: &[usize; 65]) -> [u64; 61]
+fn cell_values(s: &[u8], first: &[usize; OFFSET_COUNT]) -> [u64; 61]
     ensures { λ r. ⌜ r ≡ cellsAt (now (s .entry)) (now (first .entry)) ⌝ }
 {
     let mut cells = [0; 61];
     let mut i = 0;
     while i < 61 {
-        let place = i + 4;
+        let place = i + KIND_PLACES;
         cells[i] = record_value(s, first[place]);
         i += 1;
     }

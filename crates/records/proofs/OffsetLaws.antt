@@ -16,26 +16,26 @@ use Rattle.schedule.specs.Limits.{cellClass}
 use Rattle.schedule.proofs.ClassLaws.{class-listed}
 use Rattle.records.specs.Records.{recordKind, recordCell, nextRecord, searchRecords, firstRecord, cellKey, kindKey, recordKey, firstWithKey}
 use Rattle.records.specs.Faults.{repeated}
-use Rattle.records.specs.Inner.Offsets.{offsetBefore, placeKey, recordPlace, offsetsBefore}
+use Rattle.records.specs.Inner.Offsets.{kindPlaces, cellsBase, offsetCount, offsetBefore, placeKey, recordPlace, offsetsBefore}
 use Rattle.records.proofs.FaultLaws.{Faultless}
 use Rattle.records.proofs.RecordVerdictLaws.{shaped-kind, cell-unlisted, cell-key, sheet-key}
 use Rattle.records.proofs.RecordLaws.{first-le}
 use Rattle.records.proofs.ScanLaws.{Reached, next-lt, first-next}
 
 -- the place of a cell and of a kind of sheet
-pub place-of-cell : (n : ℕ) → 601 ≤ n → placeKey (n - 597) ≡ cellKey n
+pub place-of-cell : (n : ℕ) → 601 ≤ n → placeKey (n - cellsBase) ≡ cellKey n
 unfolding placeKey
 place-of-cell n h =
-    let e : n - 597 + 597 ≡ n = omega arith in
-    simp (le-ltb (n - 597) 4 (omega arith), e)
+    let e : n - cellsBase + cellsBase ≡ n = omega arith in
+    simp (le-ltb (n - cellsBase) kindPlaces (omega arith), e)
 
 -- the place of a kind of sheet is its number
-pub place-of-kind : (k : ℕ) → k < 4 → placeKey k ≡ kindKey k
+pub place-of-kind : (k : ℕ) → k < kindPlaces → placeKey k ≡ kindKey k
 unfolding placeKey
-place-of-kind k h = simp (lt-ltb k 4 h)
+place-of-kind k h = simp (lt-ltb k kindPlaces h)
 
 -- no two places have one key
-place-key-injective : (i j : ℕ) (a b : Bool) → cond a (kindKey i) (cellKey (i + 597)) ≡ cond b (kindKey j) (cellKey (j + 597)) → i ≡ j
+place-key-injective : (i j : ℕ) (a b : Bool) → cond a (kindKey i) (cellKey (i + cellsBase)) ≡ cond b (kindKey j) (cellKey (j + cellsBase)) → i ≡ j
 unfolding cellKey kindKey
 place-key-injective i j true true e = omega arith
 place-key-injective i j true false e = absurd (omega arith)
@@ -44,10 +44,10 @@ place-key-injective i j false false e = omega arith
 
 place-injective : (i j : ℕ) → placeKey i ≡ placeKey j → i ≡ j
 unfolding placeKey
-place-injective i j e = place-key-injective i j (ltb i 4) (ltb j 4) e
+place-injective i j e = place-key-injective i j (ltb i kindPlaces) (ltb j kindPlaces) e
 
 -- the place of a record's key, for a cell and for a sheet
-pub cell-place : (s : List ℕ) (at : ℕ) → recordKind s at ≡ 1 → recordPlace s at ≡ recordCell s at - 597
+pub cell-place : (s : List ℕ) (at : ℕ) → recordKind s at ≡ 1 → recordPlace s at ≡ recordCell s at - cellsBase
 unfolding recordPlace
 cell-place s at k = simp (eq-eqb (recordKind s at) 1 k)
 
@@ -63,7 +63,7 @@ faultless-cell s at f k =
 
 -- a faultless record has a place among the offsets, which has the record's key
 pub record HasPlace (s : List ℕ) (at : ℕ) : Type 0 where
-  pub below : recordPlace s at < 65
+  pub below : recordPlace s at < offsetCount
   pub key : placeKey (recordPlace s at) ≡ recordKey s at
 
 -- by kind: a listed cell has a place among the cells, a sheet among the sheets
@@ -87,17 +87,17 @@ faultless-place s at f = by (eqb (recordKind s at) 1) refl
         }
 
 -- what is noted at a place
-offsets-at : (s : List ℕ) (at i : ℕ) → i < 65 → getD (offsetsBefore s at) i 0 ≡ offsetBefore s (placeKey i) at
+offsets-at : (s : List ℕ) (at i : ℕ) → i < offsetCount → getD (offsetsBefore s at) i 0 ≡ offsetBefore s (placeKey i) at
 unfolding offsetsBefore
 offsets-at s at i h =
-    tableFrom-getD 0 65 (λ (j : ℕ). offsetBefore s (placeKey j) at) i 0 h ∙ ap (λ (j : ℕ). offsetBefore s (placeKey j) at) (zero-add i)
+    tableFrom-getD 0 offsetCount (λ (j : ℕ). offsetBefore s (placeKey j) at) i 0 h ∙ ap (λ (j : ℕ). offsetBefore s (placeKey j) at) (zero-add i)
 
 within : (f at size : ℕ) (b : Bool) → ltb f at ≡ b → at ≤ size → ltb (cond b f size) size ≡ b
 within f at size true e h = lt-ltb f size (omega (arith, ltb-true f at e))
 within f at size false e h = le-ltb size size (le-refl size)
 
 -- an offset is noted at a record's place just where the record is repeated
-pub noted-repeated : (s : List ℕ) (at i : ℕ) → at ≤ length s → i < 65 → placeKey i ≡ recordKey s at
+pub noted-repeated : (s : List ℕ) (at i : ℕ) → at ≤ length s → i < offsetCount → placeKey i ≡ recordKey s at
     → ltb (getD (offsetsBefore s at) i 0) (length s) ≡ repeated s at
 unfolding offsetBefore repeated
 noted-repeated s at i l h k =
@@ -121,13 +121,13 @@ offset-next s key at r =
     (ltb (firstRecord s (λ (i : ℕ). eqb (recordKey s i) key) at) at) (eqb (recordKey s at) key) refl (omega (arith, next-lt s at)))
 
 -- reading begins with nothing noted
-pub offsets-start : (s : List ℕ) → replicate 65 (length s) ≡ offsetsBefore s 0
+pub offsets-start : (s : List ℕ) → replicate offsetCount (length s) ≡ offsetsBefore s 0
 unfolding offsetsBefore tableFrom offsetBefore firstWithKey firstRecord searchRecords
 offsets-start s = refl
 
-offsets-length : (s : List ℕ) (at : ℕ) → length (offsetsBefore s at) ≡ 65
+offsets-length : (s : List ℕ) (at : ℕ) → length (offsetsBefore s at) ≡ offsetCount
 unfolding offsetsBefore
-offsets-length s at = table-length 0 65 (λ (i : ℕ). offsetBefore s (placeKey i) at)
+offsets-length s at = table-length 0 offsetCount (λ (i : ℕ). offsetBefore s (placeKey i) at)
 
 module _ (s : List ℕ) (at : ℕ) (r : Reached s 0 at) (f : Faultless s at) where
   -- a faultless record is the first of its key, so its own offset is noted
@@ -142,7 +142,7 @@ module _ (s : List ℕ) (at : ℕ) (r : Reached s 0 at) (f : Faultless s at) whe
   unfolding offsetBefore
   noted-stays key h = sym (offset-next s key at r ∙ simp (ne-eqb (recordKey s at) key h))
 
-  noted-at : (i : ℕ) (b : Bool) → eqb i (recordPlace s at) ≡ b → i < 65
+  noted-at : (i : ℕ) (b : Bool) → eqb i (recordPlace s at) ≡ b → i < offsetCount
       → getD (set (offsetsBefore s at) (recordPlace s at) at) i 0 ≡ getD (offsetsBefore s (nextRecord s at)) i 0
   noted-at i true e h =
       let p = faultless-place s at f in
@@ -166,7 +166,7 @@ module _ (s : List ℕ) (at : ℕ) (r : Reached s 0 at) (f : Faultless s at) whe
       (λ i h. noted-at i (eqb i (recordPlace s at)) refl (omega (arith, size, offsets-length s at)))
 
 -- all records read: the first of each key
-pub offsets-end : (s : List ℕ) (i : ℕ) → i < 65 → getD (offsetsBefore s (length s)) i 0 ≡ firstWithKey s (placeKey i) (length s)
+pub offsets-end : (s : List ℕ) (i : ℕ) → i < offsetCount → getD (offsetsBefore s (length s)) i 0 ≡ firstWithKey s (placeKey i) (length s)
 unfolding offsetBefore firstWithKey
 offsets-end s i h =
     offsets-at s (length s) i h

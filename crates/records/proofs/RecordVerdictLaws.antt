@@ -13,12 +13,13 @@ use Rattle.answers.specs.Verdict.{accepted, refused, refusedIf, firstRefusal, f
 use Rattle.records.specs.Records.{recordLength, recordKind, recordCell, recordValue, nextRecord, recordKey, cellKey, kindKey}
 use Rattle.records.specs.Faults.{incomplete, kindLength, misshapen, unlisted, repeated, rateOver, sheetRates, overLimit}
 use Rattle.records.specs.RecordVerdicts.{recordVerdict}
+use Rattle.records.specs.Inner.Offsets.{kindPlaces}
 use Rattle.records.proofs.FaultLaws.{neither, shaped-length}
 
 -- a kind with a length that a complete record can have
-kind-known : (kind : ℕ) (b : Bool) → ltb kind 4 ≡ b → 2 ≤ kindLength kind → kind < 4
+kind-known : (kind : ℕ) (b : Bool) → ltb kind 4 ≡ b → 2 ≤ kindLength kind → kind < kindPlaces
 unfolding kindLength
-kind-known kind true e h = ltb-true kind 4 e
+kind-known kind true e h = omega (arith, ltb-true kind 4 e)
 kind-known kind false e h =
     absurd (omega (arith, List·getD-eq-default {A = ℕ} (0 ∷ 12 ∷ 242 ∷ 8 ∷ []) 0 {n = kind} (ltb-false kind 4 e)))
 
@@ -74,8 +75,8 @@ module _ (s : List ℕ) (at : ℕ) where
   unfolding misshapen
   length-misshapen h = simp (ne-eqb (recordLength s at) (kindLength (recordKind s at)) h)
 
-  -- the kind of a record that has its kind's length is 1, 2 or 3
-  pub shaped-kind : incomplete s at ≡ false → misshapen s at ≡ false → recordKind s at < 4
+  -- the kind of a record that has its kind's length has a place of its own
+  pub shaped-kind : incomplete s at ≡ false → misshapen s at ≡ false → recordKind s at < kindPlaces
   shaped-kind a b =
       kind-known (recordKind s at) (ltb (recordKind s at) 4) refl (omega (arith, complete-length a .1, shaped-length s at b))
 

@@ -12,7 +12,7 @@ use lib.Dec.{eqb}
 use lib.ListN.{length, set, replicate}
 use Rattle.answers.specs.Verdict.{Verdict, accepted}
 use Rattle.records.specs.Records.{nextRecord}
-use Rattle.records.specs.Inner.Offsets.{recordPlace, offsetsBefore}
+use Rattle.records.specs.Inner.Offsets.{offsetCount, recordPlace, offsetsBefore}
 use Rattle.records.specs.RecordVerdicts.{firstFaulty, recordVerdict, recordsVerdict}
 use Rattle.records.proofs.FaultLaws.{faultless, complete-ends}
 use Rattle.records.proofs.ScanLaws.{Reached, here, reached-next, Ahead, ahead-start, ahead-here, ahead-next, ahead-done}
@@ -34,7 +34,7 @@ pub record Scanned (s first : List ℕ) (verdict : Verdict) : Type 0 where
   pub offsets-are : first ≡ offsetsBefore s (firstFaulty s)
 
 -- start: nothing is read
-pub scanning-start : (s : List ℕ) → Scanning s (replicate 65 (length s)) 0
+pub scanning-start : (s : List ℕ) → Scanning s (replicate offsetCount (length s)) 0
 scanning-start s =
     record {
       within = omega arith;

@@ -1,5 +1,6 @@
 // The faults of one complete record: refusals 2 to 5, in the paper's order. Refusal 1 is an incomplete record, which the step tells.
-// The noted offsets have the kinds of sheet at places 0 to 3 and cells 601 to 661 at places 4 to 64.
+use crate::CELLS_BASE;
+use crate::OFFSET_COUNT;
 use crate::fields::record_cell;
 use crate::fields::record_rate;
 use crate::fields::record_value;
@@ -22,7 +23,7 @@ pub(crate) fn check_record(
     at: usize,
     kind: u16,
     length: usize,
-    first: &[usize; 65],
+    first: &[usize; OFFSET_COUNT],
 ) -> Answer
     requires { ⌜ incomplete (now s) at ≡ false ⌝ }
     requires { ⌜ kind ≡ recordKind (now s) at ⌝ }
@@ -41,7 +42,7 @@ pub(crate) fn check_record(
 }
 
 // The answer on a record of kind 1 that has its kind's length.
-fn check_cell(s: &[u8], at: usize, first: &[usize; 65]) -> Answer
+fn check_cell(s: &[u8], at: usize, first: &[usize; OFFSET_COUNT]) -> Answer
     requires { ⌜ (incomplete (now s) at ≡ false) × (misshapen (now s) at ≡ false) ⌝ }
     requires { ⌜ recordKind (now s) at ≡ 1 ⌝ }
     requires { ⌜ now first ≡ offsetsBefore (now s) at ⌝ }
@@ -52,7 +53,7 @@ fn check_cell(s: &[u8], at: usize, first: &[usize; 65]) -> Answer
     if class == 0 {
         return Answer::CellUnlisted(at);
     }
-    let place = (cell - 597) as usize;
+    let place = (cell - CELLS_BASE) as usize;
     if first[place] < s.len() {
         return Answer::Repeated(at);
     }
@@ -63,7 +64,7 @@ fn check_cell(s: &[u8], at: usize, first: &[usize; 65]) -> Answer
 }
 
 // The answer on a sheet of rates that has its kind's length.
-fn check_sheet(s: &[u8], at: usize, kind: usize, first: &[usize; 65]) -> Answer
+fn check_sheet(s: &[u8], at: usize, kind: usize, first: &[usize; OFFSET_COUNT]) -> Answer
     requires { ⌜ (incomplete (now s) at ≡ false) × (misshapen (now s) at ≡ false) ⌝ }
     requires { ⌜ (kind ≡ recordKind (now s) at) × (kind ≡ 1 → ⊥) ⌝ }
     requires { ⌜ now first ≡ offsetsBefore (now s) at ⌝ }

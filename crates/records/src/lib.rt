@@ -8,6 +8,14 @@ pub mod reader;
 pub mod scan;
 mod steps;
 
+// The places among the offsets that the scan notes: the kinds of sheet, then the cells from 601 on. A cell's number is above its place by
+// `CELLS_BASE`.
+pub const KIND_PLACES: usize = 4;
+
+pub const CELLS_BASE: u64 = 597;
+
+pub const OFFSET_COUNT: usize = 65;
+
 // What stands at an offset of a filing.
 pub enum Step {
     // A complete record: its kind, its length (the bytes after the length itself), and the offset of the record after it.

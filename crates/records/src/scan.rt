@@ -1,4 +1,6 @@
 // The records of a filing, front to back.
+use crate::CELLS_BASE;
+use crate::OFFSET_COUNT;
 use crate::Step;
 use crate::faults::check_record;
 use crate::fields::record_cell;
@@ -17,7 +19,7 @@ ghost use Rattle.records.specs.Inner.Scans.{scanStart, Visited};
 // none. The records before `at` are read, and `going` says that the next one is to be read.
 pub struct Scanned {
     pub answer: Answer,
-    pub first: [usize; 65],
+    pub first: [usize; OFFSET_COUNT],
     pub at: usize,
     pub going: bool,
 }
@@ -43,7 +45,7 @@ fn start(size: usize) -> Scanned
 {
     Scanned {
         answer: Answer::Accepted,
-        first: [size; 65],
+        first: [size; OFFSET_COUNT],
         at: 0,
         going: true,
     }
@@ -99,7 +101,7 @@ fn record_place(s: &[u8], at: usize, kind: u16) -> usize
 {
     if kind == 1 {
         let cell = record_cell(s, at);
-        (cell - 597) as usize
+        (cell - CELLS_BASE) as usize
     } else {
         kind as usize
     }

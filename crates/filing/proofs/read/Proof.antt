@@ -11,7 +11,7 @@ use Rattle.answers.specs.declared.Answer.{Answer}
 use Rattle.answers.specs.declared.Answer.the-variants.{SheetMissing}
 use Rattle.answers.specs.Verdict.{Verdict, refused}
 use Rattle.answers.specs.Answers.{numberOf, verdictOf}
-use Rattle.records.specs.Inner.Offsets.{offsetsBefore}
+use Rattle.records.specs.Inner.Offsets.{kindPlaces, offsetsBefore}
 use Rattle.records.specs.RecordVerdicts.{recordsVerdict}
 use Rattle.records.proofs.PassedLaws.{records-passed}
 use Rattle.filing.specs.declared.Reading.{Reading}
@@ -64,7 +64,7 @@ noted : (c : tie.Else1)
 noted c = c .before .before .scan .ensures .1 ∙ ap (offsetsBefore (c .before .before .before .before .args .filing .now)) (records-passed _ (none c))
 
 -- the offset that the code has for a kind of sheet
-sheet-is : (c : tie.Else1) (kind : ℕ) → kind < 4
+sheet-is : (c : tie.Else1) (kind : ℕ) → kind < kindPlaces
     → getD (c .before .before .scan .result .first) kind 0 ≡ sheetOffset (c .before .before .before .before .args .filing .now) kind
 sheet-is c kind h = rw (noted c) (sheet-noted _ kind h)
 

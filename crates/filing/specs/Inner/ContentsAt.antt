@@ -4,11 +4,12 @@ use mathlib.Core.List.{List}
 use lib.ListN.{getD}
 use Rattle.lists.specs.Tables.{tableFrom}
 use Rattle.records.specs.Records.{recordValue, recordRate}
+use Rattle.records.specs.Inner.Offsets.{cellsBase}
 use Rattle.filing.specs.declared.Contents.{Contents}
 
 -- the cells from 601 on, each the value of the record at its noted offset
 unfoldable pub cellsAt : List ℕ → List ℕ → List ℕ
-cellsAt s first = tableFrom 601 61 (λ (n : ℕ). recordValue s (getD first (n - 597) 0))
+cellsAt s first = tableFrom 601 61 (λ (n : ℕ). recordValue s (getD first (n - cellsBase) 0))
 
 -- what the records at the noted offsets say
 unfoldable pub contentsAt : List ℕ → List ℕ → Contents

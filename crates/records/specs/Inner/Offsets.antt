@@ -11,14 +11,24 @@ use Rattle.records.specs.Records.{recordKind, recordCell, cellKey, kindK
 unfoldable pub offsetBefore : List ℕ → ℕ → ℕ → ℕ
 offsetBefore s key at = cond (ltb (firstWithKey s key at) at) (firstWithKey s key at) (length s)
 
--- the key of a place among the offsets: the sheets by kind up to 3, then the cells from 601 on
+-- The places among the offsets: the kinds of sheet, then the 61 cells from 601 on. A cell's number is above its place by `cellsBase`
+abbrev pub kindPlaces : ℕ
+kindPlaces = 4
+
+abbrev pub cellsBase : ℕ
+cellsBase = 597
+
+abbrev pub offsetCount : ℕ
+offsetCount = 65
+
+-- the key of a place
 unfoldable pub placeKey : ℕ → ℕ
-placeKey i = cond (ltb i 4) (kindKey i) (cellKey (i + 597))
+placeKey i = cond (ltb i kindPlaces) (kindKey i) (cellKey (i + cellsBase))
 
 -- the place of a record's key
 unfoldable pub recordPlace : List ℕ → ℕ → ℕ
-recordPlace s at = cond (eqb (recordKind s at) 1) (recordCell s at - 597) (recordKind s at)
+recordPlace s at = cond (eqb (recordKind s at) 1) (recordCell s at - cellsBase) (recordKind s at)
 
 -- the offsets noted of the records before `at`
 unfoldable pub offsetsBefore : List ℕ → ℕ → List ℕ
-offsetsBefore s at = table 65 (λ (i : ℕ). offsetBefore s (placeKey i) at)
+offsetsBefore s at = table offsetCount (λ (i : ℕ). offsetBefore s (placeKey i) at)

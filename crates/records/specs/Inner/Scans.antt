@@ -10,12 +10,12 @@ use Rattle.answers.specs.Verdict.{accepted}
 use Rattle.answers.specs.Answers.{verdictOf}
 use Rattle.records.specs.declared.scan.Scanned.{Scanned}
 use Rattle.records.specs.Records.{nextRecord}
-use Rattle.records.specs.Inner.Offsets.{recordPlace}
+use Rattle.records.specs.Inner.Offsets.{offsetCount, recordPlace}
 use Rattle.records.specs.RecordVerdicts.{recordVerdict}
 
 -- before the first record of an input of `size` bytes: no record is noted
 unfoldable pub scanStart : ℕ → Scanned
-scanStart size = record { answer = Accepted; first = replicate 65 size; at = 0; going = true }
+scanStart size = record { answer = Accepted; first = replicate offsetCount size; at = 0; going = true }
 
 -- a record stands at the offset, and it has no fault
 unfoldable pub soundAt : List ℕ → ℕ → Bool

@@ -15,6 +15,7 @@ use Rattle.answers.specs.Verdict.{accepted, refused}
 use Rattle.answers.specs.Answers.{verdictOf}
 use Rattle.records.specs.Records.{recordCell, cellKey}
 use Rattle.records.specs.Faults.{unlisted, repeated, overLimit}
+use Rattle.records.specs.Inner.Offsets.{cellsBase}
 use Rattle.records.proofs.OffsetLaws.{place-of-cell, noted-repeated}
 use Rattle.records.proofs.RecordVerdictLaws as verdict
 use Rattle.records.proofs.faults.check_cell.Statement.{statement}
@@ -32,7 +33,7 @@ record Listed (c : tie.Else1) : Type 0 where
   to-661 : c .before .before .record-cell .result ≤ 661
   not-unlisted : unlisted (c .before .before .before .before .args .s .now) (c .before .before .before .before .args .at) ≡ false
   noted :
-      ltb (getD (c .before .before .before .before .args .first .now) (c .before .before .record-cell .result - 597) 0)
+      ltb (getD (c .before .before .before .before .args .first .now) (c .before .before .record-cell .result - cellsBase) 0)
       (length (c .before .before .before .before .args .s .now))
       ≡ repeated (c .before .before .before .before .args .s .now) (c .before .before .before .before .args .at)
 
@@ -53,7 +54,7 @@ listed c =
           (λ e. c .if1 .left (c .before .cell-class .ensures ∙ ap cellClass (c .before .before .record-cell .ensures) ∙ e));
       noted =
           rw (start .pre .1 .1)
-          (noted-repeated s at (n - 597) (omega (arith, verdict.complete-length s at (start .pre .0 .0) .0)) (omega (arith, l .1)) key);
+          (noted-repeated s at (n - cellsBase) (omega (arith, verdict.complete-length s at (start .pre .0 .0) .0)) (omega (arith, l .1)) key);
     }
 
 returns : tie.Need-returns

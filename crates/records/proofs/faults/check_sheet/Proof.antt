@@ -13,13 +13,14 @@ use Rattle.answers.specs.Verdict.{accepted, refused}
 use Rattle.answers.specs.Answers.{verdictOf}
 use Rattle.records.specs.Records.{kindKey}
 use Rattle.records.specs.Faults.{unlisted, repeated, overLimit}
+use Rattle.records.specs.Inner.Offsets.{kindPlaces}
 use Rattle.records.proofs.OffsetLaws.{place-of-kind, noted-repeated}
 use Rattle.records.proofs.RecordVerdictLaws as verdict
 use Rattle.records.proofs.faults.check_sheet.Statement.{statement}
 use Rattle.records.proofs.faults.check_sheet.Tie as tie
 
 -- the kind is 2 or 3
-known : (c : tie.Start) → c .args .kind < 4
+known : (c : tie.Start) → c .args .kind < kindPlaces
 known c = omega (arith, verdict.shaped-kind (c .args .s .now) (c .args .at) (c .pre .0 .0) (c .pre .0 .1), c .pre .1 .0 .0)
 
 -- the offset noted at the kind's place

@@ -4,6 +4,7 @@ use native.Mathlib.Omega.{arith}
 use mathlib.Core.Path.{sym, ap, _∙_}
 use Prim.Native.Nat.{ℕ, _-_}
 use borrow.Author.Needs.{needs}
+use Rattle.records.specs.Inner.Offsets.{cellsBase}
 use Rattle.records.proofs.FaultLaws.{faultless}
 use Rattle.records.proofs.OffsetLaws.{cell-place, sheet-place, faultless-cell}
 use Rattle.records.proofs.scan.record_place.Statement.{statement}
@@ -26,7 +27,7 @@ sub-result c =
 returns : tie.Need-returns
 returns c =
     let start = c .before .before .before in
-    ap (λ (n : ℕ). n - 597) (c .record-cell .ensures)
+    ap (λ (n : ℕ). n - cellsBase) (c .record-cell .ensures)
     ∙ sym (cell-place (start .args .s .now) (start .args .at) (sym (start .pre .0) ∙ c .before .if1 .taken))
 
 returns-2 : tie.Need-returns-2

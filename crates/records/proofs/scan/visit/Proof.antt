@@ -7,6 +7,7 @@ use borrow.Author.Needs.{needs}
 use Rattle.answers.specs.Answers.{verdictOf}
 use Rattle.answers.specs.Verdict.{Verdict, refused}
 use Rattle.records.specs.RecordVerdicts.{recordVerdict}
+use Rattle.records.specs.Inner.Offsets.{offsetCount}
 use Rattle.records.proofs.FaultLaws.{faultless}
 use Rattle.records.proofs.OffsetLaws.{faultless-place}
 use Rattle.records.proofs.RecordVerdictLaws.{verdict-incomplete}
@@ -64,7 +65,7 @@ no-fault : (c : tie.After-record-place)
     ≡ 0
 no-fault c = sym (fault (c .before .before)) ∙ c .before .if1 .left
 
-place-lt : (c : tie.After-record-place) → c .record-place .result < 65
+place-lt : (c : tie.After-record-place) → c .record-place .result < offsetCount
 place-lt c = omega (arith, faultless-place _ _ (faultless _ _ (no-fault c)) .below, c .record-place .ensures)
 
 mul-first : tie.Need-mul-first
