@@ -87,13 +87,15 @@ module _ {M : Type 1} (𝓤 : URA M) (H : Heap 𝓤) (A : Atoms 𝓤) (W : Given
       alloc1 ! (λ l₀. alloc1 ! (λ l₁. alloc1 ! (λ l₂. alloc1 ! (λ l₃. alloc1 ! (λ l₄. alloc1 ! (λ l₅. alloc1 ! (λ l₆. alloc1 ! (λ l₇. alloc1 ! (λ l₈. alloc0 ! $ params1 ! $
       pass1 ! (init ! 14 refl typed) $ pass0 ! $
       -- the reader is made of a copy of the bytes
-      move ! (18 ∷ []) $ use1 W (token 𝓤 κ q ⊛ ‵ (owns (ShrSlice (named 0) κ u8 ∷ []) (s, tt) (bytes-value s ∷ [], tt))) (id⊢ 𝓤 _) $ split ! $ move ! (1 ∷ []) $ fsplit ! $
+      move ! (18 ∷ []) $ use1 W (token 𝓤 κ q ⊛ ‵ (owns (ShrSlice (named 0) κ u8 ∷ []) (s, tt) (bytes-value s ∷ [], tt))) (id⊢ 𝓤 _) $ split ! $
+      move ! (1 ∷ []) $ fsplit ! $
       use1 W (‵ (OwnBytes κ s) ⊛ ‵ (OwnBytes κ s)) (bytes-twice 𝓤 H A W κ s) $ split ! $ move ! (0 ∷ 2 ∷ []) $ fjoin ! $ move ! (2 ∷ 0 ∷ []) $
       use2 W (raw (NewC 𝓤 H A mem run .pre (to-new 𝓤 H A mem run κ q s))) (asked-new 𝓤 H A W mem run κ q s) $
       calls-at ! fm (NewC 𝓤 H A mem run) (known .new) (to-new 𝓤 H A mem run κ q s) (and-then ! (load ! (from ! (stop !)) (look ! 16 refl)) (no-more !)) (λ u.
       returned ! tt new.ended (new.clauses 𝓤 H A mem run) (κ, tt) (s, tt) tt (token 𝓤 κ q) (Opened s) u (id⊢ 𝓤 _) (λ r ws. id⊢ 𝓤 _) (λ r opened is.
       land ! (from ! (stop !)) (init ! 15 refl (reader-typed 𝓤 H A W κ r u is)) $
-      rewrite ! 15 (λ (x : Val). ‵ (fat fullShare Reader-type l₂ 0 x)) (reader-value-is κ r u is) refl $ rewrite ! 0 (λ (x : Val). ‵ (OwnReader κ r x)) (reader-value-is κ r u is) refl $
+      rewrite ! 15 (λ (x : Val). ‵ (fat fullShare Reader-type l₂ 0 x)) (reader-value-is κ r u is) refl $
+      rewrite ! 0 (λ (x : Val). ‵ (OwnReader κ r x)) (reader-value-is κ r u is) refl $
       -- nothing is scanned yet
       assigns ! (of-opd ! (load ! (from ! (fld ! refl (stop !))) (look-in ! 17 (sub ! 1 refl (whole !))))) (from ! (stop !)) (init ! 9 refl (tt, typed .1 .1 .0)) $
       nothing ! $ owned ! usize (Is usize) (uint-makes 𝓤 H A W w64) (length (s .now)) _ (refl, typed .1 .1 .0 .fits) $ fjoin ! $ nothing ! $
@@ -101,7 +103,8 @@ module _ {M : Type 1} (𝓤 : URA M) (H : Heap 𝓤) (A : Atoms 𝓤) (W : Given
       calls-at ! fm (StartC 𝓤 H A mem run) (known .start) (to-start 𝓤 H A mem run (length (s .now))) (and-then ! (load ! (from ! (stop !)) (look ! 10 refl)) (no-more !)) (λ u′.
       returned ! tt start.ended (start.clauses 𝓤 H A mem run) tt (length (s .now), tt) tt (‵ ftrue) (λ k. k ≡ scanStart (length (s .now))) u′ (id⊢ 𝓤 _) (λ k ws. id⊢ 𝓤 _) (λ k e is′.
       land ! (from ! (stop !)) (init ! 15 refl (scanned-typed 𝓤 H A W k u′ is′)) $
-      rewrite ! 15 (λ (x : Val). ‵ (fat fullShare Scanned-type l₃ 0 x)) (scanned-value-is k u′ is′) refl $ rewrite ! 0 (λ (x : Val). ‵ (OwnScanned k x)) (scanned-value-is k u′ is′) refl $
+      rewrite ! 15 (λ (x : Val). ‵ (fat fullShare Scanned-type l₃ 0 x)) (scanned-value-is k u′ is′) refl $
+      rewrite ! 0 (λ (x : Val). ‵ (OwnScanned k x)) (scanned-value-is k u′ is′) refl $
       forget ! 11 refl $ move ! (1 ∷ 17 ∷ 15 ∷ 19 ∷ 9 ∷ 7 ∷ 13 ∷ 5 ∷ 2 ∷ 0 ∷ 4 ∷ 3 ∷ 21 ∷ 11 ∷ 22 ∷ 20 ∷ 18 ∷ 16 ∷ 14 ∷ 12 ∷ 10 ∷ 8 ∷ 6 ∷ []) $ drop ! $
       -- the loop
       first ! $ blocks ! $ by ! (looped 𝓤 H A W mem run κ q s 𝓣 fm (known .step) (known .visit) (known .moved) l₀ l₁ l₂ l₃ l₄ l₅ l₆ l₇ l₈ (started κ s r k (reader-is κ r u is) (scanned-is k u′ is′) opened e)))))))))))))))

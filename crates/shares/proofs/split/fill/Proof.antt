@@ -70,11 +70,13 @@ module _ {M : Type 1} (𝓤 : URA M) (H : Heap 𝓤) (A : Atoms 𝓤) (W : Given
   walk 𝓣 =
       qed W ((‵ (flft κ q) ⊛ ‵ ftrue) ∷ ‵ (owns (MutSlice (named 0) κ Place ∷ Places ∷ usize ∷ []) a args) ∷ []) ∵ enter ! (𝓣 .C) (𝓣 .Λ) code.function (s ∷ arr ∷ vint w64 m ∷ []) _ $
       alloc1 ! (λ l₀. alloc1 ! (λ l₁. alloc1 ! (λ l₂. alloc1 ! (λ l₃. alloc1 ! (λ l₄. alloc1 ! (λ l₅. alloc1 ! (λ l₆. alloc1 ! (λ l₇. alloc1 ! (λ l₈. alloc1 ! (λ l₉. alloc1 ! (λ l₁₀. alloc1 ! (λ l₁₁. alloc1 ! (λ l₁₂. alloc0 ! $ params1 ! $
-      pass1 ! (init ! 22 refl (tt, (tt, (record { fits = room .0 }, tt)))) $ pass1 ! (init ! 20 refl wt) $ pass1 ! (init ! 18 refl (tt, record { fits = m-fits })) $ pass0 ! $
+      pass1 ! (init ! 22 refl (tt, (tt, (record { fits = room .0 }, tt)))) $ pass1 ! (init ! 20 refl wt) $
+      pass1 ! (init ! 18 refl (tt, record { fits = m-fits })) $ pass0 ! $
       assigns ! (of-opd ! (load ! (from ! (stop !)) (look ! 20 refl))) (from ! (stop !)) (init ! 16 refl wt) $
       assigns ! (of-opd ! (lit ! tt)) (from ! (stop !)) (init ! 14 refl (tt, record { fits = lit< tt })) $
       -- the borrow is opened
-      move ! (27 ∷ []) $ fsplit ! $ fsplit ! $ pureL ! (at-slice Place x (s ∷ [])) (λ _. fsplit ! $ move ! (29 ∷ []) $ split ! $ move ! (2 ∷ 3 ∷ 0 ∷ []) $ opens-slice ! tt Place ys b o $
+      move ! (27 ∷ []) $ fsplit ! $ fsplit ! $
+      pureL ! (at-slice Place x (s ∷ [])) (λ _. fsplit ! $ move ! (29 ∷ []) $ split ! $ move ! (2 ∷ 3 ∷ 0 ∷ []) $ opens-slice ! tt Place ys b o $
       move ! (5 ∷ []) $ leave ! $ move ! (4 ∷ []) $ leave ! $
       -- the array's local, with what the array owns, is taken apart into its elements
       owned ! Places (Is Places) (places-makes 𝓤 H A W) fs (arr ∷ []) are $

@@ -167,10 +167,12 @@ module _ {M : Type 1} (𝓤 : URA M) (H : Heap 𝓤) (A : Atoms 𝓤) (W : Given
         move ! (17 ∷ []) $ fsplit ! $ move ! (1 ∷ []) $ fsplit ! $ move ! (1 ∷ []) $ leave ! $ move ! (1 ∷ []) $
         use1 W (‵ Own ⊛ ‵ Own) (shr-slice-copy 𝓤 H A W (named 0) κ₀ u8 .twice f (sf ∷ [])) $ split ! $
         -- [Own; Own; places; _7; …; the tokens]
-        move ! (19 ∷ []) $ split ! $ nothing ! $ move ! (1 ∷ 0 ∷ []) $ join ! $ move ! (0 ∷ 2 ∷ []) $ use2 W (raw (OutcomeFn 𝓤 H A at-mem run .pre to-outcome)) goes-outcome $
+        move ! (19 ∷ []) $ split ! $ nothing ! $ move ! (1 ∷ 0 ∷ []) $ join ! $ move ! (0 ∷ 2 ∷ []) $
+        use2 W (raw (OutcomeFn 𝓤 H A at-mem run .pre to-outcome)) goes-outcome $
         calls-at ! fm (OutcomeFn 𝓤 H A at-mem run) known-outcome to-outcome (and-then ! (load ! (from ! (stop !)) (look ! 16 refl)) (and-then ! (load ! (from ! (stop !)) (look ! 10 refl)) (no-more !))) (λ u.
         use1 W (later (some (λ (r : Outcome). ((‵ (flft κ₀ q₀) ⊛ ‵ ftrue) ⊛ ‵ (O.the-row .own r (u ∷ []))) ⊛ raw (ensured 𝓤 H A outcome-of.ended (outcome-of.clauses 𝓤 H A at-mem run) (κ₀, tt) (f, (length ys, tt)) tt r)))) (id⊢ 𝓤 _) $ await ! tt $ pick ! (λ r.
-        split ! $ move ! (1 ∷ []) $ use1 W (raw (fact 𝓤 (OutcomeOf (f .now) (length ys) r))) (outcome-said r) $ heard ! (OutcomeOf (f .now) (length ys) r) (λ e. split ! $ move ! (1 ∷ []) $
+        split ! $ move ! (1 ∷ []) $ use1 W (raw (fact 𝓤 (OutcomeOf (f .now) (length ys) r))) (outcome-said r) $
+        heard ! (OutcomeOf (f .now) (length ys) r) (λ e. split ! $ move ! (1 ∷ []) $
         peeks ! O.the-row (Is O.the-row) (shows 𝓤 H A O.the-row) r (u ∷ []) (λ is. leave ! $
         -- [κ₀'s token; κ₁'s; Own; what places owns; room for _7; …; _1; …; room for _0; …]
         land ! (from ! (stop !)) (init ! 12 refl (LL.lawful O.the-type O′.the-laws 𝓤 H A W .typed r _ is .0)) $
@@ -187,9 +189,12 @@ module _ {M : Type 1} (𝓤 : URA M) (H : Heap 𝓤) (A : Atoms 𝓤) (W : Given
         -- [κ₁'s token; the last list; κ₀'s token; Own; _7; …; _0; …]
         land ! (from ! (stop !)) (init ! 8 refl (subst (λ (v : Val). Holds (hasTy tyUnit v) × WT v) (sym (ap only ew)) (tt, tt))) $
         assigns ! (of-opd ! (load ! (from ! (fld ! refl (stop !))) (look-in ! 12 (sub ! 0 refl (whole !))))) (from ! (stop !)) (init ! 18 refl (EL.lawful N.the-type N′.the-laws 𝓤 H A W tt .typed (r .answer) _ (answer-is r u is) .0)) $
-        returns ! (look ! 18 refl) $ forget ! 4 refl $ forget ! 6 refl $ forget ! 8 refl $ forget ! 10 refl $ forget ! 12 refl $ forget ! 14 refl $ forget ! 16 refl $ forget ! 18 refl $
-        move ! (18 ∷ 19 ∷ []) $ free1 ! $ move ! (16 ∷ 17 ∷ []) $ free1 ! $ move ! (14 ∷ 15 ∷ []) $ free1 ! $ move ! (12 ∷ 13 ∷ []) $ free1 ! $ move ! (10 ∷ 11 ∷ []) $ free1 ! $ move ! (8 ∷ 9 ∷ []) $ free1 ! $ move ! (6 ∷ 7 ∷ []) $ free1 ! $ move ! (4 ∷ 5 ∷ []) $ free1 ! $ free0 ! $
-        split ! $ move ! (3 ∷ []) $ split ! $ keep ! (0 ∷ 2 ∷ 5 ∷ 4 ∷ []) $ by ! (exits r u is (zs .0) (outcome-written (f .now) ys r e (zs .0) e′) l)))))))))))))))))))
+        returns ! (look ! 18 refl) $ forget ! 4 refl $ forget ! 6 refl $ forget ! 8 refl $ forget ! 10 refl $ forget ! 12 refl $ forget ! 14 refl $
+        forget ! 16 refl $ forget ! 18 refl $
+        move ! (18 ∷ 19 ∷ []) $ free1 ! $ move ! (16 ∷ 17 ∷ []) $ free1 ! $ move ! (14 ∷ 15 ∷ []) $ free1 ! $ move ! (12 ∷ 13 ∷ []) $ free1 ! $
+        move ! (10 ∷ 11 ∷ []) $ free1 ! $ move ! (8 ∷ 9 ∷ []) $ free1 ! $ move ! (6 ∷ 7 ∷ []) $ free1 ! $ move ! (4 ∷ 5 ∷ []) $ free1 ! $ free0 ! $
+        split ! $ move ! (3 ∷ []) $ split ! $ keep ! (0 ∷ 2 ∷ 5 ∷ 4 ∷ []) $
+        by ! (exits r u is (zs .0) (outcome-written (f .now) ys r e (zs .0) e′) l)))))))))))))))))))
 
 module _ {M : Type 1} (𝓤 : URA M) (H : Heap 𝓤) (A : Atoms 𝓤) (W : Given 𝓤 H A) (at-mem : Memory → SProp 𝓤) (run : Routine → Fun 𝓤) (𝓣 : Tables 𝓤 H)
     (known-outcome : Triple 𝓤 (𝓣 .C #shares·outcome-of) (OutcomeFn 𝓤 H A at-mem run)) (known-fill : Triple 𝓤 (𝓣 .C #shares·fill) (FillFn 𝓤 H A at-mem run)) where

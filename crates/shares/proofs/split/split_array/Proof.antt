@@ -157,23 +157,27 @@ module _ {M : Type 1} (𝓤 : URA M) (H : Heap 𝓤) (A : Atoms 𝓤) (W : Given
         calls-at ! fm (SplitFn 𝓤 H A at-mem run) known (to-split α l₃ γ) (and-then ! (load ! (from ! (stop !)) (look ! 14 refl)) (and-then ! (load ! (from ! (stop !)) (look ! 5 refl)) (no-more !))) (λ u.
         use1 W (later (some (λ (r : Answer). ((‵ (flft κ q) ⊛ (‵ (flft (α ∷ []) fullShare) ⊛ ‵ ftrue)) ⊛ ‵ (N.the-row .own r (u ∷ []))) ⊛ raw (ensured 𝓤 H A split′.ended (split′.clauses 𝓤 H A at-mem run) (κ, (α ∷ [], tt)) (f, (x α l₃ γ, tt)) tt r)))) (id⊢ 𝓤 _) $ await ! tt $ pick ! (λ r.
         split ! $ move ! (1 ∷ []) $ use1 W (some (λ (zs : Unit {0} × (List SubBalance × Unit {0})). ‵ (lasts split′.ended (κ, (α ∷ [], tt)) (f, (x α l₃ γ, tt)) zs) ⊛ raw (fact 𝓤 (SplitOf (f .now) ys r (zs .1 .0))))) (id⊢ 𝓤 _) $ pick ! (λ zs.
-        split ! $ move ! (1 ∷ []) $ heard ! (SplitOf (f .now) ys r (zs .1 .0)) (λ e. fsplit ! $ leave ! $ fsplit ! $ fsplit ! $ move ! (1 ∷ []) $ feqL ! (λ same. move ! (1 ∷ []) $ leave ! $
+        split ! $ move ! (1 ∷ []) $ heard ! (SplitOf (f .now) ys r (zs .1 .0)) (λ e. fsplit ! $ leave ! $ fsplit ! $ fsplit ! $ move ! (1 ∷ []) $
+        feqL ! (λ same. move ! (1 ∷ []) $ leave ! $
         move ! (1 ∷ []) $ split ! $ move ! (1 ∷ []) $ peeks ! N.the-row (Is N.the-row) (shows 𝓤 H A N.the-row) r (u ∷ []) (λ is. leave ! $
         -- [the tokens; the last list; Own; the lender's part; _7; …; _4; …; (_3's right); _2; …; _1; …; room for _0; …]
         land ! (from ! (stop !)) (init ! 10 refl (EL.lawful N.the-type N′.the-laws 𝓤 H A W tt .typed r _ is .0)) $
         -- the lifetime is ended, and the array taken back
         split ! $ move ! (1 ∷ []) $ split ! $ lft-end ! tt $ move ! (0 ∷ 5 ∷ 3 ∷ []) $
-        use3 W (later (‵ (Arr (mem Place) (length ys) .lies (zs .1 .0) l₃ 0))) (slice-back 𝓤 H A W Place (α ∷ []) γ (zs .1 .0) (length ys) l₃ 0) $ await ! tt $ fsplit ! $ leave ! $
+        use3 W (later (‵ (Arr (mem Place) (length ys) .lies (zs .1 .0) l₃ 0))) (slice-back 𝓤 H A W Place (α ∷ []) γ (zs .1 .0) (length ys) l₃ 0) $
+        await ! tt $ fsplit ! $ leave ! $
         use1 W (‵ (row Place fullShare (zs .1 .0) l₃ 0)) (whole-out 𝓤 H A W Place (zs .1 .0) l₃ 0) $ feqI ! ℕ (length (zs .1 .0)) 36 (same ∙ long) $ fjoin ! $
         use1 W (‵ (partAt Places fullShare (zs .1 .0) l₃ 0)) (array-whole 𝓤 H A W Place fullShare 36 (zs .1 .0) l₃ 0) $
         fpick ! (λ vs. fsplit ! $ move ! (1 ∷ []) $ peeks ! Places (Is Places) (shows 𝓤 H A Places) (zs .1 .0) vs (λ zs-are. leave ! $
         rewrite ! 0 (λ (us : List Val). ‵ (cellAt fullShare (Places .mir) us l₃ 0)) (places-tells (zs .1 .0) vs zs-are) refl $
-        use1 W (‵ (fat fullShare (ty 3) l₃ 0 (only (placesVals (zs .1 .0))))) (W .laws .raw-at fullShare (ty 3) l₃ 0 (only (placesVals (zs .1 .0)))) $ move ! (1 ∷ []) $ leave ! $
+        use1 W (‵ (fat fullShare (ty 3) l₃ 0 (only (placesVals (zs .1 .0))))) (W .laws .raw-at fullShare (ty 3) l₃ 0 (only (placesVals (zs .1 .0)))) $
+        move ! (1 ∷ []) $ leave ! $
         -- [_3; the token; Own; _7; …; _4; …; (_3's right); _2; …; _1; …; room for _0; …]
         assigns ! (of-opd ! (load ! (from ! (stop !)) (look ! 0 refl))) (from ! (stop !)) (init ! 3 refl (places-typed 𝓤 H A W (zs .1 .0) _ (places-spelt (zs .1 .0) vs zs-are))) $
         assigns ! (agg ! (and-then ! (load ! (from ! (stop !)) (look ! 9 refl)) (and-then ! (load ! (from ! (stop !)) (look ! 3 refl)) (no-more !)))) (from ! (stop !))
         (init ! 16 refl (LL.lawful L.the-type L′.the-laws 𝓤 H A W .typed (listed r u (zs .1 .0) _ is (places-spelt (zs .1 .0) vs zs-are)) _ (listed-is r u (zs .1 .0) _ is (places-spelt (zs .1 .0) vs zs-are)) .0)) $
-        returns ! (look ! 16 refl) $ forget ! 0 refl $ forget ! 3 refl $ forget ! 5 refl $ forget ! 7 refl $ forget ! 9 refl $ forget ! 12 refl $ forget ! 14 refl $ forget ! 16 refl $
+        returns ! (look ! 16 refl) $ forget ! 0 refl $ forget ! 3 refl $ forget ! 5 refl $ forget ! 7 refl $ forget ! 9 refl $ forget ! 12 refl $
+        forget ! 14 refl $ forget ! 16 refl $
         move ! (16 ∷ 17 ∷ []) $ free1 ! $ move ! (14 ∷ 15 ∷ []) $ free1 ! $ move ! (12 ∷ 13 ∷ []) $ free1 ! $ move ! (0 ∷ 11 ∷ []) $ free1 ! $
         move ! (8 ∷ 9 ∷ []) $ free1 ! $ move ! (6 ∷ 7 ∷ []) $ free1 ! $ move ! (4 ∷ 5 ∷ []) $ free1 ! $ move ! (2 ∷ 3 ∷ []) $ free1 ! $ free0 ! $
         by ! (exits r u (zs .1 .0) _ is (places-spelt (zs .1 .0) vs zs-are) e))))))))))))))))))))

@@ -59,7 +59,8 @@ module _ {M : Type 1} (𝓤 : URA M) (H : Heap 𝓤) (A : Atoms 𝓤) (W : Given
       qed W (token 𝓤 κ q ∷ ‵ (owns (TheReader (κ, tt) ∷ usize ∷ []) (r, (n, tt)) passed) ∷ []) ∵
       suffices ! _ (ends-at 𝓤 H A moved.ended stayed (moved.clauses 𝓤 H A mem run) W (((κ, tt), (q, tt), tt, (r, (n, tt)), passed), tt) (reader-value made) made (tt, (tt, tt)) (tt, (tt, tt))) $
       says ! (refl, refl) $ frame ! $ fsplit ! $
-      use1 W (‵ (OwnReader κ r (reader-value r)) ⊛ ‵ (OwnReader κ r (reader-value r))) (reader-twice 𝓤 H A W κ r (reader-value r)) $ split ! $ move ! (0 ∷ 2 ∷ []) $ fjoin ! $ frame ! $
+      use1 W (‵ (OwnReader κ r (reader-value r)) ⊛ ‵ (OwnReader κ r (reader-value r))) (reader-twice 𝓤 H A W κ r (reader-value r)) $ split ! $
+      move ! (0 ∷ 2 ∷ []) $ fjoin ! $ frame ! $
       -- [what the reader owns]: the number's facts take the place of the offset's
       owned ! usize (Is usize) (uint-makes 𝓤 H A W w64) n _ (refl, ok) $ move ! (1 ∷ 0 ∷ []) $
       by ! (own-put 𝓤 H A W (the-struct κ) (the-laws κ) 1 (r .bytes, (r .offset, tt)) n (reader-value r))

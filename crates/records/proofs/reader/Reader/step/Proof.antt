@@ -91,7 +91,8 @@ module _ {M : Type 1} (𝓤 : URA M) (H : Heap 𝓤) (A : Atoms 𝓤) (W : Given
       qed W (token 𝓤 κ q ∷ ‵ (owns (TheReader (κ, tt) ∷ []) (r, tt) (v ∷ [], tt)) ∷ []) ∵
       move ! (1 ∷ []) $ fsplit ! $ move ! (1 ∷ []) $ drop ! $
       use1 W (‵ (OwnReader κ r v) ⊛ ‵ (OwnReader κ r v)) (reader-twice 𝓤 H A W κ r v) $ split ! $
-      use1 W (given (v ∷ [] ≡ v ∷ []) (‵ (all-own (the-struct κ .parts) (the-laws κ) fields))) (own-open 𝓤 H A W (the-struct κ) (the-laws κ) fields v) $ learn ! (λ _.
+      use1 W (given (v ∷ [] ≡ v ∷ []) (‵ (all-own (the-struct κ .parts) (the-laws κ) fields))) (own-open 𝓤 H A W (the-struct κ) (the-laws κ) fields v) $
+      learn ! (λ _.
       use1 W (‵ (ownAt (the-struct κ .parts) (the-laws κ) 0 (r .bytes)) ⊛ ‵ (rest (the-struct κ .parts) (the-laws κ) 0 fields)) (own-out 𝓤 H A W (the-struct κ .parts) (the-laws κ) 0 fields) $ split ! $
       -- [what the slice owns; what the offset owns; what the reader owns; the token]
       move ! (1 ∷ []) $ drop ! $ nothing ! $ owned ! usize (Is usize) (uint-makes 𝓤 H A W w64) (r .offset) _ (refl, fits) $ fjoin ! $ move ! (1 ∷ 0 ∷ []) $ fjoin ! $
@@ -120,7 +121,8 @@ module _ {M : Type 1} (𝓤 : URA M) (H : Heap 𝓤) (A : Atoms 𝓤) (W : Given
         -- [the result; the token; what the reader owns; _3; …; _2; …; _1; …; room for _0; …]
         land ! (from ! (stop !)) (init ! 9 refl (EL.lawful S.the-type S′.the-laws 𝓤 H A W tt .typed t _ is .0)) $
         returns ! (look ! 9 refl) $ forget ! 3 refl $ forget ! 5 refl $ forget ! 7 refl $ forget ! 9 refl $
-        move ! (9 ∷ 10 ∷ []) $ free1 ! $ move ! (7 ∷ 8 ∷ []) $ free1 ! $ move ! (5 ∷ 6 ∷ []) $ free1 ! $ move ! (3 ∷ 4 ∷ []) $ free1 ! $ free0 ! $ by ! (exits t u e)))))))
+        move ! (9 ∷ 10 ∷ []) $ free1 ! $ move ! (7 ∷ 8 ∷ []) $ free1 ! $ move ! (5 ∷ 6 ∷ []) $ free1 ! $ move ! (3 ∷ 4 ∷ []) $ free1 ! $ free0 ! $
+        by ! (exits t u e)))))))
 
 module _ {M : Type 1} (𝓤 : URA M) (H : Heap 𝓤) (A : Atoms 𝓤) (W : Given 𝓤 H A) (mem : Memory → SProp 𝓤) (run : Routine → Fun 𝓤) where
   step-walks : (C : Calls 𝓤 H) (Λ : Loops 𝓤 H) → FmC 𝓤 H (W .laws) C → Triple 𝓤 (C #record-at) (RecordAt 𝓤 H A mem run)

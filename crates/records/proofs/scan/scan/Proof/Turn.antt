@@ -133,27 +133,33 @@ module _ {M : Type 1} (𝓤 : URA M) (H : Heap 𝓤) (A : Atoms 𝓤) (W : Given
         rewrite ! 3 (λ (b : Bool). ‵ (fat fullShare Bool-type l₆ 0 (vbool b))) goes refl $ stays ! (load ! (from ! (stop !)) (look ! 3 refl)) $
         -- the step: the reader is copied, and what it owns is had twice
         assigns ! (of-opd ! (load ! (from ! (stop !)) (look ! 0 refl))) (from ! (stop !)) (init ! 4 refl (reader-typed 𝓤 H A W κ r _ is-r)) $
-        move ! (7 ∷ []) $ use1 W (‵ (OwnReader κ r (reader-value r)) ⊛ ‵ (OwnReader κ r (reader-value r))) (reader-twice 𝓤 H A W κ r (reader-value r)) $ split ! $ nothing ! $ move ! (1 ∷ 0 ∷ []) $ fjoin ! $ move ! (11 ∷ 0 ∷ []) $
+        move ! (7 ∷ []) $ use1 W (‵ (OwnReader κ r (reader-value r)) ⊛ ‵ (OwnReader κ r (reader-value r))) (reader-twice 𝓤 H A W κ r (reader-value r)) $
+        split ! $ nothing ! $ move ! (1 ∷ 0 ∷ []) $ fjoin ! $ move ! (11 ∷ 0 ∷ []) $
         use2 W (raw (StepC 𝓤 H A mem run .pre (to-step 𝓤 H A mem run κ q r))) (asked-step 𝓤 H A W mem run κ q r) $
         calls-at ! fm (StepC 𝓤 H A mem run) known-step (to-step 𝓤 H A mem run κ q r) (and-then ! (load ! (from ! (stop !)) (look ! 6 refl)) (no-more !)) (λ u.
         returned ! tt step.ended (step.clauses 𝓤 H A mem run) (κ, tt) (r, tt) tt (token 𝓤 κ q) (Stepped r) u (id⊢ 𝓤 _) (λ t ws. id⊢ 𝓤 _) (λ t stepped is.
         land ! (from ! (stop !)) (init ! 8 refl (EL.lawful S.the-type S′.the-laws 𝓤 H A W tt .typed t _ is .0)) $
         -- the visit: of the bytes a copy is kept, and what was scanned before is given up for what is scanned now
-        move ! (11 ∷ []) $ use1 W (‵ (OwnBytes κ s) ⊛ ‵ (OwnBytes κ s)) (bytes-twice 𝓤 H A W κ s) $ split ! $ nothing ! $ move ! (13 ∷ 0 ∷ []) $ fjoin ! $ move ! (3 ∷ 0 ∷ []) $ fjoin ! $ move ! (1 ∷ 0 ∷ []) $ fjoin ! $ move ! (2 ∷ 0 ∷ []) $
+        move ! (11 ∷ []) $ use1 W (‵ (OwnBytes κ s) ⊛ ‵ (OwnBytes κ s)) (bytes-twice 𝓤 H A W κ s) $ split ! $ nothing ! $ move ! (13 ∷ 0 ∷ []) $
+        fjoin ! $ move ! (3 ∷ 0 ∷ []) $ fjoin ! $ move ! (1 ∷ 0 ∷ []) $ fjoin ! $ move ! (2 ∷ 0 ∷ []) $
         use2 W (raw (VisitC 𝓤 H A mem run .pre (to-visit 𝓤 H A mem run κ q s t u k))) (asked-visit 𝓤 H A W mem run κ q s t u k (ready t stepped)) $
         calls-at ! fm (VisitC 𝓤 H A mem run) known-visit (to-visit 𝓤 H A mem run κ q s t u k) (and-then ! (load ! (from ! (stop !)) (look ! 5 refl)) (and-then ! (load ! (from ! (stop !)) (look ! 8 refl)) (and-then ! (load ! (from ! (stop !)) (look ! 4 refl)) (no-more !)))) (λ u′.
         returned ! tt visit.ended (visit.clauses 𝓤 H A mem run) (κ, tt) (s, (t, (k, tt))) tt (token 𝓤 κ q) (Made s k) u′ (id⊢ 𝓤 _) (λ k′ ws. id⊢ 𝓤 _) (λ k′ made is′.
         land ! (from ! (stop !)) (store ! 5 refl (scanned-typed 𝓤 H A W k′ u′ is′)) $
-        rewrite ! 5 (λ (x : Val). ‵ (fat fullShare Scanned-type l₃ 0 x)) (scanned-value-is k′ u′ is′) refl $ rewrite ! 0 (λ (x : Val). ‵ (OwnScanned k′ x)) (scanned-value-is k′ u′ is′) refl $
+        rewrite ! 5 (λ (x : Val). ‵ (fat fullShare Scanned-type l₃ 0 x)) (scanned-value-is k′ u′ is′) refl $
+        rewrite ! 0 (λ (x : Val). ‵ (OwnScanned k′ x)) (scanned-value-is k′ u′ is′) refl $
         -- the move: the reader is given up for the one at the offset of what is scanned now
         assigns ! (of-opd ! (load ! (from ! (stop !)) (look ! 4 refl))) (from ! (stop !)) (init ! 10 refl (reader-typed 𝓤 H A W κ r _ is-r)) $
-        nothing ! $ owned ! usize (Is usize) (uint-makes 𝓤 H A W w64) (k′ .at) _ (refl, scanned-at-fits 𝓤 H A W k′ u′ is′) $ fjoin ! $ move ! (4 ∷ 0 ∷ []) $ fjoin ! $ move ! (2 ∷ 0 ∷ []) $
+        nothing ! $ owned ! usize (Is usize) (uint-makes 𝓤 H A W w64) (k′ .at) _ (refl, scanned-at-fits 𝓤 H A W k′ u′ is′) $ fjoin ! $
+        move ! (4 ∷ 0 ∷ []) $ fjoin ! $ move ! (2 ∷ 0 ∷ []) $
         use2 W (raw (MovedC 𝓤 H A mem run .pre (to-moved 𝓤 H A mem run κ q r (k′ .at)))) (asked-moved 𝓤 H A W mem run κ q r (k′ .at)) $
         calls-at-last ! fm (MovedC 𝓤 H A mem run) known-moved (to-moved 𝓤 H A mem run κ q r (k′ .at)) (and-then ! (load ! (from ! (stop !)) (look ! 9 refl)) (and-then ! (load ! (from ! (fld ! refl (stop !))) (look-in ! 4 (sub ! 2 refl (whole !)))) (no-more !))) (λ v.
         returned ! tt moved.ended (moved.clauses 𝓤 H A mem run) (κ, tt) (r, (k′ .at, tt)) tt (token 𝓤 κ q) (MovedTo r (k′ .at)) v (id⊢ 𝓤 _) (λ r′ ws. id⊢ 𝓤 _) (λ r′ to is″.
         land-last ! (from ! (stop !)) (store ! 4 refl (reader-typed 𝓤 H A W κ r′ v is″)) $
-        rewrite ! 4 (λ (x : Val). ‵ (fat fullShare Reader-type l₂ 0 x)) (reader-value-is κ r′ v is″) refl $ rewrite ! 0 (λ (x : Val). ‵ (OwnReader κ r′ x)) (reader-value-is κ r′ v is″) refl $
-        forget ! 7 refl $ forget ! 8 refl $ forget ! 9 refl $ forget ! 10 refl $ move ! (4 ∷ 5 ∷ 6 ∷ 7 ∷ 8 ∷ 9 ∷ 10 ∷ 0 ∷ 2 ∷ 3 ∷ 1 ∷ []) $ by ! (next r′ k′ (reader-is κ r′ v is″) (scanned-is k′ u′ is′) made to)))))))
+        rewrite ! 4 (λ (x : Val). ‵ (fat fullShare Reader-type l₂ 0 x)) (reader-value-is κ r′ v is″) refl $
+        rewrite ! 0 (λ (x : Val). ‵ (OwnReader κ r′ x)) (reader-value-is κ r′ v is″) refl $
+        forget ! 7 refl $ forget ! 8 refl $ forget ! 9 refl $ forget ! 10 refl $ move ! (4 ∷ 5 ∷ 6 ∷ 7 ∷ 8 ∷ 9 ∷ 10 ∷ 0 ∷ 2 ∷ 3 ∷ 1 ∷ []) $
+        by ! (next r′ k′ (reader-is κ r′ v is″) (scanned-is k′ u′ is′) made to)))))))
 
     -- the turn that leaves the loop, and the rest of the body
     leaves : (r : Reader) (k : Scanned) (X : SProp 𝓤) → Is K.the-row k (scanned-value k ∷ []) → k .going ≡ false → Ended s k → Turns r k X
@@ -165,7 +171,8 @@ module _ {M : Type 1} (𝓤 : URA M) (H : Heap 𝓤) (A : Atoms 𝓤) (W : Given
         leaves-loop ! (load ! (from ! (stop !)) (look ! 3 refl)) $ exec ! (𝓣 .C) (𝓣 .Λ) Locals code.Mir.t-5 (atRet Locals (Post 𝓤 H A mem run κ q s)) $
         assigns ! (of-opd ! (load ! (from ! (stop !)) (look ! 1 refl))) (from ! (stop !)) (init ! 11 refl (scanned-typed 𝓤 H A W k _ is-k)) $
         returns ! (look ! 11 refl) $ forget ! 0 refl $ forget ! 1 refl $ forget ! 2 refl $ forget ! 3 refl $ forget ! 11 refl $
-        move ! (11 ∷ 13 ∷ []) $ free1 ! $ move ! (2 ∷ 12 ∷ []) $ free1 ! $ move ! (0 ∷ 11 ∷ []) $ free1 ! $ move ! (0 ∷ 10 ∷ []) $ free1 ! $ move ! (2 ∷ 9 ∷ []) $ free1 ! $
+        move ! (11 ∷ 13 ∷ []) $ free1 ! $ move ! (2 ∷ 12 ∷ []) $ free1 ! $ move ! (0 ∷ 11 ∷ []) $ free1 ! $ move ! (0 ∷ 10 ∷ []) $ free1 ! $
+        move ! (2 ∷ 9 ∷ []) $ free1 ! $
         move ! (7 ∷ 8 ∷ []) $ free1 ! $ move ! (0 ∷ 7 ∷ []) $ free1 ! $ move ! (0 ∷ 6 ∷ []) $ free1 ! $ move ! (0 ∷ 5 ∷ []) $ free1 ! $ free0 ! $
         drop ! $ move ! (0 ∷ 2 ∷ 1 ∷ []) $ by ! (exits k (scanned-value k) ended)
 

@@ -142,7 +142,8 @@ module _ {M : Type 1} (𝓤 : URA M) (H : Heap 𝓤) (A : Atoms 𝓤) (W : Given
         -- and stored in the slice
         move ! (1 ∷ []) $ elem-out ! Place (Is Place) (shows 𝓤 H A Place) placeVals place-tells fullShare (mixed i) i none b o inSlice (λ _.
         assigns ! (of-opd ! (load ! (from ! (stop !)) (look ! 11 refl))) (from ! (hop ! (look ! 7 refl) (stop !))) (store-raw ! 0 refl (place-typed 𝓤 H A W (getD fs i none) is)) $
-        move ! (1 ∷ []) $ leave ! $ owned ! Place (Is Place) (place-makes 𝓤 H A W) (getD fs i none) _ is $ move ! (1 ∷ 0 ∷ []) $ elem-put ! Place fullShare (mixed i) i (getD fs i none) (placeVals (getD fs i none)) b o inSlice $
+        move ! (1 ∷ []) $ leave ! $ owned ! Place (Is Place) (place-makes 𝓤 H A W) (getD fs i none) _ is $ move ! (1 ∷ 0 ∷ []) $
+        elem-put ! Place fullShare (mixed i) i (getD fs i none) (placeVals (getD fs i none)) b o inSlice $
         rewrite ! 0 (λ (l : List SubBalance). ‵ (row Place fullShare l b o)) next refl $ move ! (1 ∷ 0 ∷ []) $
         assigns-last ! (bin ! (load ! (from ! (stop !)) (look ! 19 refl)) (lit ! tt) (record { fits = next-fits })) (from ! (stop !)) (store ! 19 refl (tt, record { fits = next-fits })) $
         forget ! 5 refl $ forget ! 7 refl $ forget ! 9 refl $ forget ! 11 refl $ forget ! 13 refl $ forget ! 15 refl $ forget ! 17 refl $ by ! k))
@@ -177,9 +178,12 @@ module _ {M : Type 1} (𝓤 : URA M) (H : Heap 𝓤) (A : Atoms 𝓤) (W : Given
         rewrite ! 0 (λ (us : List Val). ‵ (cellAt fullShare (Places .mir) us l₄ 0)) (places-tells fs vs r) refl $
         use1 W (‵ (fat fullShare (ty 4) l₄ 0 (only (placesVals fs)))) (W .laws .raw-at fullShare (ty 4) l₄ 0 (only (placesVals fs))) $
         -- [_4; obs; the borrow; the token; then the locals from _12 down, without _4]
-        returns ! (look ! 27 refl) $ forget ! 0 refl $ forget ! 16 refl $ forget ! 18 refl $ forget ! 21 refl $ forget ! 23 refl $ forget ! 25 refl $ forget ! 27 refl $
-        move ! (27 ∷ 28 ∷ []) $ free1 ! $ move ! (25 ∷ 26 ∷ []) $ free1 ! $ move ! (23 ∷ 24 ∷ []) $ free1 ! $ move ! (21 ∷ 22 ∷ []) $ free1 ! $ move ! (0 ∷ 20 ∷ []) $ free1 ! $
-        move ! (17 ∷ 18 ∷ []) $ free1 ! $ move ! (15 ∷ 16 ∷ []) $ free1 ! $ move ! (13 ∷ 14 ∷ []) $ free1 ! $ move ! (11 ∷ 12 ∷ []) $ free1 ! $ move ! (9 ∷ 10 ∷ []) $ free1 ! $
+        returns ! (look ! 27 refl) $ forget ! 0 refl $ forget ! 16 refl $ forget ! 18 refl $ forget ! 21 refl $ forget ! 23 refl $ forget ! 25 refl $
+        forget ! 27 refl $
+        move ! (27 ∷ 28 ∷ []) $ free1 ! $ move ! (25 ∷ 26 ∷ []) $ free1 ! $ move ! (23 ∷ 24 ∷ []) $ free1 ! $ move ! (21 ∷ 22 ∷ []) $ free1 ! $
+        move ! (0 ∷ 20 ∷ []) $ free1 ! $
+        move ! (17 ∷ 18 ∷ []) $ free1 ! $ move ! (15 ∷ 16 ∷ []) $ free1 ! $ move ! (13 ∷ 14 ∷ []) $ free1 ! $ move ! (11 ∷ 12 ∷ []) $ free1 ! $
+        move ! (9 ∷ 10 ∷ []) $ free1 ! $
         move ! (7 ∷ 8 ∷ []) $ free1 ! $ move ! (5 ∷ 6 ∷ []) $ free1 ! $ move ! (3 ∷ 4 ∷ []) $ free1 ! $ free0 ! $ by ! (exits l)))
       where
         l : length (mixed m) ≡ length ys
