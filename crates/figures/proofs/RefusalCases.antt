@@ -182,9 +182,10 @@ abbrev sample : Contents
 sample = contentsOf (complete ((601, 10) ∷ (661, 20) ∷ []))
 
 contents-hold :
-    cell sample 601 ∷ cell sample 602 ∷ cell sample 661 ∷ cdYield sample 1 ∷ cdYield sample 120 ∷ cdYield sample 121 ∷ retailRate sample 1
+    cell sample 600 ∷ cell sample 601 ∷ cell sample 602 ∷ cell sample 661 ∷ cell sample 662
+    ∷ cdYield sample 1 ∷ cdYield sample 120 ∷ cdYield sample 121 ∷ retailRate sample 1
     ∷ retailRate sample 3 ∷ []
-    ≡ 10 ∷ 0 ∷ 20 ∷ 10 ∷ 1200 ∷ 0 ∷ 100 ∷ 300 ∷ []
+    ≡ 0 ∷ 10 ∷ 0 ∷ 20 ∷ 0 ∷ 10 ∷ 1200 ∷ 0 ∷ 100 ∷ 300 ∷ []
 unfolding numberAt recordLength recordKind recordCell recordValue recordRate nextRecord searchRecords firstRecord cellKey kindKey recordKey firstWithKey cellOffset cellValue sheetOffset contentsOf cell cdYield retailRate tableFrom joined
 contents-hold = refl
 

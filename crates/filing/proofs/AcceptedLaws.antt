@@ -5,7 +5,7 @@ use native.Mathlib.Omega.{arith}
 use mathlib.Core.Path.{_≡_, refl, ap, _∙_}
 use mathlib.Core.Bool.{Bool, true, false, cond, not, _&&_, true≢false}
 use mathlib.Core.List.{List}
-use borrow.Author.Tests.{ltb-true, ltb-false, leb-false, eqb-true, ne-eqb, not-false}
+use borrow.Author.Tests.{le-ltb, ltb-true, ltb-false, leb-false, eqb-true, ne-eqb, not-false}
 use lib.Dec.{T, leb, ltb, eqb}
 use lib.ListN.{length}
 use Rattle.lists.specs.Sums.{sum}
@@ -30,7 +30,7 @@ cell-read : (s : List ℕ) (n : ℕ) → 601 ≤ n → n ≤ 661 → cell (conte
 unfolding cell contentsOf
 cell-read s n l u =
     let e : 601 + (n - 601) ≡ n = omega arith in
-    tableFrom-getD 601 61 (cellValue s) (n - 601) 0 (omega arith) ∙ ap (cellValue s) e
+    simp (le-ltb n 601 l) (tableFrom-getD 601 61 (cellValue s) (n - 601) 0 (omega arith) ∙ ap (cellValue s) e)
 
 module _ (s : List ℕ) (a : Accepted s) where
   -- every record that a search finds is without a fault

@@ -3,6 +3,7 @@ use mathlib.Core.Path.{_≡_, sym, _∙_}
 use mathlib.Core.List.{List}
 use Prim.Native.Nat.{ℕ, _-_, _≤_}
 use native.Mathlib.Omega.{arith}
+use borrow.Author.Tests.{le-ltb}
 use lib.ListN.{length, length-map, List·getD-eq-default}
 use mir.Val.{Val}
 use denote.Laws.{Is}
@@ -19,4 +20,5 @@ cells-count k vs is = sym (length-map (k .cells) (u64-field .into)) ∙ LL.owed 
 
 pub cell-past-last : (k : Contents) (vs : List Val) → Is (row C.the-type) k vs → (n : ℕ) → 61 ≤ n - 601 → cell k n ≡ 0
 unfolding cell
-cell-past-last k vs is n past = List·getD-eq-default (k .cells) 0 {n = n - 601} (omega (arith, cells-count k vs is, past))
+cell-past-last k vs is n past =
+    simp (le-ltb n 601 (omega arith)) (List·getD-eq-default (k .cells) 0 {n = n - 601} (omega (arith, cells-count k vs is, past)))

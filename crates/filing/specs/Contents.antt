@@ -29,9 +29,9 @@ contentsOf s =
       rates = tableFrom 1 3 (recordRate s (sheetOffset s 3));
     }
 
--- the value of a cell, 601 to 661
+-- the value of a cell, 601 to 661; another number has none, and is 0
 unfoldable pub cell : Contents → ℕ → ℕ
-cell k n = getD (k .cells) (n - 601) 0
+cell k n = cond (ltb n 601) 0 (getD (k .cells) (n - 601) 0)
 
 -- the secondary-market CD yield of a month, 1 to 120, hundredths of a percent a year
 unfoldable pub cdYield : Contents → ℕ → ℕ

@@ -3,12 +3,12 @@ use crate::Contents;
 ghost use mathlib.Core.Path.{_≡_};
 ghost use Rattle.filing.specs.Contents.{cell};
 
-// The value of a cell, 601 to 661; a number below is read as 601, a number above is 0.
+// The value of a cell, 601 to 661; 0 for another number.
 pub fn cell_value(k: Contents, n: usize) -> u64
     ensures { λ r. ⌜ r ≡ cell k n ⌝ }
 {
     if n < 601 {
-        return k.cells[0];
+        return 0;
     }
     let i = n - 601;
     if 61 <= i {

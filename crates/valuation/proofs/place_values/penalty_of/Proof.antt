@@ -1,8 +1,8 @@
 -- `valuation::place_values::penalty_of` meets its contract. Assumes nothing.
-use Prim.Native.Nat.{_/_}
+use Prim.Native.Nat.{_+_, _/_}
 use native.Mathlib.Omega.{arith}
-use borrow.Author.Tests.{eq-eqb, ne-eqb}
-use Rattle.schedule.specs.Cells.{penaltyMonthsCell}
+use borrow.Author.Tests.{le-ltb, eq-eqb, ne-eqb}
+use Rattle.schedule.specs.Cells.{positionAt, penaltyMonthsCell}
 use Rattle.filing.specs.Contents.{cell}
 use Rattle.shares.specs.SubBalances.{positionOf}
 use Rattle.shares.proofs.SubBalanceLaws.{column-range}
@@ -28,7 +28,9 @@ element-copy-out-result c = let s = c .before .before in omega (arith, column-ra
 
 returns : tie.Need-returns
 unfolding penaltyAt penaltyMonthsCell positionOf cell
-returns c = simp (eq-eqb _ _ (c .before .before .if1 .taken), c .before .column-of .ensures)
+returns c =
+    let column = positionAt (c .before .before .before .args .at / 4) .column in
+    simp (eq-eqb _ _ (c .before .before .if1 .taken), c .before .column-of .ensures, le-ltb (655 + column) 601 (omega arith))
 
 returns-2 : tie.Need-returns-2
 unfolding penaltyAt
