@@ -1,6 +1,6 @@
 -- An accepted filing: its records are sound, its sheets lie within the bytes, and what it says is valid.
 -- Assumes nothing.
-use Prim.Native.Nat.{ℕ, _+_, _-_, _≤_, _<_}
+use Prim.Native.Nat.{ℕ, _+_, _*_, _-_, _≤_, _<_}
 use native.Mathlib.Omega.{arith}
 use mathlib.Core.Path.{_≡_, refl, ap, _∙_}
 use mathlib.Core.Bool.{Bool, true, false, cond, not, _&&_, true≢false}
@@ -13,11 +13,16 @@ use Rattle.lists.proofs.TableLaws.{tableFrom-getD, table-le}
 use Rattle.schedule.specs.Cells.{Position, positionAt, withinRow, brokeredCell, penaltyBalanceCell, penaltyMonthsCell, totalCell}
 use Rattle.schedule.specs.Limits.{cellClass, classLimit, rateLimit}
 use Rattle.schedule.proofs.CellLaws.{CellOf, balance-cell, coupon-cell, months-cell, penalty-months-cell}
-use Rattle.records.specs.Records.{recordLength, recordKind, recordValue, recordRate, nextRecord, firstRecord, firstWithKey, recordKey, cellKey, kindKey}
-use Rattle.records.specs.Faults.{kindLength, sheetRates}
+use Rattle.records.specs.Records.{recordValue, sheetNumber, firstRecord}
+use Rattle.records.specs.declared.items.Item.{Item}
+use Rattle.records.specs.declared.items.Item.the-variants.{Cell, Sheet}
+use Rattle.records.specs.declared.kinds.SheetKind.{SheetKind}
+use Rattle.records.specs.Kinds.{sheetOf, sheetKinds, sheetKind}
+use Rattle.records.specs.Items.{sameItem, recordItem, firstWith}
 use Rattle.records.specs.RecordVerdicts.{firstFaulty, recordVerdict}
-use Rattle.records.proofs.RecordLaws.{first-fails, with-key-passes, record-of-cell-key, record-of-kind-key}
-use Rattle.records.proofs.FaultLaws.{Sound, neither, faultless-sound}
+use Rattle.records.proofs.RecordLaws.{first-fails}
+use Rattle.records.proofs.ItemLaws.{with-passes, record-of-cell, OfSheet, record-of-sheet}
+use Rattle.records.proofs.FaultLaws.{Sound, neither, faultless-sound, sheet-within}
 use Rattle.filing.specs.declared.Contents.{Contents}
 use Rattle.filing.specs.Contents.{cellOffset, cellValue, sheetOffset, contentsOf, cell, cdYield, retailRate}
 use Rattle.filing.specs.Conditions.{sheetMissing, monthsOutside, columnBalances, balances, aboveColumn, totalDiffers}
@@ -43,16 +48,15 @@ module _ (s : List ℕ) (a : Accepted s) where
       (not-false (eqb (recordVerdict s at .number) 0)
       (first-fails s (λ (i : ℕ). not (eqb (recordVerdict s i .number) 0)) test (length s) (omega (arith, accepted-passed s a .none-faulty)) h)))
 
-  key-sound : (key : ℕ) → firstWithKey s key (length s) < length s → Sound s (firstWithKey s key (length s))
-  unfolding firstWithKey
-  key-sound key h = found-sound (λ (at : ℕ). eqb (recordKey s at) key) h
+  item-sound : (item : Item) → firstWith s item (length s) < length s → Sound s (firstWith s item (length s))
+  unfolding firstWith
+  item-sound item h = found-sound (λ (at : ℕ). sameItem (recordItem s at) item) h
 
   present-cell-limit : (n : ℕ) → cellOffset s n < length s → recordValue s (cellOffset s n) ≤ classLimit (cellClass n)
   unfolding cellOffset
   present-cell-limit n h =
-      let at = firstWithKey s (cellKey n) (length s) in
-      let is-cell = record-of-cell-key s at n (with-key-passes s (cellKey n) (length s) h) in
-      rw (is-cell .1) at (key-sound (cellKey n) h .value-limit (is-cell .0))
+      let is-cell = record-of-cell s (cellOffset s n) n (with-passes s (Cell n) (length s) h) in
+      rw (is-cell .cell-is) at (item-sound (Cell n) h .value-limit (is-cell .kind-is))
 
   -- a cell is within the limit of its class
   cell-limit : (n : ℕ) → cellValue s n ≤ classLimit (cellClass n)
@@ -64,25 +68,21 @@ module _ (s : List ℕ) (a : Accepted s) where
       by-presence false e = omega arith
 
   -- a sheet that is present is of its kind and without a fault
-  sheet-kind : (kind : ℕ) → sheetOffset s kind < length s → recordKind s (sheetOffset s kind) ≡ kind
+  is-sheet : (kind : ℕ) → sheetOffset s kind < length s → OfSheet s (sheetOffset s kind) kind
   unfolding sheetOffset
-  sheet-kind kind h = record-of-kind-key s (sheetOffset s kind) kind (with-key-passes s (kindKey kind) (length s) h)
+  is-sheet kind h = record-of-sheet s (sheetOffset s kind) kind (with-passes s (Sheet kind) (length s) h)
 
   sheet-sound : (kind : ℕ) → sheetOffset s kind < length s → Sound s (sheetOffset s kind)
   unfolding sheetOffset
-  sheet-sound kind h = key-sound (kindKey kind) h
+  sheet-sound kind h = item-sound (Sheet kind) h
 
-  sheet-rate-limit : (kind : ℕ) → sheetOffset s kind < length s
-      → (i : ℕ) → 1 ≤ i → i ≤ sheetRates kind → recordRate s (sheetOffset s kind) i ≤ rateLimit
-  sheet-rate-limit kind h i l u = sheet-sound kind h .rate-limit i l (rw (sheet-kind kind h) u)
+  sheet-number-limit : (kind : ℕ) → sheetOffset s kind < length s
+      → (i : ℕ) → 1 ≤ i → i ≤ sheetKind kind .numbers → sheetNumber s (sheetOffset s kind) i ≤ sheetKind kind .limit
+  sheet-number-limit kind h i l u = rw (is-sheet kind h .kind-is) at (sheet-sound kind h .number-limit i l (rw (is-sheet kind h .kind-is) u))
 
   -- a sheet ends within the bytes
-  sheet-inside : (kind : ℕ) → sheetOffset s kind < length s → sheetOffset s kind + 2 + kindLength kind ≤ length s
-  unfolding nextRecord
-  sheet-inside kind h =
-      let sound = sheet-sound kind h in
-      let e : recordLength s (sheetOffset s kind) ≡ kindLength kind = sound .shaped ∙ ap kindLength (sheet-kind kind h) in
-      rw e at (sound .complete)
+  sheet-inside : (kind : ℕ) → sheetOffset s kind < length s → sheetOffset s kind + 4 + 2 * sheetKind kind .numbers ≤ length s
+  sheet-inside kind h = sheet-within s (sheetOffset s kind) kind (is-sheet kind h) (sheet-sound kind h)
 
   -- both sheets are present
   yields-present : sheetOffset s 2 < length s
@@ -99,25 +99,25 @@ module _ (s : List ℕ) (a : Accepted s) where
 
   -- the two sheets lie within the bytes, each with its length and kind: 4 and 240 bytes, 4 and 6 bytes
   pub accepted-yields-inside : sheetOffset s 2 + 244 ≤ length s
-  unfolding kindLength
+  unfolding sheetOf sheetKinds sheetKind
   accepted-yields-inside = omega (arith, sheet-inside 2 yields-present)
 
   pub accepted-rates-inside : sheetOffset s 3 + 10 ≤ length s
-  unfolding kindLength
+  unfolding sheetOf sheetKinds sheetKind
   accepted-rates-inside = omega (arith, sheet-inside 3 rates-present)
 
   cell-within : (n class : ℕ) → CellOf n class → cell (contentsOf s) n ≤ classLimit class
   cell-within n class c = rw (cell-read s n (c .from-601) (c .to-661), ← c .in-class) (cell-limit n)
 
   yield-within : (t : ℕ) → cdYield (contentsOf s) t ≤ 2500
-  unfolding cdYield contentsOf sheetRates
+  unfolding cdYield contentsOf sheetOf sheetKinds sheetKind
   yield-within t =
-      table-le 1 120 (recordRate s (sheetOffset s 2)) 2500 (λ j l u. sheet-rate-limit 2 yields-present j l (omega arith)) (t - 1)
+      table-le 1 120 (sheetNumber s (sheetOffset s 2)) 2500 (λ j l u. sheet-number-limit 2 yields-present j l (omega arith)) (t - 1)
 
   rate-within : (j : ℕ) → retailRate (contentsOf s) j ≤ 2500
-  unfolding retailRate contentsOf sheetRates
+  unfolding retailRate contentsOf sheetOf sheetKinds sheetKind
   rate-within j =
-      table-le 1 3 (recordRate s (sheetOffset s 3)) 2500 (λ j l u. sheet-rate-limit 3 rates-present j l (omega arith)) (j - 1)
+      table-le 1 3 (sheetNumber s (sheetOffset s 3)) 2500 (λ j l u. sheet-number-limit 3 rates-present j l (omega arith)) (j - 1)
 
 -- a balance that is not zero has its months within the row
 row-holds : (k : Contents) (p : Position) → monthsOutside k p ≡ false → 0 < cell k (p .balance) → T (withinRow (p .row) (cell k (p .months)))

@@ -30,14 +30,14 @@ pub fn read(filing: &[u8]) -> Reading
     if number(records) != 0 {
         return refusal(records);
     }
-    let first = scanned.first;
-    if filing.len() <= first[2] {
+    let noted = scanned.noted;
+    if filing.len() <= noted.sheets[2] {
         return refusal(Answer::SheetMissing(filing.len()));
     }
-    if filing.len() <= first[3] {
+    if filing.len() <= noted.sheets[3] {
         return refusal(Answer::SheetMissing(filing.len()));
     }
-    let contents = contents_at(filing, &first);
+    let contents = contents_at(filing, noted);
     let answer = check_contents(contents);
     if number(answer) != 0 {
         return refusal(answer);

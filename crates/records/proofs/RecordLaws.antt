@@ -1,5 +1,5 @@
 -- The search over records: where its answer lies, what holds of the record that it finds, and what two searches over the same records have to do
--- with each other. Then the keys: which record has the key of a cell or of a sheet.
+-- with each other.
 -- Assumes nothing.
 use Prim.Native.Nat.{ℕ, zero, suc, _≤_, _<_}
 use native.Mathlib.Nat.{le-refl}
@@ -7,9 +7,9 @@ use native.Mathlib.Omega.{arith}
 use mathlib.Core.Path.{_≡_, refl}
 use mathlib.Core.Bool.{Bool, true, false, cond}
 use mathlib.Core.List.{List}
-use borrow.Author.Tests.{leb-false, eqb-true}
-use lib.Dec.{leb, eqb}
-use Rattle.records.specs.Records.{nextRecord, searchRecords, firstRecord, firstWithKey, recordKind, recordCell, recordKey, cellKey, kindKey}
+use borrow.Author.Tests.{leb-false}
+use lib.Dec.{leb}
+use Rattle.records.specs.Records.{nextRecord, searchRecords, firstRecord}
 
 -- One record of a search: `over` is the test that the search has come to its end, `here` the test of the record at hand, and `rest` what the
 -- search of the records after it gives
@@ -83,30 +83,3 @@ module _ (s : List ℕ) where
       → test (firstRecord s found end) ≡ false
   unfolding firstRecord
   first-fails test found end = search-fails test found end 0 end
-
--- a key is a multiple of 4 for a cell, and one more than a multiple of 4 for a sheet
-key-of-cell : (kind cell n : ℕ) (b : Bool) → eqb kind 1 ≡ b → cond b (cellKey cell) (kindKey kind) ≡ cellKey n → (kind ≡ 1) × (cell ≡ n)
-unfolding cellKey kindKey
-key-of-cell kind cell n true e h = (eqb-true kind 1 e, omega arith)
-key-of-cell kind cell n false e h = absurd (omega arith)
-
-key-of-kind : (kind cell n : ℕ) (b : Bool) → cond b (cellKey cell) (kindKey kind) ≡ kindKey n → kind ≡ n
-unfolding cellKey kindKey
-key-of-kind kind cell n true h = absurd (omega arith)
-key-of-kind kind cell n false h = omega arith
-
--- a record with a cell's key is of kind 1 and holds that cell
-pub record-of-cell-key : (s : List ℕ) (at n : ℕ) → recordKey s at ≡ cellKey n → (recordKind s at ≡ 1) × (recordCell s at ≡ n)
-unfolding recordKey
-record-of-cell-key s at n h = key-of-cell (recordKind s at) (recordCell s at) n (eqb (recordKind s at) 1) refl h
-
--- a record with a sheet's key is of that kind
-pub record-of-kind-key : (s : List ℕ) (at kind : ℕ) → recordKey s at ≡ kindKey kind → recordKind s at ≡ kind
-unfolding recordKey
-record-of-kind-key s at kind h = key-of-kind (recordKind s at) (recordCell s at) kind (eqb (recordKind s at) 1) h
-
--- a record found by its key has that key
-pub with-key-passes : (s : List ℕ) (key end : ℕ) → firstWithKey s key end < end → recordKey s (firstWithKey s key end) ≡ key
-unfolding firstWithKey
-with-key-passes s key end h =
-    eqb-true (recordKey s (firstWithKey s key end)) key (first-passes s (λ (at : ℕ). eqb (recordKey s at) key) end h)

@@ -11,7 +11,9 @@ use Rattle.answers.specs.declared.Answer.{Answer}
 use Rattle.answers.specs.declared.Answer.the-variants.{SheetMissing}
 use Rattle.answers.specs.Verdict.{Verdict, refused}
 use Rattle.answers.specs.Answers.{numberOf, verdictOf}
-use Rattle.records.specs.Inner.Offsets.{kindPlaces, offsetsBefore}
+use Rattle.records.specs.declared.items.Noted.{Noted}
+use Rattle.records.specs.Kinds.{kindCount}
+use Rattle.records.specs.Inner.Notes.{notedBefore}
 use Rattle.records.specs.RecordVerdicts.{recordsVerdict}
 use Rattle.records.proofs.PassedLaws.{records-passed}
 use Rattle.filing.specs.declared.Reading.{Reading}
@@ -41,35 +43,39 @@ number-requires c κs = search needs
 refusal-requires : tie.Need-refusal-requires
 refusal-requires c κs = search needs
 
+-- the bytes, where the verdict on the records is known and where no record is refused
+abbrev bytes-at : tie.After-number → List ℕ
+bytes-at c = c .before .before .before .args .filing .now
+
+abbrev bytes : tie.Else1 → List ℕ
+bytes c = bytes-at (c .before)
+
 -- the verdict on the records has the number that the code tests
-records-number : (c : tie.After-number) → c .number .result ≡ recordsVerdict (c .before .before .before .args .filing .now) .number
+records-number : (c : tie.After-number) → c .number .result ≡ recordsVerdict (bytes-at c) .number
 unfolding verdictOf
 records-number c = c .number .ensures ∙ ap (λ (v : Verdict). v .number) (c .before .scan .ensures .0)
 
 returns : tie.Need-returns
 returns c =
-    let s = c .before .before .before .before .before .args .filing .now in
-    let call = c .before .before .before .scan in
-    refused-reading s (c .refusal .result) (call .result .answer) (c .refusal .ensures)
-    (call .ensures .0 ∙ filing-refused s (λ e. c .before .if1 .taken (records-number (c .before .before) ∙ e)))
-    (λ e. c .before .if1 .taken (c .before .before .number .ensures ∙ e))
+    let at-number = c .before .before in
+    let call = at-number .before .scan in
+    refused-reading (bytes-at at-number) (c .refusal .result) (call .result .answer) (c .refusal .ensures)
+    (call .ensures .0 ∙ filing-refused (bytes-at at-number) (λ e. c .before .if1 .taken (records-number at-number ∙ e)))
+    (λ e. c .before .if1 .taken (at-number .number .ensures ∙ e))
 
--- no record is refused, so none is faulty, and the offsets of all are noted
-none : (c : tie.Else1) → recordsVerdict (c .before .before .before .before .args .filing .now) .number ≡ 0
+-- no record is refused, so none is faulty, and all are noted
+none : (c : tie.Else1) → recordsVerdict (bytes c) .number ≡ 0
 none c = sym (records-number (c .before)) ∙ c .if1 .left
 
-noted : (c : tie.Else1)
-    → c .before .before .scan .result .first
-    ≡ offsetsBefore (c .before .before .before .before .args .filing .now) (length (c .before .before .before .before .args .filing .now))
-noted c = c .before .before .scan .ensures .1 ∙ ap (offsetsBefore (c .before .before .before .before .args .filing .now)) (records-passed _ (none c))
+noted : (c : tie.Else1) → c .before .before .scan .result .noted ≡ notedBefore (bytes c) (length (bytes c))
+noted c = c .before .before .scan .ensures .1 ∙ ap (notedBefore (bytes c)) (records-passed _ (none c))
 
 -- the offset that the code has for a kind of sheet
-sheet-is : (c : tie.Else1) (kind : ℕ) → kind < kindPlaces
-    → getD (c .before .before .scan .result .first) kind 0 ≡ sheetOffset (c .before .before .before .before .args .filing .now) kind
-sheet-is c kind h = rw (noted c) (sheet-noted _ kind h)
+sheet-is : (c : tie.Else1) (kind : ℕ) → kind < kindCount → getD (c .before .before .scan .result .noted .sheets) kind 0 ≡ sheetOffset (bytes c) kind
+sheet-is c kind h = ap (λ (k : Noted). getD (k .sheets) kind 0) (noted c) ∙ sheet-noted (bytes c) kind h
 
-array-read-if2 : tie.Need-array-read-if2
-array-read-if2 c = search needs
+element-copy-out-if2 : tie.Need-element-copy-out-if2
+element-copy-out-if2 c = search needs
 
 refusal-requires-2 : tie.Need-refusal-requires-2
 refusal-requires-2 c κs = search needs
@@ -77,13 +83,12 @@ refusal-requires-2 c κs = search needs
 returns-2 : tie.Need-returns-2
 unfolding verdictOf refused
 returns-2 c =
-    let s = c .before .before .before .before .before .before .before .args .filing .now in
-    let records = c .before .before .before in
-    refused-reading s (c .refusal2 .result) (SheetMissing (length s)) (c .refusal2 .ensures)
-    (filing-no-yields s (none records) (omega (arith, c .before .if2 .taken, sheet-is records 2 (lit< tt)))) (λ e. omega arith)
+    let records = c .before .before .before .before in
+    refused-reading (bytes records) (c .refusal2 .result) (SheetMissing (length (bytes records))) (c .refusal2 .ensures)
+    (filing-no-yields (bytes records) (none records) (omega (arith, c .before .if2 .taken, sheet-is records 2 (lit< tt)))) (λ e. omega arith)
 
-array-read-if3 : tie.Need-array-read-if3
-array-read-if3 c = search needs
+element-copy-out-if3 : tie.Need-element-copy-out-if3
+element-copy-out-if3 c = search needs
 
 refusal-requires-3 : tie.Need-refusal-requires-3
 refusal-requires-3 c κs = search needs
@@ -91,10 +96,10 @@ refusal-requires-3 c κs = search needs
 returns-3 : tie.Need-returns-3
 unfolding verdictOf refused
 returns-3 c =
-    let s = c .before .before .before .before .before .before .before .before .args .filing .now in
-    let records = c .before .before .before .before in
-    refused-reading s (c .refusal3 .result) (SheetMissing (length s)) (c .refusal3 .ensures)
-    (filing-no-rates s (none records) (omega (arith, c .before .before .if2 .left, sheet-is records 2 (lit< tt)))
+    let yields = c .before .before .before in
+    let records = yields .before .before .before in
+    refused-reading (bytes records) (c .refusal3 .result) (SheetMissing (length (bytes records))) (c .refusal3 .ensures)
+    (filing-no-rates (bytes records) (none records) (omega (arith, yields .if2 .left, sheet-is records 2 (lit< tt)))
     (omega (arith, c .before .if3 .taken, sheet-is records 3 (lit< tt)))) (λ e. omega arith)
 
 contents-at-requires : tie.Need-contents-at-requires
@@ -109,24 +114,26 @@ number-requires-2 c κs = search needs
 refusal-requires-4 : tie.Need-refusal-requires-4
 refusal-requires-4 c κs = search needs
 
+-- where both sheets are there
+abbrev records-of : tie.Else3 → tie.Else1
+records-of c = c .before .before .before .before .before
+
 -- the contents that the code checks are what the filing says
-contents-are : (c : tie.After-contents-at)
-    → c .contents-at .result ≡ contentsOf (c .before .before .before .before .before .before .before .before .before .args .filing .now)
+contents-are : (c : tie.After-contents-at) → c .contents-at .result ≡ contentsOf (bytes (records-of (c .before)))
 contents-are c =
-    let s = c .before .before .before .before .before .before .before .before .before .args .filing .now in
-    c .contents-at .ensures ∙ ap (contentsAt s) (noted (c .before .before .before .before .before)) ∙ contents-noted s
+    let s = bytes (records-of (c .before)) in
+    c .contents-at .ensures ∙ ap (contentsAt s) (noted (records-of (c .before))) ∙ contents-noted s
 
 -- and the verdict on them is the filing's
 contents-verdict : (c : tie.After-check-contents)
-    → verdictOf (c .check-contents .result)
-    ≡ filingVerdict (c .before .before .before .before .before .before .before .before .before .before .args .filing .now)
+    → verdictOf (c .check-contents .result) ≡ filingVerdict (bytes (records-of (c .before .before)))
 contents-verdict c =
-    let s = c .before .before .before .before .before .before .before .before .before .before .args .filing .now in
-    let records = c .before .before .before .before .before .before in
+    let sheets = c .before .before in
+    let records = records-of sheets in
     c .check-contents .ensures
     ∙ ap contentsVerdict (contents-are (c .before))
-    ∙ filing-contents s (none records) (omega (arith, c .before .before .before .before .if2 .left, sheet-is records 2 (lit< tt)))
-    (omega (arith, c .before .before .before .if3 .left, sheet-is records 3 (lit< tt)))
+    ∙ filing-contents (bytes records) (none records) (omega (arith, sheets .before .before .if2 .left, sheet-is records 2 (lit< tt)))
+    (omega (arith, sheets .if3 .left, sheet-is records 3 (lit< tt)))
 
 returns-4 : tie.Need-returns-4
 returns-4 c =
@@ -150,10 +157,10 @@ read-spec =
     number-requires
     refusal-requires
     returns
-    array-read-if2
+    element-copy-out-if2
     refusal-requires-2
     returns-2
-    array-read-if3
+    element-copy-out-if3
     refusal-requires-3
     returns-3
     contents-at-requires

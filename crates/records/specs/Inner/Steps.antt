@@ -6,12 +6,9 @@ use lib.ListN.{length}
 use lib.Dec.{leb}
 use Rattle.records.specs.declared.Step.{Step}
 use Rattle.records.specs.declared.Step.the-variants.{Record, Incomplete, End}
-use Rattle.records.specs.Records.{recordLength, recordKind, nextRecord}
+use Rattle.records.specs.Records.{nextRecord}
 use Rattle.records.specs.Faults.{incomplete}
 
--- nothing at the end or past it; a record that has fault 1; else the record's kind, its length and the offset after it
+-- nothing at the end or past it; a record that has fault 1; else a record, with the offset after it
 unfoldable pub stepAt : List ℕ → ℕ → Step
-stepAt s at =
-    cond (leb (length s) at) End
-    (cond (incomplete s at) Incomplete
-    (Record (recordKind s at) (recordLength s at) (nextRecord s at)))
+stepAt s at = cond (leb (length s) at) End (cond (incomplete s at) Incomplete (Record (nextRecord s at)))

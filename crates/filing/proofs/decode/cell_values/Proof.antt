@@ -7,23 +7,19 @@ use borrow.Author.Needs.{needs}
 use lib.ListN.{getD}
 use Rattle.lists.proofs.FillLaws.{Filled, fill-none, fill-more}
 use Rattle.records.specs.Records.{recordValue}
-use Rattle.records.specs.Inner.Offsets.{kindPlaces, cellsBase}
 use Rattle.filing.specs.Inner.ContentsAt.{cellsAt}
 use Rattle.filing.proofs.ContentsLaws.{filled-from}
 use Rattle.filing.proofs.decode.cell_values.Statement.{statement}
 use Rattle.filing.proofs.decode.cell_values.Tie as tie
 
 abbrev Inv-loop : tie.InvT-loop
-Inv-loop s first cells₀ i₀ cells i = (i ≤ 61) × Filled (λ (j : ℕ). recordValue s (getD first (601 + j - cellsBase) 0)) 0 61 i cells
+Inv-loop s noted cells₀ i₀ cells i = (i ≤ 61) × Filled (λ (j : ℕ). recordValue s (getD (noted .cells) (601 + j - 601) 0)) 0 61 i cells
 
 abbrev μ-loop : tie.MeasureT-loop
-μ-loop s first cells₀ i₀ cells i = 61 - i
+μ-loop s noted cells₀ i₀ cells i = 61 - i
 
 loop-holds : tie.Need-loop-holds Inv-loop μ-loop
 loop-holds c = (omega arith, fill-none _ 0 0 61)
-
-add-place : tie.Need-add-place Inv-loop μ-loop
-add-place c = omega arith
 
 mul-record-value : tie.Need-mul-record-value Inv-loop μ-loop
 mul-record-value c = omega arith
@@ -51,10 +47,10 @@ loop-again c =
     let a = c .before .before .before .before .before .args in
     let state = c .before .before .before .loop in
     let h = c .before .before .loop-test .taken in
-    let e : state .i + kindPlaces ≡ 601 + state .i - cellsBase = omega arith in (
+    let e : state .i ≡ 601 + state .i - 601 = omega arith in (
       omega arith,
       fill-more _ 0 61 (state .i) (state .cells) (c .record-value .result) h
-          (c .record-value .ensures ∙ ap (λ (k : ℕ). recordValue (a .s .now) (getD (a .first .now) k 0)) e) (state .inv .1),
+          (c .record-value .ensures ∙ ap (λ (k : ℕ). recordValue (a .s .now) (getD (a .t2 .cells) k 0)) e) (state .inv .1),
     )
 
 returns : tie.Need-returns Inv-loop μ-loop
@@ -70,7 +66,6 @@ cell-values-spec =
     Inv-loop
     μ-loop
     loop-holds
-    add-place
     mul-record-value
     element-copy-out-record-value
     record-value-requires

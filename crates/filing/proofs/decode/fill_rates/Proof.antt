@@ -6,13 +6,13 @@ use native.Mathlib.Omega.{arith}
 use mathlib.Core.Path.{_≡_, refl, ap, _∙_}
 use lib.ListN.{length}
 use Rattle.lists.proofs.FillLaws.{Filled, fill-more}
-use Rattle.records.specs.Records.{recordRate}
+use Rattle.records.specs.Records.{sheetNumber}
 use Rattle.filing.proofs.ContentsLaws.{filled-from}
 use Rattle.filing.proofs.decode.fill_rates.Statement.{statement}
 use Rattle.filing.proofs.decode.fill_rates.Tie as tie
 
 abbrev Inv-loop : tie.InvT-loop
-Inv-loop s at rates₀ i₀ rates i = (i ≤ length rates₀) × Filled (λ (j : ℕ). recordRate s at (1 + j)) 0 (length rates₀) i rates
+Inv-loop s at rates₀ i₀ rates i = (i ≤ length rates₀) × Filled (λ (j : ℕ). sheetNumber s at (1 + j)) 0 (length rates₀) i rates
 
 abbrev μ-loop : tie.MeasureT-loop
 μ-loop s at rates₀ i₀ rates i = length rates₀ - i
@@ -20,11 +20,11 @@ abbrev μ-loop : tie.MeasureT-loop
 loop-holds : tie.Need-loop-holds Inv-loop μ-loop
 loop-holds c = (omega arith, record { long = refl; holds = λ j h. absurd (omega arith) })
 
-add-record-rate : tie.Need-add-record-rate Inv-loop μ-loop
-add-record-rate c = omega arith
+add-sheet-number : tie.Need-add-sheet-number Inv-loop μ-loop
+add-sheet-number c = omega arith
 
-record-rate-requires : tie.Need-record-rate-requires Inv-loop μ-loop
-record-rate-requires c κs = tt
+sheet-number-requires : tie.Need-sheet-number-requires Inv-loop μ-loop
+sheet-number-requires c κs = tt
 
 mul-rates : tie.Need-mul-rates Inv-loop μ-loop
 mul-rates c = omega arith
@@ -44,8 +44,8 @@ loop-again c =
     let state = c .before .before .loop in
     let h : state .i < length (a .rates .now) = omega (arith, state .inv .1 .long) in (
       omega arith,
-      fill-more _ 0 (length (a .rates .now)) (state .i) (state .rates) (c .record-rate .result) h
-          (c .record-rate .ensures ∙ ap (recordRate (a .s .now) (a .at)) (add-comm (state .i) 1)) (state .inv .1),
+      fill-more _ 0 (length (a .rates .now)) (state .i) (state .rates) (c .sheet-number .result) h
+          (c .sheet-number .ensures ∙ ap (sheetNumber (a .s .now) (a .at)) (add-comm (state .i) 1)) (state .inv .1),
     )
 
 same-length : tie.Need-same-length Inv-loop μ-loop
@@ -64,8 +64,8 @@ fill-rates-spec =
     Inv-loop
     μ-loop
     loop-holds
-    add-record-rate
-    record-rate-requires
+    add-sheet-number
+    sheet-number-requires
     mul-rates
     slice-write-rates
     add-i

@@ -22,16 +22,16 @@ use denote.Triple.Spec.{tripleOf}
 use denote.Triple.Walked.{says}
 use Rattle.records.specs.declared.reader.Reader.{Reader}
 use Rattle.records.specs.declared.Step.{Step}
-use Rattle.records.specs.declared.scan.Scanned.{Scanned}
+use Rattle.records.specs.declared.scan.Progress.{Progress}
 use Rattle.records.proofs.ReaderLaws.{TheReader, bytes-value, reader-value, token}
 use Rattle.records.proofs.Step as S
-use Rattle.records.proofs.scan.Scanned as K
+use Rattle.records.proofs.scan.Progress as P
 use Rattle.records.proofs.reader.Reader.new as new
 use Rattle.records.proofs.reader.Reader.step as step
 use Rattle.records.proofs.reader.Reader.moved as moved
 use Rattle.records.proofs.scan.start as start
 use Rattle.records.proofs.scan.visit as visit
-use Rattle.records.proofs.scan.scan.Proof.State.{scanned-value, Ready}
+use Rattle.records.proofs.scan.scan.Proof.State.{progress-value, Ready}
 
 module _ {M : Type 1} (𝓤 : URA M) (H : Heap 𝓤) (A : Atoms 𝓤) (mem : Memory → SProp 𝓤) (run : Routine → Fun 𝓤) where
   abbrev pub NewC : Contract 𝓤
@@ -60,8 +60,8 @@ module _ {M : Type 1} (𝓤 : URA M) (H : Heap 𝓤) (A : Atoms 𝓤) (mem : Mem
     abbrev pub to-step : Reader → StepC .Ghost
     to-step r = (((κ, tt), (q, tt), tt, (r, tt), (reader-value r ∷ [], tt)), tt)
 
-    abbrev pub to-visit : RefT (List ℕ) → Step → Val → Scanned → VisitC .Ghost
-    to-visit s t u k = (((κ, tt), (q, tt), tt, (s, (t, (k, tt))), (bytes-value s ∷ [], (u ∷ [], (scanned-value k ∷ [], tt)))), tt)
+    abbrev pub to-visit : RefT (List ℕ) → Step → Val → Progress → VisitC .Ghost
+    to-visit s t u p = (((κ, tt), (q, tt), tt, (s, (t, (p, tt))), (bytes-value s ∷ [], (u ∷ [], (progress-value p ∷ [], tt)))), tt)
 
     abbrev pub to-moved : Reader → ℕ → MovedC .Ghost
     to-moved r i = (((κ, tt), (q, tt), tt, (r, (i, tt)), (reader-value r ∷ [], (vint w64 i ∷ [], tt))), tt)
@@ -86,8 +86,8 @@ module _ {M : Type 1} (𝓤 : URA M) (H : Heap 𝓤) (A : Atoms 𝓤) (W : Given
     asked-moved r i = qed W (token 𝓤 κ q ∷ ‵ (owns (TheReader (κ, tt) ∷ usize ∷ []) (r, (i, tt)) (reader-value r ∷ [], (vint w64 i ∷ [], tt))) ∷ []) ∵ join ! $ frame ! $ done !
 
     -- `visit` asks a fact besides
-    pub asked-visit : (s : RefT (List ℕ)) (t : Step) (u : Val) (k : Scanned) → Ready s t k
-        → ent 𝓤 (⋆ 𝓤 H A (token 𝓤 κ q ∷ ‵ (owns (ShrSlice (named 0) κ u8 ∷ S.the-row ∷ K.the-row ∷ []) (s, (t, (k, tt))) (bytes-value s ∷ [], (u ∷ [], (scanned-value k ∷ [], tt)))) ∷ []))
-        (VisitC 𝓤 H A mem run .pre (to-visit 𝓤 H A mem run κ q s t u k))
-    asked-visit s t u k ready =
-        qed W (token 𝓤 κ q ∷ ‵ (owns (ShrSlice (named 0) κ u8 ∷ S.the-row ∷ K.the-row ∷ []) (s, (t, (k, tt))) (bytes-value s ∷ [], (u ∷ [], (scanned-value k ∷ [], tt)))) ∷ []) ∵ says ! ready $ frame ! $ done !
+    pub asked-visit : (s : RefT (List ℕ)) (t : Step) (u : Val) (p : Progress) → Ready s t p
+        → ent 𝓤 (⋆ 𝓤 H A (token 𝓤 κ q ∷ ‵ (owns (ShrSlice (named 0) κ u8 ∷ S.the-row ∷ P.the-row ∷ []) (s, (t, (p, tt))) (bytes-value s ∷ [], (u ∷ [], (progress-value p ∷ [], tt)))) ∷ []))
+        (VisitC 𝓤 H A mem run .pre (to-visit 𝓤 H A mem run κ q s t u p))
+    asked-visit s t u p ready =
+        qed W (token 𝓤 κ q ∷ ‵ (owns (ShrSlice (named 0) κ u8 ∷ S.the-row ∷ P.the-row ∷ []) (s, (t, (p, tt))) (bytes-value s ∷ [], (u ∷ [], (progress-value p ∷ [], tt)))) ∷ []) ∵ says ! ready $ frame ! $ done !

@@ -1,17 +1,15 @@
--- `record_rate` meets its contract: a number of two bytes is below 65,536, and one that starts past the end is 0.
+-- `sheet_number` meets its contract: a number of two bytes is below 65,536, and one that starts past the end is 0.
 -- Assumes nothing.
 use borrow.Author.Needs.{needs}
 use native.Mathlib.Nat.{add-assoc}
 use native.Mathlib.Omega.{arith}
 use mathlib.Core.Path.{sym, _∙_}
 use Prim.Native.Nat.{_+_, _*_}
-use Rattle.records.specs.Records.{recordRate}
 use Rattle.records.proofs.ByteLaws.{number-lt, number-past}
-use Rattle.records.proofs.fields.record_rate.Statement.{statement}
-use Rattle.records.proofs.fields.record_rate.Tie as tie
+use Rattle.records.proofs.fields.sheet_number.Statement.{statement}
+use Rattle.records.proofs.fields.sheet_number.Tie as tie
 
 returns : tie.Need-returns
-unfolding recordRate
 returns c =
     let a = c .before .before .args in
     sym (number-past (a .s .now) (a .at + 2 + 2 * a .i) 2 (omega arith))
@@ -31,8 +29,7 @@ cast-result c =
     omega (arith, number-lt (a .s .now) (a .at + (2 + 2 * a .i)) 2 (c .before .before .shared-slice-known .given))
 
 returns-2 : tie.Need-returns-2
-unfolding recordRate
 returns-2 c = c .field-at .ensures ∙ rw add-assoc
 
-pub record-rate-spec : {M : Type 1} → statement M
-record-rate-spec = tie.close (tie.spec returns mul-field-at add-field-at field-at-requires cast-result returns-2)
+pub sheet-number-spec : {M : Type 1} → statement M
+sheet-number-spec = tie.close (tie.spec returns mul-field-at add-field-at field-at-requires cast-result returns-2)

@@ -1,0 +1,19 @@
+-- `misshapen` meets its contract.
+-- Assumes nothing.
+use borrow.Author.Needs.{needs}
+use Rattle.records.specs.Faults as faults
+use Rattle.records.proofs.faults.misshapen.Statement.{statement}
+use Rattle.records.proofs.faults.misshapen.Tie as tie
+
+record-length-requires : tie.Need-record-length-requires
+record-length-requires c κs = search needs
+
+due-length-requires : tie.Need-due-length-requires
+due-length-requires c κs = search needs
+
+returns : tie.Need-returns
+unfolding faults.misshapen
+returns c = rw (c .before .record-length .ensures, c .due-length .ensures)
+
+pub misshapen-spec : {M : Type 1} → statement M
+misshapen-spec = tie.close (tie.spec record-length-requires due-length-requires returns)
