@@ -9,7 +9,8 @@ use mathlib.Core.List.{List, [], _∷_, map}
 use borrow.Author.Tests.{ltb-true, ltb-false, ne-eqb}
 use lib.Dec.{T, leb, ltb, eqb, leb→le}
 use Rattle.lists.specs.Tables.{contains}
-use Rattle.schedule.specs.Cells.{Position, position, positions, brokeredCell, penaltyBalanceCell, penaltyMonthsCell, totalCell, unusedCells}
+use Rattle.schedule.specs.declared.Position.{Position}
+use Rattle.schedule.specs.Cells.{position, positions, brokeredCell, penaltyBalanceCell, penaltyMonthsCell, totalCell, unusedCells}
 use Rattle.schedule.specs.Limits.{cellClass}
 
 -- each number of the list is one of 601 to 661

@@ -5,16 +5,10 @@ use mathlib.Core.List.{List, [], _∷_}
 use lib.ListN.{getD}
 use lib.Dec.{leb, eqb}
 use Rattle.lists.specs.Tables.{those}
+use Rattle.schedule.specs.declared.Position.{Position}
 
--- One of the nine balances: its row (remaining months, 1 to 4), its column (original maturity, 1 to 3), and the numbers of its cells:
--- balance (thousands of dollars), WAC (hundredths of a percent a year) and WARM (months)
-pub record Position : Type 0 where
-  pub row : ℕ
-  pub column : ℕ
-  pub balance : ℕ
-  pub coupon : ℕ
-  pub months : ℕ
-
+-- One of the nine balances is a `Position`: its row (remaining months, 1 to 4), its column (original maturity, 1 to 3), and the numbers of its
+-- cells: balance (thousands of dollars), WAC (hundredths of a percent a year) and WARM (months). This one from those five, in that order
 unfoldable pub position : ℕ → ℕ → ℕ → ℕ → ℕ → Position
 position r j b c m = record { row = r; column = j; balance = b; coupon = c; months = m }
 

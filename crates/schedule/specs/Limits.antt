@@ -5,7 +5,8 @@ use mathlib.Core.List.{List, [], _∷_, map}
 use lib.ListN.{getD}
 use lib.Dec.{eqb}
 use Rattle.lists.specs.Tables.{contains}
-use Rattle.schedule.specs.Cells.{Position, positions, brokeredCell, penaltyBalanceCell, penaltyMonthsCell, totalCell, unusedCells}
+use Rattle.schedule.specs.declared.Position.{Position}
+use Rattle.schedule.specs.Cells.{positions, brokeredCell, penaltyBalanceCell, penaltyMonthsCell, totalCell, unusedCells}
 
 -- The classes of cells. 0: not listed. 1: balance. 2: coupon (WAC). 3: remaining months (WARM). 4: brokered balance, or balance subject to penalty.
 -- 5: penalty months. 6: total. 7: accepted and not used
@@ -24,11 +25,40 @@ cellClass cell =
     columns : List ℕ
     columns = 1 ∷ 2 ∷ 3 ∷ []
 
--- the largest value of a class, inclusive (01:24). An unused cell takes any 8-byte value
-unfoldable pub classLimit : ℕ → ℕ
-classLimit class =
-    getD (0 ∷ 999999999 ∷ 1500 ∷ 120 ∷ 3999999996 ∷ 3600 ∷ 8999999991 ∷ (2 ^ 64 - 1) ∷ []) class 0
+-- the limits of 01:24, inclusive: balance, brokered or penalty balance and total in thousands of dollars, WAC, yield and retail rate in hundredths of a
+-- percent a year, WARM in months, penalty in hundredths of a month
+abbrev pub balanceLimit : ℕ
+balanceLimit = 999999999
 
--- the largest yield or retail rate (01:24), hundredths of a percent a year
+abbrev pub columnLimit : ℕ
+columnLimit = 3999999996
+
+abbrev pub totalLimit : ℕ
+totalLimit = 8999999991
+
+abbrev pub couponLimit : ℕ
+couponLimit = 1500
+
+abbrev pub monthsLimit : ℕ
+monthsLimit = 120
+
+abbrev pub penaltyLimit : ℕ
+penaltyLimit = 3600
+
 abbrev pub rateLimit : ℕ
 rateLimit = 2500
+
+-- the largest value of a class. An unused cell takes any 8-byte value
+unfoldable pub classLimit : ℕ → ℕ
+classLimit class =
+    getD
+    (0
+    ∷ balanceLimit
+    ∷ couponLimit
+    ∷ monthsLimit
+    ∷ columnLimit
+    ∷ penaltyLimit
+    ∷ totalLimit
+    ∷ (2 ^ 64 - 1)
+    ∷ [])
+    class 0

@@ -1,5 +1,7 @@
 -- The seven scenarios (01:48), numbered 0 to 6: shifts of -300, -200, .., 300 hundredths of a percent a year. Definitions only.
 use Prim.Native.Nat.{ℕ, _+_, _*_, _-_}
+use mathlib.Core.List.{List}
+use Rattle.lists.specs.Tables.{table}
 
 abbrev pub scenarioCount : ℕ
 scenarioCount = 7
@@ -8,3 +10,11 @@ scenarioCount = 7
 -- at 0, as a result below 0 counts as 0
 unfoldable pub shiftedRate : ℕ → ℕ → ℕ
 shiftedRate number rate = rate + 100 * number - 300
+
+-- a yield or retail rate in each of the scenarios
+unfoldable pub shiftedRates : ℕ → List ℕ
+shiftedRates rate = table scenarioCount (λ (number : ℕ). shiftedRate number rate)
+
+-- the largest shifted rate: the limit of 01:24 and the highest shift, hundredths of a percent a year
+abbrev pub shiftedLimit : ℕ
+shiftedLimit = 2800

@@ -1,51 +1,100 @@
-// The nine positions of Schedule CMR, 0 to 8 by ascending balance cell. The check tests each table against the definitions, entry by entry.
+// The nine positions of Schedule CMR, 0 to 8 by ascending balance cell. The check tests the tables against the definitions.
+use crate::Position;
+use crate::tables::entry_at;
 ghost use mathlib.Core.Path.{_≡_};
-ghost use Prim.Native.Nat.{_<_};
-ghost use Rattle.schedule.specs.Cells.{positionAt, leastMonths, mostMonths};
+ghost use Rattle.schedule.specs.Cells.{positionAt, withinRow};
 
-// The cell of a position's balance.
-pub fn balance_cell(i: usize) -> usize
-    requires { ⌜ i < 9 ⌝ }
-    ensures { λ r. ⌜ r ≡ positionAt i .balance ⌝ }
+// The nine positions: row, column, and the cells of balance, coupon and remaining months.
+const POSITIONS: [Position; 9] = [
+    Position {
+        row: 1,
+        column: 1,
+        balance: 601,
+        coupon: 605,
+        months: 608,
+    },
+    Position {
+        row: 1,
+        column: 2,
+        balance: 602,
+        coupon: 606,
+        months: 609,
+    },
+    Position {
+        row: 1,
+        column: 3,
+        balance: 603,
+        coupon: 607,
+        months: 610,
+    },
+    Position {
+        row: 2,
+        column: 1,
+        balance: 615,
+        coupon: 619,
+        months: 622,
+    },
+    Position {
+        row: 2,
+        column: 2,
+        balance: 616,
+        coupon: 620,
+        months: 623,
+    },
+    Position {
+        row: 2,
+        column: 3,
+        balance: 617,
+        coupon: 621,
+        months: 624,
+    },
+    Position {
+        row: 3,
+        column: 2,
+        balance: 631,
+        coupon: 634,
+        months: 636,
+    },
+    Position {
+        row: 3,
+        column: 3,
+        balance: 632,
+        coupon: 635,
+        months: 637,
+    },
+    Position {
+        row: 4,
+        column: 3,
+        balance: 641,
+        coupon: 643,
+        months: 644,
+    },
+];
+
+// The position at a place of the table; all 0 past the ninth.
+pub fn position(i: usize) -> Position
+    ensures { λ r. ⌜ r ≡ positionAt i ⌝ }
 {
-    [601, 602, 603, 615, 616, 617, 631, 632, 641][i]
+    if i < 9 {
+        return POSITIONS[i];
+    }
+    Position {
+        row: 0,
+        column: 0,
+        balance: 0,
+        coupon: 0,
+        months: 0,
+    }
 }
 
-// The cell of a position's coupon (WAC).
-pub fn coupon_cell(i: usize) -> usize
-    requires { ⌜ i < 9 ⌝ }
-    ensures { λ r. ⌜ r ≡ positionAt i .coupon ⌝ }
+// Months lie within a row, 1 to 4.
+pub fn within_row(row: usize, months: u64) -> bool
+    ensures { λ r. ⌜ r ≡ withinRow row months ⌝ }
 {
-    [605, 606, 607, 619, 620, 621, 634, 635, 643][i]
-}
-
-// The cell of a position's remaining months (WARM).
-pub fn months_cell(i: usize) -> usize
-    requires { ⌜ i < 9 ⌝ }
-    ensures { λ r. ⌜ r ≡ positionAt i .months ⌝ }
-{
-    [608, 609, 610, 622, 623, 624, 636, 637, 644][i]
-}
-
-// The column of a position, 1 to 3.
-pub fn column_of(i: usize) -> usize
-    requires { ⌜ i < 9 ⌝ }
-    ensures { λ r. ⌜ r ≡ positionAt i .column ⌝ }
-{
-    [1, 2, 3, 1, 2, 3, 2, 3, 3][i]
-}
-
-// The least and the most remaining months of a position's row.
-pub fn least_months(i: usize) -> u64
-    requires { ⌜ i < 9 ⌝ }
-    ensures { λ r. ⌜ r ≡ leastMonths (positionAt i .row) ⌝ }
-{
-    [1, 1, 1, 4, 4, 4, 13, 13, 37][i]
-}
-
-pub fn most_months(i: usize) -> u64
-    requires { ⌜ i < 9 ⌝ }
-    ensures { λ r. ⌜ r ≡ mostMonths (positionAt i .row) ⌝ }
-{
-    [3, 3, 3, 12, 12, 12, 36, 36, 120][i]
+    let least = entry_at(&[0, 1, 4, 13, 37], row);
+    let most = entry_at(&[0, 3, 12, 36, 120], row);
+    if months < least {
+        return false;
+    }
+    months <= most
 }

@@ -1,7 +1,6 @@
 // The rate scenarios (01:48).
 ghost use mathlib.Core.Path.{_≡_};
-ghost use Prim.Native.Nat.{_<_};
-ghost use Rattle.schedule.specs.Shift.{shiftedRate, scenarioCount};
+ghost use Rattle.schedule.specs.Shift.{shiftedRate, shiftedRates};
 
 // A scenario by its number: its shift is that many steps above the lowest, and the middle one leaves rates as they are.
 pub struct Scenario {
@@ -15,7 +14,6 @@ impl Scenario {
     pub const STEP: u64 = 100;
 
     pub fn new(number: u8) -> Self
-        requires { ⌜ number < scenarioCount ⌝ }
         ensures { λ r. ⌜ r .number ≡ number ⌝ }
     {
         Self { number }
@@ -29,4 +27,17 @@ impl Scenario {
         let middle = Self::STEP * (Self::COUNT / 2);
         if raised < middle { 0 } else { raised - middle }
     }
+}
+
+// A yield or retail rate under each of the scenarios.
+pub fn shifted_rates(rate: u16) -> [u64; 7]
+    ensures { λ r. ⌜ r ≡ shiftedRates rate ⌝ }
+{
+    let mut rates = [0; 7];
+    let mut i: u8 = 0;
+    while (i as u64) < Scenario::COUNT {
+        rates[i as usize] = Scenario::new(i).shifted(rate);
+        i += 1;
+    }
+    rates
 }
