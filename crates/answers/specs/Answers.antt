@@ -1,7 +1,7 @@
--- The answers of the code as verdicts of the paper's table (01:28-39): each case's number and place. Definitions only.
+-- The answers of the code as verdicts of the paper's table (01:28-39; 02:CR 1): each case's number and place. Definitions only.
 use Prim.Native.Nat.{ℕ}
 use Rattle.answers.specs.declared.Answer.{Answer}
-use Rattle.answers.specs.declared.Answer.the-variants.{Accepted, RecordIncomplete, RecordMisshapen, CellUnlisted, Repeated, OverLimit, SheetMissing, MonthsOutsideRow, AboveColumnSum, TotalDiffers, ListTooShort}
+use Rattle.answers.specs.declared.Answer.the-variants.{Accepted, RecordIncomplete, RecordMisshapen, CellUnlisted, Repeated, OverLimit, TiersUnsound, SheetMissing, MonthsOutsideRow, AboveColumnSum, TotalDiffers, ListTooShort}
 use Rattle.answers.specs.Verdict.{Verdict}
 
 -- the number of an answer
@@ -12,6 +12,7 @@ numberOf (RecordMisshapen offset) = 2
 numberOf (CellUnlisted offset) = 3
 numberOf (Repeated offset) = 4
 numberOf (OverLimit offset) = 5
+numberOf (TiersUnsound offset) = 11
 numberOf (SheetMissing size) = 6
 numberOf (MonthsOutsideRow cell) = 7
 numberOf (AboveColumnSum cell) = 8
@@ -26,6 +27,7 @@ placeOf (RecordMisshapen offset) = offset
 placeOf (CellUnlisted offset) = offset
 placeOf (Repeated offset) = offset
 placeOf (OverLimit offset) = offset
+placeOf (TiersUnsound offset) = offset
 placeOf (SheetMissing size) = size
 placeOf (MonthsOutsideRow cell) = cell
 placeOf (AboveColumnSum cell) = cell

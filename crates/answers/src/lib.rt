@@ -12,6 +12,7 @@ pub enum Answer {
     CellUnlisted(usize),
     Repeated(usize),
     OverLimit(usize),
+    TiersUnsound(usize),
     // At the input's length.
     SheetMissing(usize),
     // At the cell.
@@ -33,6 +34,7 @@ pub fn number(answer: Answer) -> u64
         Answer::CellUnlisted(_) => 3,
         Answer::Repeated(_) => 4,
         Answer::OverLimit(_) => 5,
+        Answer::TiersUnsound(_) => 11,
         Answer::SheetMissing(_) => 6,
         Answer::MonthsOutsideRow(_) => 7,
         Answer::AboveColumnSum(_) => 8,
@@ -52,6 +54,7 @@ pub fn place(answer: Answer) -> usize
         Answer::CellUnlisted(at) => at,
         Answer::Repeated(at) => at,
         Answer::OverLimit(at) => at,
+        Answer::TiersUnsound(at) => at,
         Answer::SheetMissing(size) => size,
         Answer::MonthsOutsideRow(cell) => cell,
         Answer::AboveColumnSum(cell) => cell,

@@ -1,12 +1,15 @@
 -- A test over a range of numbers, or over all entries of a list, is computed once and carried to each of them. Assumes nothing.
 use Prim.Native.Nat.{ℕ, zero, suc, _+_, _-_, _≤_, _<_, zero-le}
-use mathlib.Core.Path.{_≡_, subst}
-use mathlib.Core.Bool.{Bool, true, false, _&&_}
+use mathlib.Core.Path.{_≡_, refl, sym, subst, _∙_}
+use mathlib.Core.Logic.{⊎-elim}
+use mathlib.Core.Bool.{Bool, true, false, _&&_, _||_, true≢false}
 use mathlib.Core.List.{List, [], _∷_}
-use native.Mathlib.Nat.{add-zero, suc-add, add-suc, le-of-suc-le-suc, not-suc-le-zero}
+use native.Mathlib.Nat.{add-zero, suc-add, add-suc, le-of-suc-le-suc, not-suc-le-zero, eq-or-lt-of-le}
+use native.Mathlib.Numerals.{add-one}
 use native.Mathlib.Omega.{arith}
 use lib.Dec.{T, leb, leb→le}
 use lib.ListN.{length, getD}
+use Rattle.lists.specs.Tables.{anyBelow}
 
 -- both sides of a conjunction that holds
 pub both : (a b : Bool) → T (a && b) → T a × T b
@@ -48,3 +51,32 @@ pub entries-le : (xs : List ℕ) (b : ℕ) → T (everyEntry (λ i x. leb x b) x
 entries-le [] b t k = zero-le
 entries-le (x ∷ xs) b t zero = leb→le x b (both (leb x b) (everyEntry (λ i y. leb y b) xs) t .0)
 entries-le (x ∷ xs) b t (suc k) = entries-le xs b (both (leb x b) (everyEntry (λ i y. leb y b) xs) t .1) k
+
+-- one of the numbers below n passes a test
+module _ (test : ℕ → Bool) where
+  -- the next number does not pass either
+  pub any-none : (n : ℕ) → anyBelow test n ≡ false → test n ≡ false → anyBelow test (n + 1) ≡ false
+  unfolding anyBelow
+  any-none n e h = rw (add-one, e) h
+
+  any-first : (n : ℕ) → test n ≡ true → (anyBelow test n || test n) ≡ true
+  any-first n h = rw h (by (anyBelow test n))
+    where
+      by : (b : Bool) → (b || true) ≡ true
+      by true = refl
+      by false = refl
+
+  -- one that passes is enough
+  pub any-here : (n i : ℕ) → i < n → test i ≡ true → anyBelow test n ≡ true
+  unfolding anyBelow
+  any-here zero i l h = absurd (not-suc-le-zero l)
+  any-here (suc n) i l h =
+      ⊎-elim (λ e. any-first n (rw e at h)) (λ m. rw (any-here n i m h)) (eq-or-lt-of-le (le-of-suc-le-suc l))
+
+  -- where none passes, each fails
+  pub any-fails : (n : ℕ) → anyBelow test n ≡ false → (i : ℕ) → i < n → test i ≡ false
+  any-fails n h i l = by (test i) refl
+    where
+      by : (b : Bool) → test i ≡ b → b ≡ false
+      by true e = absurd (true≢false (sym (any-here n i l e) ∙ h))
+      by false e = refl

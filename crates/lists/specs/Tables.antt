@@ -27,3 +27,8 @@ those test (x ∷ xs) = cond (test x) (x ∷ those test xs) (those test xs)
 unfoldable pub contains : List ℕ → ℕ → Bool
 contains [] x = false
 contains (y ∷ ys) x = eqb x y || contains ys x
+
+-- one of the numbers below n passes the test
+unfoldable pub anyBelow : (ℕ → Bool) → ℕ → Bool
+anyBelow test zero = false
+anyBelow test (suc n) = anyBelow test n || test n

@@ -1,6 +1,6 @@
--- The verdict on one record, and what holds of a record that has none of the faults 1 to 5.
+-- The verdict on one record, and what holds of a record that has none of the faults 1 to 5 and 11.
 -- Assumes nothing.
-use Prim.Native.Nat.{ℕ, suc, _+_, _*_, _≤_}
+use Prim.Native.Nat.{ℕ, suc, _+_, _*_, _≤_, _<_}
 use native.Mathlib.Omega.{arith}
 use mathlib.Core.Path.{_≡_, refl, ap, _∙_}
 use mathlib.Core.Bool.{Bool, true, false, cond, _||_}
@@ -8,12 +8,14 @@ use mathlib.Core.List.{List}
 use borrow.Author.Tests.{ltb-false, eqb-true, eq-eqb, ne-eqb, not-false}
 use lib.Dec.{ltb, eqb}
 use lib.ListN.{length}
-use Rattle.schedule.specs.Limits.{cellClass, classLimit}
+use Rattle.lists.specs.Tables.{anyBelow}
+use Rattle.lists.proofs.TestLaws.{any-fails}
+use Rattle.schedule.specs.Limits.{cellClass, classLimit, tierLimit}
 use Rattle.answers.specs.Verdict.{refusedIf, refused, accepted, firstRefusal, firstOf}
 use Rattle.answers.proofs.VerdictLaws.{first-passed, first-none, condition-none, condition-fails}
-use Rattle.records.specs.Records.{recordLength, recordKind, recordCell, recordValue, sheetNumber, nextRecord}
-use Rattle.records.specs.Kinds.{sheetOf, sheetKinds, sheetKind, sheetLength, dueLength}
-use Rattle.records.specs.Faults.{incomplete, misshapen, unlisted, repeated, numberOver, overLimit}
+use Rattle.records.specs.Records.{recordLength, recordKind, recordCell, recordValue, sheetNumber, tierCount, nextRecord}
+use Rattle.records.specs.Kinds.{sheetOf, sheetKinds, sheetKind, sheetLength, tiersKind, dueLength}
+use Rattle.records.specs.Faults.{incomplete, misshapen, unlisted, repeated, numberOver, overLimit, unfitTier, unsoundTiers}
 use Rattle.records.specs.RecordVerdicts.{recordVerdict}
 use Rattle.records.proofs.ItemLaws.{OfSheet}
 use Rattle.records.proofs.SheetLaws.{none-over}
@@ -23,20 +25,29 @@ pub neither : (a b : Bool) → (a || b) ≡ false → (a ≡ false) × (b ≡ fa
 neither true b e = (e, cc)
 neither false b e = (refl, e)
 
--- each of the tests 1 to 5 fails
+-- each of the tests 1 to 5 and 11 fails
 pub record Faultless (s : List ℕ) (at : ℕ) : Type 0 where
   pub complete : incomplete s at ≡ false
   pub shaped : misshapen s at ≡ false
   pub listed : unlisted s at ≡ false
   pub single : repeated s at ≡ false
   pub limited : overLimit s at ≡ false
+  pub loaded : unsoundTiers s at ≡ false
 
--- a record without a fault: it ends within the bytes, its length is its kind's, a cell's value and a sheet's numbers are within their limits
+-- tiers that load: 1 to 16, and each fits
+pub record SoundTiers (s : List ℕ) (at : ℕ) : Type 0 where
+  pub some : 1 ≤ tierCount s at
+  pub few : tierCount s at ≤ tierLimit
+  pub fits : (i : ℕ) → i < tierCount s at → unfitTier s at i ≡ false
+
+-- a record without a fault: it ends within the bytes, its length is its kind's, a cell's value and a sheet's numbers are within their limits, and
+-- tiers load
 pub record Sound (s : List ℕ) (at : ℕ) : Type 0 where
   pub complete : nextRecord s at ≤ length s
   pub shaped : recordLength s at ≡ dueLength s at
   pub value-limit : recordKind s at ≡ 1 → recordValue s at ≤ classLimit (cellClass (recordCell s at))
   pub number-limit : (i : ℕ) → 1 ≤ i → i ≤ sheetKind (recordKind s at) .numbers → sheetNumber s at i ≤ sheetKind (recordKind s at) .limit
+  pub tiers : recordKind s at ≡ tiersKind → SoundTiers s at
 
 -- the last row alone
 last-row : (b : Bool) (n at : ℕ) → firstRefusal (refusedIf b (suc n) at) accepted ≡ refusedIf b (suc n) at
@@ -56,9 +67,10 @@ module _ (s : List ℕ) (at : ℕ) where
       ≡ firstRefusal (refusedIf (misshapen s at) 2 at)
       (firstRefusal (refusedIf (unlisted s at) 3 at)
       (firstRefusal (refusedIf (repeated s at) 4 at)
-      (refusedIf (overLimit s at) 5 at)))
+      (firstRefusal (refusedIf (overLimit s at) 5 at)
+      (refusedIf (unsoundTiers s at) 11 at))))
   unfolding recordVerdict firstOf
-  verdict-complete h = first-passed (refusedIf (incomplete s at) 1 at) _ (condition-none (incomplete s at) 1 at h) ∙ rw (last-row (overLimit s at) 4 at)
+  verdict-complete h = first-passed (refusedIf (incomplete s at) 1 at) _ (condition-none (incomplete s at) 1 at h) ∙ rw (last-row (unsoundTiers s at) 10 at)
 
   -- 1 does not hold: the record lies within the bytes, with room for its kind
   pub record Within : Type 0 where
@@ -97,10 +109,29 @@ module _ (s : List ℕ) (at : ℕ) where
           absurd (omega arith)
       by false e h = none-over s at (sheetKind (recordKind s at) .limit) (sheetKind (recordKind s at) .numbers) h i l u
 
-  -- the length that a sheet is to have
-  sheet-due : (kind : ℕ) → OfSheet s at kind → dueLength s at ≡ 2 + 2 * sheetKind kind .numbers
-  unfolding sheetLength dueLength
-  sheet-due kind of = rw (of .kind-is) (simp (ne-eqb kind 1 (of .not-one), ne-eqb (sheetKind kind .numbers) 0 (of .some)))
+  -- 11 does not hold: the tiers load
+  tiers-load : unsoundTiers s at ≡ false → recordKind s at ≡ tiersKind → SoundTiers s at
+  unfolding unsoundTiers
+  tiers-load h e =
+      let count = tierCount s at in
+      let h1 = neither (ltb count 1) (ltb tierLimit count || anyBelow (unfitTier s at) count) (simp (eq-eqb (recordKind s at) tiersKind e) at h) in
+      let h2 = neither (ltb tierLimit count) (anyBelow (unfitTier s at) count) (h1 .1) in
+      record {
+        some = ltb-false count 1 (h1 .0);
+        few = ltb-false tierLimit count (h2 .0);
+        fits = any-fails (unfitTier s at) count (h2 .1);
+      }
+
+  -- the length that a sheet of numbers is to have
+  sheet-due : (kind : ℕ) → OfSheet s at kind → (sheetKind kind .numbers ≡ 0 → ⊥) → dueLength s at ≡ 2 + 2 * sheetKind kind .numbers
+  unfolding sheetLength dueLength sheetOf sheetKinds sheetKind
+  sheet-due kind of some =
+      rw (of .kind-is)
+      (simp (
+        ne-eqb kind 1 (of .not-one),
+        ne-eqb kind tiersKind (λ e. some (ap (λ (k : ℕ). sheetKind k .numbers) e)),
+        ne-eqb (sheetKind kind .numbers) 0 some,
+      ))
 
   -- a record that is not refused: no test passed
   pub faultless : recordVerdict s at .number ≡ 0 → Faultless s at
@@ -111,12 +142,14 @@ module _ (s : List ℕ) (at : ℕ) where
       let h3 = first-none _ _ (h2 .1) in
       let h4 = first-none _ _ (h3 .1) in
       let h5 = first-none _ _ (h4 .1) in
+      let h6 = first-none _ _ (h5 .1) in
       record {
         complete = condition-fails (incomplete s at) 0 at (h1 .0);
         shaped = condition-fails (misshapen s at) 1 at (h2 .0);
         listed = condition-fails (unlisted s at) 2 at (h3 .0);
         single = condition-fails (repeated s at) 3 at (h4 .0);
         limited = condition-fails (overLimit s at) 4 at (h5 .0);
+        loaded = condition-fails (unsoundTiers s at) 10 at (h6 .0);
       }
 
   pub faultless-sound : recordVerdict s at .number ≡ 0 → Sound s at
@@ -127,11 +160,12 @@ module _ (s : List ℕ) (at : ℕ) where
         shaped = shaped-length (f .shaped);
         value-limit = value-within (f .limited);
         number-limit = numbers-within (f .limited);
+        tiers = tiers-load (f .loaded);
       }
 
-  -- a sound sheet ends within the bytes: its length, its kind and its numbers, 2 bytes each
-  pub sheet-within : (kind : ℕ) → OfSheet s at kind → Sound s at → at + 4 + 2 * sheetKind kind .numbers ≤ length s
+  -- a sound sheet of numbers ends within the bytes: its length, its kind and its numbers, 2 bytes each
+  pub sheet-within : (kind : ℕ) → OfSheet s at kind → (sheetKind kind .numbers ≡ 0 → ⊥) → Sound s at → at + 4 + 2 * sheetKind kind .numbers ≤ length s
   unfolding nextRecord
-  sheet-within kind of sound =
-      let due : dueLength s at ≡ 2 + 2 * sheetKind kind .numbers = sheet-due kind of in
+  sheet-within kind of some sound =
+      let due : dueLength s at ≡ 2 + 2 * sheetKind kind .numbers = sheet-due kind of some in
       omega (arith, sound .complete, sound .shaped)

@@ -1,4 +1,4 @@
--- The kinds of record (01:7-9): what a sheet of each kind holds, and the length that a record is to have. Definitions only.
+-- The kinds of record (01:7-9; 02:CR 1): what a sheet of each kind holds, and the length that a record is to have. Definitions only.
 use Prim.Native.Nat.{ℕ, _+_, _*_}
 use mathlib.Core.Bool.{cond}
 use mathlib.Core.List.{List, [], _∷_}
@@ -6,11 +6,11 @@ use lib.ListN.{getD}
 use lib.Dec.{eqb}
 use Rattle.schedule.specs.Limits.{rateLimit}
 use Rattle.records.specs.declared.kinds.SheetKind.{SheetKind}
-use Rattle.records.specs.Records.{recordKind}
+use Rattle.records.specs.Records.{recordKind, tierCount}
 
 -- the kinds are below this number
 abbrev pub kindCount : ℕ
-kindCount = 4
+kindCount = 5
 
 -- a sheet of so many numbers, 2 bytes each, up to a limit
 unfoldable pub sheetOf : ℕ → ℕ → SheetKind
@@ -24,6 +24,7 @@ sheetKinds =
     ∷ sheetOf 0 0
     ∷ sheetOf 120 rateLimit
     ∷ sheetOf 3 rateLimit
+    ∷ sheetOf 0 0
     ∷ []
 
 unfoldable pub sheetKind : ℕ → SheetKind
@@ -33,6 +34,13 @@ sheetKind kind = getD sheetKinds kind (sheetOf 0 0)
 unfoldable pub sheetLength : ℕ → ℕ
 sheetLength numbers = cond (eqb numbers 0) 0 (2 + 2 * numbers)
 
--- the length that a record is to have, by its kind
+-- the kind of the tiers (02:CR 1)
+abbrev pub tiersKind : ℕ
+tiersKind = 4
+
+-- the length that a record is to have, by its kind: the tiers' goes by their count
 unfoldable pub dueLength : List ℕ → ℕ → ℕ
-dueLength s at = cond (eqb (recordKind s at) 1) 12 (sheetLength (sheetKind (recordKind s at) .numbers))
+dueLength s at =
+    cond (eqb (recordKind s at) 1) 12
+    (cond (eqb (recordKind s at) tiersKind) (4 + 4 * tierCount s at)
+    (sheetLength (sheetKind (recordKind s at) .numbers)))

@@ -24,6 +24,16 @@ recordValue s at = numberAt s (at + 6) 8
 abbrev pub sheetNumber : List ℕ → ℕ → ℕ → ℕ
 sheetNumber s at i = numberAt s (at + 2 + 2 * i) 2
 
+-- kind 4, tiers of annual withdrawal (02:CR 1): their count; of the i-th, from 0, the edge in hundredths and the withdrawal in thousandths
+abbrev pub tierCount : List ℕ → ℕ → ℕ
+tierCount s at = sheetNumber s at 1
+
+abbrev pub tierEdge : List ℕ → ℕ → ℕ → ℕ
+tierEdge s at i = sheetNumber s at (2 + 2 * i)
+
+abbrev pub tierWithdrawal : List ℕ → ℕ → ℕ → ℕ
+tierWithdrawal s at i = sheetNumber s at (3 + 2 * i)
+
 -- the offset of the record after this one
 unfoldable pub nextRecord : List ℕ → ℕ → ℕ
 nextRecord s at = at + 2 + recordLength s at

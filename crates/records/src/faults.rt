@@ -1,4 +1,4 @@
-// The faults of one complete record: refusals 2 to 5, each a function, in the paper's order. Refusal 1 is an incomplete record, which the
+// The faults of one complete record: refusals 2 to 5 and 11, each a function, in the paper's order. Refusal 1 is an incomplete record, which the
 // step tells.
 use crate::FIRST_CELL;
 use crate::fields::record_cell;
@@ -6,9 +6,11 @@ use crate::fields::record_kind;
 use crate::fields::record_length;
 use crate::fields::record_value;
 use crate::fields::sheet_number;
+use crate::fields::tier_count;
 use crate::items::Item;
 use crate::items::Noted;
 use crate::items::record_item;
+use crate::kinds::TIERS_KIND;
 use crate::kinds::due_length;
 use crate::kinds::sheet_kind;
 use answers::Answer;
@@ -17,13 +19,20 @@ use schedule::tables::cell_class;
 use schedule::tables::class_limit;
 ghost use mathlib.Core.Path.{_≡_};
 ghost use mathlib.Core.Bool.{false};
-ghost use Prim.Native.Nat.{_≤_};
+ghost use Prim.Native.Nat.{_≤_, _<_};
 ghost use lib.ListN.{length};
+ghost use Rattle.lists.specs.Tables.{anyBelow};
+ghost use Rattle.schedule.specs.Limits.{tierLimit};
 ghost use Rattle.answers.specs.Verdict.{refusedIf};
 ghost use Rattle.answers.specs.Answers.{numberOf, placeOf, verdictOf};
 ghost use Rattle.records.specs.Faults as faults;
 ghost use Rattle.records.specs.Inner.Notes.{notedBefore};
 ghost use Rattle.records.specs.RecordVerdicts.{recordVerdict};
+
+// The most tiers of a filing, and their largest annual withdrawal, in thousandths.
+const TIER_LIMIT: u16 = 16;
+
+const WITHDRAWAL_LIMIT: u16 = 600;
 
 // The answer on a complete record, given what is noted of the records before it.
 pub(crate) fn check_record(s: &[u8], at: usize, noted: Noted) -> Answer
@@ -35,9 +44,13 @@ pub(crate) fn check_record(s: &[u8], at: usize, noted: Noted) -> Answer
     let listing = refused_if(unlisted(s, at), Answer::CellUnlisted(at));
     let repetition = refused_if(repeated(s, at, noted), Answer::Repeated(at));
     let limit = refused_if(over_limit(s, at), Answer::OverLimit(at));
+    let tiers = refused_if(unsound_tiers(s, at), Answer::TiersUnsound(at));
     first_refusal(
         shape,
-        first_refusal(listing, first_refusal(repetition, limit)),
+        first_refusal(
+            listing,
+            first_refusal(repetition, first_refusal(limit, tiers)),
+        ),
     )
 }
 
@@ -104,4 +117,55 @@ fn number_over(s: &[u8], at: usize, limit: u16, n: usize) -> bool
         }
     }
     false
+}
+
+// 11: tiers that are not 1 to 16, or of which one does not load.
+fn unsound_tiers(s: &[u8], at: usize) -> bool
+    ensures { λ r. ⌜ r ≡ faults.unsoundTiers (now (s .entry)) at ⌝ }
+{
+    if record_kind(s, at) != TIERS_KIND {
+        return false;
+    }
+    let count = tier_count(s, at);
+    if count < 1 {
+        return true;
+    }
+    if TIER_LIMIT < count {
+        return true;
+    }
+    some_unfit(s, at, count as usize)
+}
+
+// One of the first n tiers does not load.
+fn some_unfit(s: &[u8], at: usize, n: usize) -> bool
+    requires { ⌜ n ≤ tierLimit ⌝ }
+    ensures { λ r. ⌜ r ≡ anyBelow (faults.unfitTier (now (s .entry)) at) n ⌝ }
+{
+    let mut i = 0;
+    while i < n {
+        if unfit_tier(s, at, i) {
+            return true;
+        }
+        i += 1;
+    }
+    false
+}
+
+// The i-th tier, from 0, does not load.
+fn unfit_tier(s: &[u8], at: usize, i: usize) -> bool
+    requires { ⌜ i < tierLimit ⌝ }
+    ensures { λ r. ⌜ r ≡ faults.unfitTier (now (s .entry)) at i ⌝ }
+{
+    let edge = sheet_number(s, at, 2 + 2 * i);
+    let withdrawal = sheet_number(s, at, 3 + 2 * i);
+    if WITHDRAWAL_LIMIT < withdrawal {
+        return true;
+    }
+    if i == 0 {
+        return edge != 0;
+    }
+    if edge <= sheet_number(s, at, 2 + 2 * (i - 1)) {
+        return true;
+    }
+    withdrawal < sheet_number(s, at, 3 + 2 * (i - 1))
 }

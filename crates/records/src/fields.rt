@@ -3,7 +3,7 @@ use crate::bytes::number_at;
 ghost use mathlib.Core.Path.{_≡_};
 ghost use Prim.Native.Nat.{_+_, _≤_};
 ghost use Rattle.records.specs.Bytes.{numberAt};
-ghost use Rattle.records.specs.Records.{recordLength, recordKind, recordCell, recordValue, sheetNumber};
+ghost use Rattle.records.specs.Records.{recordLength, recordKind, recordCell, recordValue, sheetNumber, tierCount};
 
 // The number of bytes after the length itself.
 pub(crate) fn record_length(s: &[u8], at: usize) -> u64
@@ -40,6 +40,13 @@ pub fn sheet_number(s: &[u8], at: usize, i: usize) -> u16
         return 0;
     }
     field_at(s, at, 2 + 2 * i, 2) as u16
+}
+
+// Kind 4: how many tiers there are.
+pub fn tier_count(s: &[u8], at: usize) -> u16
+    ensures { λ r. ⌜ r ≡ tierCount (now (s .entry)) at ⌝ }
+{
+    sheet_number(s, at, 1)
 }
 
 // The number of `width` bytes that stands `skip` bytes into the record at an offset.

@@ -4,7 +4,7 @@ use crate::FIRST_CELL;
 use crate::KINDS;
 use crate::fields::record_cell;
 use crate::fields::record_kind;
-use crate::kinds::sheet_kind;
+use crate::kinds::due_length;
 use schedule::tables::cell_class;
 ghost use mathlib.Core.Path.{_≡_};
 ghost use Rattle.records.specs.Items.{recordItem};
@@ -23,7 +23,7 @@ pub struct Noted {
     pub cells: [usize; CELLS],
 }
 
-// What a record is one of: kind 1 of its cell, where that is listed; a sheet of its kind.
+// What a record is one of: kind 1 of its cell, where that is listed; another kind that is known of its kind.
 pub(crate) fn record_item(s: &[u8], at: usize) -> Item
     ensures { λ r. ⌜ r ≡ recordItem (now (s .entry)) at ⌝ }
 {
@@ -35,8 +35,7 @@ pub(crate) fn record_item(s: &[u8], at: usize) -> Item
         }
         return Item::Cell(cell);
     }
-    let sheet = sheet_kind(kind);
-    if sheet.numbers == 0 {
+    if due_length(s, at) == 0 {
         return Item::Nothing;
     }
     Item::Sheet(kind)

@@ -1,8 +1,12 @@
 // The kinds of record: what a sheet of each kind holds, and the length that a record is to have.
 use crate::KINDS;
 use crate::fields::record_kind;
+use crate::fields::tier_count;
 ghost use mathlib.Core.Path.{_≡_};
 ghost use Rattle.records.specs.Kinds.{sheetKind, dueLength};
+
+// The kind of the tiers.
+pub(crate) const TIERS_KIND: usize = 4;
 
 // A kind of sheet: how many numbers it holds, 2 bytes each, and the largest that each may be. One that is no sheet holds none.
 pub struct SheetKind {
@@ -27,6 +31,10 @@ const SHEET_KINDS: [SheetKind; KINDS] = [
         numbers: 3,
         limit: 2_500,
     },
+    SheetKind {
+        numbers: 0,
+        limit: 0,
+    },
 ];
 
 // The sheet of a kind.
@@ -50,6 +58,9 @@ pub(crate) fn due_length(s: &[u8], at: usize) -> u64
     let kind = record_kind(s, at);
     if kind == 1 {
         return 12;
+    }
+    if kind == TIERS_KIND {
+        return 4 + 4 * (tier_count(s, at) as u64);
     }
     let sheet = sheet_kind(kind);
     if sheet.numbers == 0 {

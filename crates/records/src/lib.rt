@@ -10,7 +10,7 @@ pub mod scan;
 mod steps;
 
 // The kinds of record are below this number.
-pub const KINDS: usize = 4;
+pub const KINDS: usize = 5;
 
 // The cells that are noted: so many from the first on.
 pub const FIRST_CELL: u64 = 601;

@@ -48,6 +48,13 @@ penaltyLimit = 3600
 abbrev pub rateLimit : ℕ
 rateLimit = 2500
 
+-- the most tiers of a filing, and the largest annual withdrawal, thousandths (02:CR 1)
+abbrev pub tierLimit : ℕ
+tierLimit = 16
+
+abbrev pub withdrawalLimit : ℕ
+withdrawalLimit = 600
+
 -- the largest value of a class. An unused cell takes any 8-byte value
 unfoldable pub classLimit : ℕ → ℕ
 classLimit class =

@@ -4,6 +4,7 @@ use Prim.Native.Nat.{_≤_, _-_}
 use native.Mathlib.Omega.{arith}
 use mathlib.Core.Path.{_≡_, refl, sym}
 use mathlib.Core.Bool.{false}
+use Rattle.lists.specs.Tables.{anyBelow}
 use Rattle.records.specs.Faults.{numberOver}
 use Rattle.records.proofs.SheetLaws as sheet
 use Rattle.records.proofs.faults.number_over.Statement.{statement}
@@ -16,7 +17,7 @@ abbrev μ-loop : tie.MeasureT-loop
 μ-loop s at limit n i₀ i = n - i
 
 loop-holds : tie.Need-loop-holds Inv-loop μ-loop
-unfolding numberOver
+unfolding numberOver anyBelow
 loop-holds c = (omega arith, refl)
 
 add-i : tie.Need-add-i Inv-loop μ-loop

@@ -31,22 +31,22 @@ returns-2 c =
     rw (← at-one .before .record-kind .ensures, ← at-class .before .record-cell .ensures, ← at-class .cell-class .ensures)
     (simp (eq-eqb _ 1 (at-one .if1 .taken), ne-eqb _ 0 (c .if2 .left)))
 
-sheet-kind-requires : tie.Need-sheet-kind-requires
-sheet-kind-requires c κs = search needs
+due-length-requires : tie.Need-due-length-requires
+due-length-requires c κs = search needs
 
 returns-3 : tie.Need-returns-3
 unfolding recordItem
 returns-3 c =
-    let at-sheet = c .before .before in
-    rw (← at-sheet .before .before .record-kind .ensures, ← at-sheet .sheet-kind .ensures)
-    (simp (ne-eqb _ 1 (at-sheet .before .if1 .left), eq-eqb _ 0 (c .if3 .taken)))
+    let at-other = c .before in
+    rw (← at-other .before .before .record-kind .ensures, ← at-other .due-length .ensures)
+    (simp (ne-eqb _ 1 (at-other .before .if1 .left), eq-eqb _ 0 (c .if3 .taken)))
 
 returns-4 : tie.Need-returns-4
 unfolding recordItem
 returns-4 c =
-    let at-sheet = c .before .before in
-    rw (← at-sheet .before .before .record-kind .ensures, ← at-sheet .sheet-kind .ensures)
-    (simp (ne-eqb _ 1 (at-sheet .before .if1 .left), ne-eqb _ 0 (c .if3 .left)))
+    let at-other = c .before in
+    rw (← at-other .before .before .record-kind .ensures, ← at-other .due-length .ensures)
+    (simp (ne-eqb _ 1 (at-other .before .if1 .left), ne-eqb _ 0 (c .if3 .left)))
 
 pub record-item-spec : {M : Type 1} → statement M
 record-item-spec =
@@ -57,6 +57,6 @@ record-item-spec =
     cell-class-requires
     returns
     returns-2
-    sheet-kind-requires
+    due-length-requires
     returns-3
     returns-4)

@@ -1,8 +1,8 @@
 -- `due_length` meets its contract: each test of the code is the definition's.
 -- Assumes nothing.
-use borrow.Author.Needs.{needs}
 use borrow.Author.Tests.{eq-eqb, ne-eqb}
-use Rattle.records.specs.Kinds.{sheetLength, dueLength}
+use Rattle.records.specs.Kinds.{sheetLength, tiersKind, dueLength}
+use borrow.Author.Needs.{needs}
 use Rattle.records.proofs.kinds.due_length.Statement.{statement}
 use Rattle.records.proofs.kinds.due_length.Tie as tie
 
@@ -13,15 +13,8 @@ returns : tie.Need-returns
 unfolding dueLength
 returns c = rw (← c .before .record-kind .ensures) (simp (eq-eqb _ 1 (c .if1 .taken)))
 
-sheet-kind-requires : tie.Need-sheet-kind-requires
-sheet-kind-requires c κs = search needs
-
-returns-2 : tie.Need-returns-2
-unfolding sheetLength dueLength
-returns-2 c =
-    let at-sheet = c .before .before in
-    rw (← at-sheet .before .before .record-kind .ensures, ← at-sheet .sheet-kind .ensures)
-    (simp (ne-eqb _ 1 (at-sheet .before .if1 .left), eq-eqb _ 0 (c .if2 .taken)))
+tier-count-requires : tie.Need-tier-count-requires
+tier-count-requires c κs = search needs
 
 cast-result : tie.Need-cast-result
 cast-result c = search needs
@@ -32,12 +25,40 @@ mul-result c = search needs
 add-result : tie.Need-add-result
 add-result c = search needs
 
+returns-2 : tie.Need-returns-2
+unfolding dueLength
+returns-2 c =
+    let at-tiers = c .before in
+    rw (← at-tiers .before .before .record-kind .ensures, ← c .tier-count .ensures)
+    (simp (ne-eqb _ 1 (at-tiers .before .if1 .left), eq-eqb _ tiersKind (at-tiers .if2 .taken)))
+
+sheet-kind-requires : tie.Need-sheet-kind-requires
+sheet-kind-requires c κs = search needs
+
 returns-3 : tie.Need-returns-3
 unfolding sheetLength dueLength
 returns-3 c =
+    let at-sheet = c .before .before in
+    let at-other = at-sheet .before in
+    rw (← at-other .before .before .record-kind .ensures, ← at-sheet .sheet-kind .ensures)
+    (simp (ne-eqb _ 1 (at-other .before .if1 .left), ne-eqb _ tiersKind (at-other .if2 .left), eq-eqb _ 0 (c .if3 .taken)))
+
+cast-result-2 : tie.Need-cast-result-2
+cast-result-2 c = search needs
+
+mul-result-2 : tie.Need-mul-result-2
+mul-result-2 c = search needs
+
+add-result-2 : tie.Need-add-result-2
+add-result-2 c = search needs
+
+returns-4 : tie.Need-returns-4
+unfolding sheetLength dueLength
+returns-4 c =
     let at-sheet = c .before .before .before in
-    rw (← at-sheet .before .before .record-kind .ensures, ← at-sheet .sheet-kind .ensures)
-    (simp (ne-eqb _ 1 (at-sheet .before .if1 .left), ne-eqb _ 0 (c .before .if2 .left)))
+    let at-other = at-sheet .before in
+    rw (← at-other .before .before .record-kind .ensures, ← at-sheet .sheet-kind .ensures)
+    (simp (ne-eqb _ 1 (at-other .before .if1 .left), ne-eqb _ tiersKind (at-other .if2 .left), ne-eqb _ 0 (c .before .if3 .left)))
 
 pub due-length-spec : {M : Type 1} → statement M
 due-length-spec =
@@ -45,9 +66,14 @@ due-length-spec =
     (tie.spec
     record-kind-requires
     returns
-    sheet-kind-requires
-    returns-2
+    tier-count-requires
     cast-result
     mul-result
     add-result
-    returns-3)
+    returns-2
+    sheet-kind-requires
+    returns-3
+    cast-result-2
+    mul-result-2
+    add-result-2
+    returns-4)
