@@ -1,22 +1,57 @@
--- The verdict on one record, and what holds of a record that has none of the faults 1 to 5.
+-- The numbers of a sheet against their limit, the verdict on one record, and what holds of a record that has none of the faults 1 to 5.
 -- Assumes nothing.
-use Prim.Native.Nat.{ℕ, suc, _+_, _*_, _≤_}
+use Prim.Native.Nat.{ℕ, suc, _+_, _*_, _≤_, zero, _-_, _<_}
 use native.Mathlib.Omega.{arith}
-use mathlib.Core.Path.{_≡_, refl, ap, _∙_}
-use mathlib.Core.Bool.{Bool, true, false, cond, _||_}
+use mathlib.Core.Path.{_≡_, refl, ap, _∙_, sym, subst}
+use mathlib.Core.Bool.{Bool, true, false, cond, _||_, true≢false}
 use mathlib.Core.List.{List}
-use borrow.Author.Tests.{ltb-false, eqb-true, eq-eqb, ne-eqb, not-false}
+use borrow.Author.Tests.{ltb-false, eqb-true, eqb-false, eq-eqb, ne-eqb, not-false, lt-ltb, le-ltb, ltb-true}
 use lib.Dec.{ltb, eqb}
 use lib.ListN.{length}
+use native.Mathlib.Nat.{not-suc-le-zero, le-of-suc-le-suc, eq-or-lt-of-le}
+use native.Mathlib.Numerals.{add-one}
+use mathlib.Core.Logic.{⊎-elim}
 use Rattle.schedule.specs.Limits.{cellClass, classLimit}
-use Rattle.answers.specs.Verdict.{refusedIf, refused, accepted, firstRefusal, firstOf}
-use Rattle.answers.proofs.VerdictLaws.{first-passed, first-none, condition-none, condition-fails}
+use Rattle.answers.specs.Verdict.{Verdict, accepted, refused, refusedIf, firstRefusal, firstOf}
+use Rattle.answers.proofs.VerdictLaws.{first-passed, first-refused, first-none, condition-fails}
 use Rattle.records.specs.Records.{recordLength, recordKind, recordCell, recordValue, sheetNumber, nextRecord}
 use Rattle.records.specs.Kinds.{sheetOf, sheetKinds, sheetKind, sheetLength, dueLength}
 use Rattle.records.specs.Faults.{incomplete, misshapen, unlisted, repeated, numberOver, overLimit}
 use Rattle.records.specs.RecordVerdicts.{recordVerdict}
 use Rattle.records.proofs.ItemLaws.{OfSheet}
-use Rattle.records.proofs.SheetLaws.{none-over}
+
+or-true : (a : Bool) → (a || true) ≡ true
+or-true true = refl
+or-true false = refl
+
+module _ (s : List ℕ) (at limit : ℕ) where
+  over-at : (n i : ℕ) → suc i ≤ n → limit < sheetNumber s at (suc i) → numberOver s at limit n ≡ true
+  unfolding numberOver
+  over-at zero i l h = absurd (not-suc-le-zero l)
+  over-at (suc n) i l h =
+      ⊎-elim
+      (λ e. rw (lt-ltb limit (sheetNumber s at (suc n)) (subst (λ (k : ℕ). limit < sheetNumber s at (suc k)) e h)) (or-true (numberOver s at limit n)))
+      (λ m. rw (over-at n i m h))
+      (eq-or-lt-of-le (le-of-suc-le-suc l))
+
+  -- one number over the limit is enough
+  pub number-over : (n i : ℕ) → i < n → limit < sheetNumber s at (i + 1) → numberOver s at limit n ≡ true
+  number-over n i l h = over-at n i l (rw add-one at h)
+
+  -- the first i + 1 are within the limit if the first i are and the next is
+  pub number-within : (i : ℕ) → numberOver s at limit i ≡ false → sheetNumber s at (i + 1) ≤ limit → numberOver s at limit (i + 1) ≡ false
+  unfolding numberOver
+  number-within i e h = rw (add-one, e) (le-ltb limit (sheetNumber s at (suc i)) (rw add-one at h))
+
+  -- where none of the first n is over the limit, each of them is within it
+  pub none-over : (n : ℕ) → numberOver s at limit n ≡ false → (i : ℕ) → 1 ≤ i → i ≤ n → sheetNumber s at i ≤ limit
+  none-over n h i l u = by (ltb limit (sheetNumber s at i)) refl
+    where
+      by : (b : Bool) → ltb limit (sheetNumber s at i) ≡ b → sheetNumber s at i ≤ limit
+      by true e =
+          let before : i - 1 + 1 ≡ i = omega arith in
+          absurd (true≢false (sym (number-over n (i - 1) (omega arith) (rw before (ltb-true limit (sheetNumber s at i) e))) ∙ h))
+      by false e = ltb-false limit (sheetNumber s at i) e
 
 -- neither of two tests passes
 pub neither : (a b : Bool) → (a || b) ≡ false → (a ≡ false) × (b ≡ false)
@@ -38,6 +73,14 @@ pub record Sound (s : List ℕ) (at : ℕ) : Type 0 where
   pub value-limit : recordKind s at ≡ 1 → recordValue s at ≤ classLimit (cellClass (recordCell s at))
   pub number-limit : (i : ℕ) → 1 ≤ i → i ≤ sheetKind (recordKind s at) .numbers → sheetNumber s at i ≤ sheetKind (recordKind s at) .limit
 
+-- rows in turn: what the first two give, then the third
+first-assoc : (a b c : Verdict) → firstRefusal (firstRefusal a b) c ≡ firstRefusal a (firstRefusal b c)
+first-assoc a b c = by (eqb (a .number) 0) refl
+  where
+    by : (z : Bool) → eqb (a .number) 0 ≡ z → firstRefusal (firstRefusal a b) c ≡ firstRefusal a (firstRefusal b c)
+    by true e = let h = eqb-true (a .number) 0 e in rw (first-passed a b h, first-passed a (firstRefusal b c) h)
+    by false e = let h = eqb-false (a .number) 0 e in rw (first-refused a b h, first-refused a (firstRefusal b c) h, first-refused a c h)
+
 -- the last row alone
 last-row : (b : Bool) (n at : ℕ) → firstRefusal (refusedIf b (suc n) at) accepted ≡ refusedIf b (suc n) at
 unfolding firstRefusal refusedIf refused accepted
@@ -45,20 +88,19 @@ last-row true n at = simp (ne-eqb (suc n) 0 (λ e. omega arith))
 last-row false n at = refl
 
 module _ (s : List ℕ) (at : ℕ) where
-  -- 1 holds
-  pub verdict-incomplete : incomplete s at ≡ true → recordVerdict s at ≡ refused 1 at
-  unfolding recordVerdict refusedIf firstRefusal firstOf refused accepted
-  verdict-incomplete h = simp h
-
-  -- 1 does not hold: the first of the other rows decides
-  pub verdict-complete : incomplete s at ≡ false
-      → recordVerdict s at
-      ≡ firstRefusal (refusedIf (misshapen s at) 2 at)
-      (firstRefusal (refusedIf (unlisted s at) 3 at)
-      (firstRefusal (refusedIf (repeated s at) 4 at)
-      (refusedIf (overLimit s at) 5 at)))
+  -- the verdict, row by row
+  pub verdict-rows :
+      recordVerdict s at
+      ≡ firstRefusal
+      (firstRefusal
+      (firstRefusal
+      (firstRefusal (refusedIf (incomplete s at) 1 at)
+      (refusedIf (misshapen s at) 2 at))
+      (refusedIf (unlisted s at) 3 at))
+      (refusedIf (repeated s at) 4 at))
+      (refusedIf (overLimit s at) 5 at)
   unfolding recordVerdict firstOf
-  verdict-complete h = first-passed (refusedIf (incomplete s at) 1 at) _ (condition-none (incomplete s at) 1 at h) ∙ rw (last-row (overLimit s at) 4 at)
+  verdict-rows = rw (last-row (overLimit s at) 4 at) (simp first-assoc)
 
   -- 1 does not hold: the record lies within the bytes, with room for its kind
   pub record Within : Type 0 where
@@ -74,7 +116,6 @@ module _ (s : List ℕ) (at : ℕ) where
 
   -- 2 does not hold: the length is the kind's
   shaped-length : misshapen s at ≡ false → recordLength s at ≡ dueLength s at
-  unfolding misshapen
   shaped-length h = eqb-true (recordLength s at) (dueLength s at) (not-false (eqb (recordLength s at) (dueLength s at)) h)
 
   -- 5 does not hold at a cell: the value is within the limit of the cell's class

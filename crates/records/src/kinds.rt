@@ -44,7 +44,7 @@ pub(crate) fn sheet_kind(kind: usize) -> SheetKind
 }
 
 // The length that a record is to have by its kind: 0 where the kind is unknown.
-pub(crate) fn due_length(s: &[u8], at: usize) -> u64
+pub(crate) fn due_length(s: &[u8], at: usize) -> usize
     ensures { λ r. ⌜ r ≡ dueLength (now (s .entry)) at ⌝ }
 {
     let kind = record_kind(s, at);
@@ -55,5 +55,5 @@ pub(crate) fn due_length(s: &[u8], at: usize) -> u64
     if sheet.numbers == 0 {
         return 0;
     }
-    2 + 2 * (sheet.numbers as u64)
+    2 + 2 * (sheet.numbers as usize)
 }

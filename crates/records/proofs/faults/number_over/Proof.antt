@@ -5,7 +5,7 @@ use native.Mathlib.Omega.{arith}
 use mathlib.Core.Path.{_≡_, refl, sym}
 use mathlib.Core.Bool.{false}
 use Rattle.records.specs.Faults.{numberOver}
-use Rattle.records.proofs.SheetLaws as sheet
+use Rattle.records.proofs.FaultLaws as sheet
 use Rattle.records.proofs.faults.number_over.Statement.{statement}
 use Rattle.records.proofs.faults.number_over.Tie as tie
 
