@@ -62,12 +62,13 @@ pub condition-fails : (b : Bool) (n at : ℕ) → refusedIf b (suc n) at .number
 condition-fails true n at h = absurd (condition-refuses true n at refl h)
 condition-fails false n at h = refl
 
--- the verdict of one row, by its condition; and of a row before others
+-- the verdict of one row, by its condition; and of a row behind others
 pub row-is : {v : Verdict} {b holds : Bool} (n at : ℕ) → v ≡ refusedIf b n at → b ≡ holds → v ≡ refusedIf holds n at
 row-is n at e p = e ∙ ap (λ (x : Bool). refusedIf x n at) p
 
-pub row-first : {r first next v w : Verdict} → r ≡ firstRefusal first next → first ≡ v → next ≡ w → r ≡ firstRefusal v w
-row-first {v = v} {w = w} e p q = e ∙ rw (p, q)
+pub row-next : {r before v : Verdict} {b holds : Bool} (n at : ℕ) → r ≡ firstRefusal before (refusedIf b n at) → before ≡ v → b ≡ holds
+    → r ≡ firstRefusal v (refusedIf holds n at)
+row-next n at e p q = e ∙ rw (p, q)
 
 -- 10 before another verdict: a short list, a list that is long enough, and what no refusal says of the list
 module _ (least size : ℕ) (next : Verdict) where

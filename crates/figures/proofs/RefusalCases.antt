@@ -13,7 +13,7 @@ use Rattle.records.specs.Bytes.{numberAt}
 use Rattle.records.specs.Records.{nextRecord, searchRecords, firstRecord}
 use Rattle.records.specs.Kinds.{sheetOf, sheetKinds, sheetKind, sheetLength, dueLength}
 use Rattle.records.specs.Items.{sameItem, recordItem, firstWith}
-use Rattle.records.specs.Faults.{incomplete, misshapen, unlisted, repeated, numberOver, overLimit}
+use Rattle.records.specs.Faults.{incomplete, repeated, numberOver, overLimit}
 use Rattle.records.specs.RecordVerdicts.{firstFaulty, recordVerdict, recordsVerdict}
 use Rattle.filing.specs.declared.Contents.{Contents}
 use Rattle.filing.specs.Contents.{cellOffset, cellValue, sheetOffset, contentsOf, cell, cdYield, retailRate}
@@ -176,7 +176,7 @@ cases = shape-cases ++ cell-cases ++ sheet-cases ++ months-cases ++ column-cases
 
 -- every case holds
 verdicts-hold : map (λ (c : Case). filingVerdict (c .input)) cases ≡ map (λ (c : Case). c .verdict) cases
-unfolding numberAt nextRecord searchRecords firstRecord sheetOf sheetKinds sheetKind sheetLength dueLength sameItem recordItem firstWith incomplete misshapen unlisted repeated numberOver overLimit cellClass classLimit contains position positions brokeredCell penaltyBalanceCell penaltyMonthsCell unusedCells firstFaulty sheetOffset sheetMissing filingVerdict refused cellOffset cellValue contentsOf cell monthsOutside columnBalances balances aboveColumn totalDiffers sum those inColumn withinRow sheetVerdict positionVerdict monthsVerdict columnVerdict columnsVerdict totalVerdict contentsVerdict recordVerdict recordsVerdict accepted refusedIf firstRefusal firstOf tableFrom joined
+unfolding numberAt nextRecord searchRecords firstRecord sheetOf sheetKinds sheetKind sheetLength dueLength sameItem recordItem firstWith incomplete repeated numberOver overLimit cellClass classLimit contains position positions brokeredCell penaltyBalanceCell penaltyMonthsCell unusedCells firstFaulty sheetOffset sheetMissing filingVerdict refused cellOffset cellValue contentsOf cell monthsOutside columnBalances balances aboveColumn totalDiffers sum those inColumn withinRow sheetVerdict positionVerdict monthsVerdict columnVerdict columnsVerdict totalVerdict contentsVerdict recordVerdict recordsVerdict accepted refusedIf firstRefusal firstOf tableFrom joined
 verdicts-hold = refl
 
 -- what a filing says: cells that are present and absent, the ends of the yields and of the rates, and reads beyond them

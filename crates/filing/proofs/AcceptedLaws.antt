@@ -11,12 +11,11 @@ use lib.ListN.{length}
 use Rattle.lists.specs.Sums.{sum}
 use Rattle.lists.proofs.TableLaws.{tableFrom-getD, table-le}
 use Rattle.schedule.specs.Cells.{Position, positionAt, withinRow, brokeredCell, penaltyBalanceCell, penaltyMonthsCell, totalCell}
-use Rattle.schedule.specs.Limits.{cellClass, classLimit, rateLimit}
+use Rattle.schedule.specs.Limits.{cellClass, classLimit}
 use Rattle.schedule.proofs.CellLaws.{CellOf, balance-cell, coupon-cell, months-cell, penalty-months-cell}
 use Rattle.records.specs.Records.{recordValue, sheetNumber, firstRecord}
 use Rattle.records.specs.declared.items.Item.{Item}
 use Rattle.records.specs.declared.items.Item.the-variants.{Cell, Sheet}
-use Rattle.records.specs.declared.kinds.SheetKind.{SheetKind}
 use Rattle.records.specs.Kinds.{sheetOf, sheetKinds, sheetKind}
 use Rattle.records.specs.Items.{sameItem, recordItem, firstWith}
 use Rattle.records.specs.RecordVerdicts.{firstFaulty, recordVerdict}

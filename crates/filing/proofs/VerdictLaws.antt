@@ -12,7 +12,7 @@ use Rattle.schedule.specs.Cells.{positionAt, brokeredCell, penaltyBalanceCell, 
 use Rattle.answers.specs.Verdict.{Verdict, accepted, firstRefusal}
 use Rattle.answers.proofs.VerdictLaws.{first-none, tried-none, condition-fails}
 use Rattle.records.specs.RecordVerdicts.{firstFaulty, recordsVerdict}
-use Rattle.records.proofs.PassedLaws.{records-passed}
+use Rattle.records.proofs.ProgressLaws.{records-passed}
 use Rattle.filing.specs.declared.Contents.{Contents}
 use Rattle.filing.specs.Contents.{contentsOf}
 use Rattle.filing.specs.Conditions.{sheetMissing, monthsOutside, aboveColumn, totalDiffers}

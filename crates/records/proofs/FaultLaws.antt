@@ -5,14 +5,14 @@ use native.Mathlib.Omega.{arith}
 use mathlib.Core.Path.{_≡_, refl, ap, _∙_}
 use mathlib.Core.Bool.{Bool, true, false, cond, _||_}
 use mathlib.Core.List.{List}
-use borrow.Author.Tests.{ltb-false, eqb-true, eq-eqb, ne-eqb, not-false}
+use borrow.Author.Tests.{ltb-false, eqb-true, eqb-false, eq-eqb, ne-eqb, not-false}
 use lib.Dec.{ltb, eqb}
 use lib.ListN.{length}
 use Rattle.lists.specs.Tables.{anyBelow}
 use Rattle.lists.proofs.TestLaws.{any-fails}
 use Rattle.schedule.specs.Limits.{cellClass, classLimit, tierLimit}
-use Rattle.answers.specs.Verdict.{refusedIf, refused, accepted, firstRefusal, firstOf}
-use Rattle.answers.proofs.VerdictLaws.{first-passed, first-none, condition-none, condition-fails}
+use Rattle.answers.specs.Verdict.{Verdict, accepted, refused, refusedIf, firstRefusal, firstOf}
+use Rattle.answers.proofs.VerdictLaws.{first-passed, first-refused, first-none, condition-fails}
 use Rattle.records.specs.Records.{recordLength, recordKind, recordCell, recordValue, sheetNumber, tierCount, nextRecord}
 use Rattle.records.specs.Kinds.{sheetOf, sheetKinds, sheetKind, sheetLength, tiersKind, dueLength}
 use Rattle.records.specs.Faults.{incomplete, misshapen, unlisted, repeated, numberOver, overLimit, unfitTier, unsoundTiers}
@@ -49,6 +49,14 @@ pub record Sound (s : List ℕ) (at : ℕ) : Type 0 where
   pub number-limit : (i : ℕ) → 1 ≤ i → i ≤ sheetKind (recordKind s at) .numbers → sheetNumber s at i ≤ sheetKind (recordKind s at) .limit
   pub tiers : recordKind s at ≡ tiersKind → SoundTiers s at
 
+-- rows in turn: what the first two give, then the third
+first-assoc : (a b c : Verdict) → firstRefusal (firstRefusal a b) c ≡ firstRefusal a (firstRefusal b c)
+first-assoc a b c = by (eqb (a .number) 0) refl
+  where
+    by : (z : Bool) → eqb (a .number) 0 ≡ z → firstRefusal (firstRefusal a b) c ≡ firstRefusal a (firstRefusal b c)
+    by true e = let h = eqb-true (a .number) 0 e in rw (first-passed a b h, first-passed a (firstRefusal b c) h)
+    by false e = let h = eqb-false (a .number) 0 e in rw (first-refused a b h, first-refused a (firstRefusal b c) h, first-refused a c h)
+
 -- the last row alone
 last-row : (b : Bool) (n at : ℕ) → firstRefusal (refusedIf b (suc n) at) accepted ≡ refusedIf b (suc n) at
 unfolding firstRefusal refusedIf refused accepted
@@ -56,21 +64,21 @@ last-row true n at = simp (ne-eqb (suc n) 0 (λ e. omega arith))
 last-row false n at = refl
 
 module _ (s : List ℕ) (at : ℕ) where
-  -- 1 holds
-  pub verdict-incomplete : incomplete s at ≡ true → recordVerdict s at ≡ refused 1 at
-  unfolding recordVerdict refusedIf firstRefusal firstOf refused accepted
-  verdict-incomplete h = simp h
-
-  -- 1 does not hold: the first of the other rows decides
-  pub verdict-complete : incomplete s at ≡ false
-      → recordVerdict s at
-      ≡ firstRefusal (refusedIf (misshapen s at) 2 at)
-      (firstRefusal (refusedIf (unlisted s at) 3 at)
-      (firstRefusal (refusedIf (repeated s at) 4 at)
-      (firstRefusal (refusedIf (overLimit s at) 5 at)
-      (refusedIf (unsoundTiers s at) 11 at))))
+  -- the verdict, row by row
+  pub verdict-rows :
+      recordVerdict s at
+      ≡ firstRefusal
+      (firstRefusal
+      (firstRefusal
+      (firstRefusal
+      (firstRefusal (refusedIf (incomplete s at) 1 at)
+      (refusedIf (misshapen s at) 2 at))
+      (refusedIf (unlisted s at) 3 at))
+      (refusedIf (repeated s at) 4 at))
+      (refusedIf (overLimit s at) 5 at))
+      (refusedIf (unsoundTiers s at) 11 at)
   unfolding recordVerdict firstOf
-  verdict-complete h = first-passed (refusedIf (incomplete s at) 1 at) _ (condition-none (incomplete s at) 1 at h) ∙ rw (last-row (unsoundTiers s at) 10 at)
+  verdict-rows = rw (last-row (unsoundTiers s at) 10 at) (simp first-assoc)
 
   -- 1 does not hold: the record lies within the bytes, with room for its kind
   pub record Within : Type 0 where
@@ -86,7 +94,6 @@ module _ (s : List ℕ) (at : ℕ) where
 
   -- 2 does not hold: the length is the kind's
   shaped-length : misshapen s at ≡ false → recordLength s at ≡ dueLength s at
-  unfolding misshapen
   shaped-length h = eqb-true (recordLength s at) (dueLength s at) (not-false (eqb (recordLength s at) (dueLength s at)) h)
 
   -- 5 does not hold at a cell: the value is within the limit of the cell's class

@@ -3,11 +3,8 @@ pub mod RecordLaws
 pub mod ScanLaws
 pub mod ItemLaws
 pub mod NoteLaws
-pub mod StepLaws
 pub mod SheetLaws
 pub mod FaultLaws
-pub mod PassedLaws
-pub mod ScanStateLaws
-pub mod VisitLaws
+pub mod ProgressLaws
 pub mod WalkLaws
 pub mod ReaderLaws

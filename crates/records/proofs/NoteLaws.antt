@@ -1,7 +1,7 @@
 -- What is noted of the records before one: where an item is noted, what one record more adds, and when a record is repeated.
 -- Assumes nothing.
 use Prim.Native.Nat.{ℕ, zero, suc, _+_, _-_, _≤_, _<_}
-use native.Mathlib.Nat.{add-zero, zero-add, add-suc, suc-add, le-refl}
+use native.Mathlib.Nat.{add-zero, zero-add, le-refl}
 use native.Mathlib.Omega.{arith}
 use mathlib.Core.Path.{_≡_, refl, sym, ap, _∙_}
 use mathlib.Core.Bool.{Bool, true, false, cond, true≢false}
@@ -19,7 +19,7 @@ use Rattle.records.specs.Kinds.{kindCount}
 use Rattle.records.specs.Items.{sameItem, recordItem, firstWith}
 use Rattle.records.specs.Faults.{repeated}
 use Rattle.records.specs.Inner.Notes.{firstCell, cellCount, offsetBefore, notedBefore, nothingNoted, noteItem}
-use Rattle.records.proofs.ItemLaws.{same-nothing, with-passes, record-of-cell, record-of-sheet}
+use Rattle.records.proofs.ItemLaws.{same-nothing, record-of-cell, record-of-sheet}
 use Rattle.records.proofs.RecordLaws.{first-le, first-passes}
 use Rattle.records.proofs.ScanLaws.{Reached, next-lt, first-next}
 

@@ -6,7 +6,6 @@ use lib.ListN.{length}
 use lib.Dec.{leb, ltb, eqb}
 use Rattle.lists.specs.Tables.{anyBelow}
 use Rattle.schedule.specs.Limits.{cellClass, classLimit, tierLimit, withdrawalLimit}
-use Rattle.records.specs.declared.kinds.SheetKind.{SheetKind}
 use Rattle.records.specs.Records.{recordLength, recordKind, recordCell, recordValue, sheetNumber, tierCount, tierEdge, tierWithdrawal, nextRecord}
 use Rattle.records.specs.Kinds.{sheetKind, tiersKind, dueLength}
 use Rattle.records.specs.Items.{recordItem, firstWith}
@@ -16,11 +15,11 @@ unfoldable pub incomplete : List ℕ → ℕ → Bool
 incomplete s at = ltb (length s) (at + 2) || (ltb (recordLength s at) 2 || ltb (length s) (nextRecord s at))
 
 -- 2: the kind is unknown, or the length is not that kind's
-unfoldable pub misshapen : List ℕ → ℕ → Bool
+abbrev pub misshapen : List ℕ → ℕ → Bool
 misshapen s at = not (eqb (recordLength s at) (dueLength s at))
 
 -- 3: the cell is not listed
-unfoldable pub unlisted : List ℕ → ℕ → Bool
+abbrev pub unlisted : List ℕ → ℕ → Bool
 unlisted s at = eqb (recordKind s at) 1 && eqb (cellClass (recordCell s at)) 0
 
 -- 4: the cell, or the kind of sheet, stands in an earlier record

@@ -1,5 +1,4 @@
-// The faults of one complete record: refusals 2 to 5 and 11, each a function, in the paper's order. Refusal 1 is an incomplete record, which the
-// step tells.
+// The faults of one record: refusals 1 to 5 and 11, each a function, in the paper's order.
 use crate::FIRST_CELL;
 use crate::fields::record_cell;
 use crate::fields::record_kind;
@@ -18,12 +17,11 @@ use answers::first_refusal;
 use schedule::tables::cell_class;
 use schedule::tables::class_limit;
 ghost use mathlib.Core.Path.{_≡_};
-ghost use mathlib.Core.Bool.{false};
 ghost use Prim.Native.Nat.{_≤_, _<_};
 ghost use lib.ListN.{length};
 ghost use Rattle.lists.specs.Tables.{anyBelow};
 ghost use Rattle.schedule.specs.Limits.{tierLimit};
-ghost use Rattle.answers.specs.Verdict.{refusedIf};
+ghost use Rattle.answers.specs.Verdict.{firstRefusal, refusedIf};
 ghost use Rattle.answers.specs.Answers.{numberOf, placeOf, verdictOf};
 ghost use Rattle.records.specs.Faults as faults;
 ghost use Rattle.records.specs.Inner.Notes.{notedBefore};
@@ -34,31 +32,43 @@ const TIER_LIMIT: u16 = 16;
 
 const WITHDRAWAL_LIMIT: u16 = 600;
 
-// The answer on a complete record, given what is noted of the records before it.
+// The answer on the record at an offset, given what is noted of the records before it.
 pub(crate) fn check_record(s: &[u8], at: usize, noted: Noted) -> Answer
-    requires { ⌜ faults.incomplete (now s) at ≡ false ⌝ }
-    requires { ⌜ noted ≡ notedBefore (now s) at ⌝ }
+    requires { ⌜ (at ≤ length (now s)) × (noted ≡ notedBefore (now s) at) ⌝ }
     ensures { λ r. ⌜ verdictOf r ≡ recordVerdict (now (s .entry)) at ⌝ }
 {
-    let shape = refused_if(misshapen(s, at), Answer::RecordMisshapen(at));
-    let listing = refused_if(unlisted(s, at), Answer::CellUnlisted(at));
-    let repetition = refused_if(repeated(s, at, noted), Answer::Repeated(at));
-    let limit = refused_if(over_limit(s, at), Answer::OverLimit(at));
-    let tiers = refused_if(unsound_tiers(s, at), Answer::TiersUnsound(at));
-    first_refusal(
-        shape,
-        first_refusal(
-            listing,
-            first_refusal(repetition, first_refusal(limit, tiers)),
-        ),
-    )
+    let end = refused_if(incomplete(s, at), Answer::RecordIncomplete(at));
+    let shape = or_refused(end, misshapen(s, at), Answer::RecordMisshapen(at));
+    let listing = or_refused(shape, unlisted(s, at), Answer::CellUnlisted(at));
+    let repetition = or_refused(listing, repeated(s, at, noted), Answer::Repeated(at));
+    let limit = or_refused(repetition, over_limit(s, at), Answer::OverLimit(at));
+    or_refused(limit, unsound_tiers(s, at), Answer::TiersUnsound(at))
 }
 
-// A refusal where its condition holds.
+// The refusal of a row where its condition holds.
 fn refused_if(holds: bool, refusal: Answer) -> Answer
     ensures { λ r. ⌜ verdictOf r ≡ refusedIf holds (numberOf refusal) (placeOf refusal) ⌝ }
 {
     if holds { refusal } else { Answer::Accepted }
+}
+
+// The next row, after the answer of the rows before it.
+fn or_refused(answer: Answer, holds: bool, refusal: Answer) -> Answer
+    ensures { λ r. ⌜ verdictOf r ≡ firstRefusal (verdictOf answer) (refusedIf holds (numberOf refusal) (placeOf refusal)) ⌝ }
+{
+    first_refusal(answer, refused_if(holds, refusal))
+}
+
+// 1: the record runs past the end, its length or itself, or its length is below 2.
+fn incomplete(s: &[u8], at: usize) -> bool
+    ensures { λ r. ⌜ r ≡ faults.incomplete (now (s .entry)) at ⌝ }
+{
+    if s.len() <= at {
+        return true;
+    }
+    let body = at + 2;
+    let length = record_length(s, at);
+    (s.len() < body) | ((length < 2) | (s.len() < body + length))
 }
 
 // 2: the kind is unknown, or the length is not that kind's.
@@ -72,10 +82,7 @@ fn misshapen(s: &[u8], at: usize) -> bool
 fn unlisted(s: &[u8], at: usize) -> bool
     ensures { λ r. ⌜ r ≡ faults.unlisted (now (s .entry)) at ⌝ }
 {
-    if record_kind(s, at) != 1 {
-        return false;
-    }
-    cell_class(record_cell(s, at)) == 0
+    (record_kind(s, at) == 1) & (cell_class(record_cell(s, at)) == 0)
 }
 
 // 4: the cell, or the kind of sheet, stands in an earlier record.

@@ -6,10 +6,10 @@ ghost use Rattle.records.specs.Bytes.{numberAt};
 ghost use Rattle.records.specs.Records.{recordLength, recordKind, recordCell, recordValue, sheetNumber, tierCount};
 
 // The number of bytes after the length itself.
-pub(crate) fn record_length(s: &[u8], at: usize) -> u64
+pub(crate) fn record_length(s: &[u8], at: usize) -> usize
     ensures { λ r. ⌜ r ≡ recordLength (now (s .entry)) at ⌝ }
 {
-    number_at(s, at, 2)
+    number_at(s, at, 2) as usize
 }
 
 pub(crate) fn record_kind(s: &[u8], at: usize) -> usize

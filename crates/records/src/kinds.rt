@@ -52,7 +52,7 @@ pub(crate) fn sheet_kind(kind: usize) -> SheetKind
 }
 
 // The length that a record is to have by its kind: 0 where the kind is unknown.
-pub(crate) fn due_length(s: &[u8], at: usize) -> u64
+pub(crate) fn due_length(s: &[u8], at: usize) -> usize
     ensures { λ r. ⌜ r ≡ dueLength (now (s .entry)) at ⌝ }
 {
     let kind = record_kind(s, at);
@@ -60,11 +60,11 @@ pub(crate) fn due_length(s: &[u8], at: usize) -> u64
         return 12;
     }
     if kind == TIERS_KIND {
-        return 4 + 4 * (tier_count(s, at) as u64);
+        return 4 + 4 * (tier_count(s, at) as usize);
     }
     let sheet = sheet_kind(kind);
     if sheet.numbers == 0 {
         return 0;
     }
-    2 + 2 * (sheet.numbers as u64)
+    2 + 2 * (sheet.numbers as usize)
 }

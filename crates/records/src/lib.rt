@@ -19,10 +19,8 @@ pub const CELLS: usize = 61;
 
 // What stands at an offset of a filing.
 pub enum Step {
-    // A complete record, with the offset of the record after it.
+    // A record, with the offset of the record after it.
     Record(usize),
-    // A record that runs past the end, or whose length is below 2.
-    Incomplete,
     // Nothing: the offset is at the end, or past it.
     End,
 }

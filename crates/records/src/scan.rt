@@ -68,24 +68,21 @@ fn visit(s: &[u8], step: Step, progress: Progress) -> Progress
 {
     let at = progress.at;
     let noted = progress.scanned.noted;
-    match step {
-        Step::End => stopped(Answer::Accepted, noted, at),
-        Step::Incomplete => stopped(Answer::RecordIncomplete(at), noted, at),
-        Step::Record(next) => {
-            let answer = check_record(s, at, noted);
-            if number(answer) != 0 {
-                return stopped(answer, noted, at);
-            }
-            let after = note(s, at, noted);
-            Progress {
-                scanned: Scanned {
-                    answer,
-                    noted: after,
-                },
-                at: next,
-                going: true,
-            }
-        }
+    let Step::Record(next) = step else {
+        return stopped(Answer::Accepted, noted, at);
+    };
+    let answer = check_record(s, at, noted);
+    if number(answer) != 0 {
+        return stopped(answer, noted, at);
+    }
+    let after = note(s, at, noted);
+    Progress {
+        scanned: Scanned {
+            answer,
+            noted: after,
+        },
+        at: next,
+        going: true,
     }
 }
 

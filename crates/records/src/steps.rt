@@ -11,16 +11,5 @@ pub(crate) fn record_at(s: &[u8], at: usize) -> Step
     if s.len() <= at {
         return Step::End;
     }
-    if s.len() - at < 2 {
-        return Step::Incomplete;
-    }
-    let length = record_length(s, at) as usize;
-    if length < 2 {
-        return Step::Incomplete;
-    }
-    let body = at + 2;
-    if s.len() - body < length {
-        return Step::Incomplete;
-    }
-    Step::Record(body + length)
+    Step::Record(at + 2 + record_length(s, at))
 }

@@ -15,7 +15,7 @@ use Rattle.records.specs.declared.items.Noted.{Noted}
 use Rattle.records.specs.Kinds.{kindCount}
 use Rattle.records.specs.Inner.Notes.{notedBefore}
 use Rattle.records.specs.RecordVerdicts.{recordsVerdict}
-use Rattle.records.proofs.PassedLaws.{records-passed}
+use Rattle.records.proofs.ProgressLaws.{records-passed}
 use Rattle.filing.specs.declared.Reading.{Reading}
 use Rattle.filing.specs.Contents.{sheetOffset, contentsOf}
 use Rattle.filing.specs.Inner.ContentsAt.{contentsAt}

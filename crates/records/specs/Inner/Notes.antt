@@ -31,7 +31,7 @@ notedBefore s at =
     }
 
 -- nothing is noted of an input of `size` bytes
-unfoldable pub nothingNoted : ℕ → Noted
+abbrev pub nothingNoted : ℕ → Noted
 nothingNoted size = record { sheets = replicate kindCount size; cells = replicate cellCount size }
 
 -- an item is noted at an offset

@@ -16,7 +16,7 @@ use Rattle.records.specs.Inner.Notes.{nothingNoted, noteItem}
 use Rattle.records.specs.RecordVerdicts.{recordVerdict}
 
 -- before the first record of an input of `size` bytes: no record is noted
-unfoldable pub scanStart : ℕ → Progress
+abbrev pub scanStart : ℕ → Progress
 scanStart size = record { scanned = record { answer = Accepted; noted = nothingNoted size }; at = 0; going = true }
 
 -- a record stands at the offset, and it has no fault

@@ -1,7 +1,6 @@
 -- `misshapen` meets its contract.
 -- Assumes nothing.
 use borrow.Author.Needs.{needs}
-use Rattle.records.specs.Faults as faults
 use Rattle.records.proofs.faults.misshapen.Statement.{statement}
 use Rattle.records.proofs.faults.misshapen.Tie as tie
 
@@ -12,8 +11,7 @@ due-length-requires : tie.Need-due-length-requires
 due-length-requires c κs = search needs
 
 returns : tie.Need-returns
-unfolding faults.misshapen
-returns c = rw (c .before .record-length .ensures, c .due-length .ensures)
+returns c = cc
 
 pub misshapen-spec : {M : Type 1} → statement M
 misshapen-spec = tie.close (tie.spec record-length-requires due-length-requires returns)

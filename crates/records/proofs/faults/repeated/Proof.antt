@@ -1,7 +1,7 @@
 -- `repeated` meets its contract: what is noted of the record's item tells whether it stands in an earlier record.
 -- Assumes nothing.
 use native.Mathlib.Omega.{arith}
-use mathlib.Core.Path.{_≡_, sym, _∙_}
+use mathlib.Core.Path.{sym, _∙_}
 use borrow.Author.Needs.{needs}
 use Rattle.records.proofs.ItemLaws.{OfCell, OfSheet, record-of-cell, record-of-sheet}
 use Rattle.records.proofs.NoteLaws.{cell-repeated, sheet-repeated, nothing-repeated}

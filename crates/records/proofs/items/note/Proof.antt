@@ -1,7 +1,7 @@
--- `note` meets its contract: an item of a record has its place among what is noted.
+-- `note` meets its contract: a record's cell or kind is one of those that are noted.
 -- Assumes nothing.
 use native.Mathlib.Omega.{arith}
-use mathlib.Core.Path.{_≡_, sym, _∙_}
+use mathlib.Core.Path.{sym, _∙_}
 use borrow.Author.Needs.{needs}
 use Rattle.records.specs.Inner.Notes.{noteItem}
 use Rattle.records.proofs.ItemLaws.{OfCell, OfSheet, record-of-cell, record-of-sheet}

@@ -1,9 +1,8 @@
 -- `scan` meets its contract: a walk of its MIR. A reader is made of the bytes and held in a local, and moves over the records in a loop.
--- `Proof/State.antt` says what holds where the loop's test is reached, `Proof/Callees.antt` what is passed at each call, and `Proof/Turn.antt` walks
--- the loop; here is the way to it, and the contract.
+-- `Proof/State.antt` says what holds where the loop's test is reached and what is passed at each call, and `Proof/Turn.antt` walks the loop; here is the
+-- way to it, and the contract.
 -- Assumes nothing.
 mod State
-mod Callees
 mod Turn
 use mathlib.Core.Path.{_≡_, refl}
 use Prim.Native.Nat.{ℕ}
@@ -66,8 +65,7 @@ use Rattle.records.proofs.scan.scan.Key.{name as #scan}
 use Rattle.records.proofs.scan.scan as scan
 use Rattle.records.proofs.scan.scan.Statement as stated
 use Rattle.records.proofs.scan.scan.Code as code
-use Rattle.records.proofs.scan.scan.Proof.State.{progress-typed, Opened, started}
-use Rattle.records.proofs.scan.scan.Proof.Callees.{NewC, StartC, StepC, VisitC, MovedC, to-new, to-start, asked-new, asked-start}
+use Rattle.records.proofs.scan.scan.Proof.State.{progress-typed, Opened, started, NewC, StartC, StepC, VisitC, MovedC, to-new, to-start, asked-new, asked-start}
 use Rattle.records.proofs.scan.scan.Proof.Turn.{Progress-type, Reader-type, stayed, Post, looped}
 
 -- that each callee meets its contract

@@ -1,14 +1,14 @@
 -- `visit` meets its contract: the step says what stands at the offset, and each way of ending or going on is a law of the visited record.
 -- Assumes nothing.
+use native.Mathlib.Omega.{arith}
 use mathlib.Core.Path.{_≡_, sym, ap, subst, _∙_}
 use borrow.Author.Needs.{needs}
 use Rattle.answers.specs.Answers.{verdictOf}
 use Rattle.answers.specs.Verdict.{Verdict}
 use Rattle.records.specs.declared.Step.{Step}
-use Rattle.records.specs.declared.Step.the-variants.{Record, Incomplete, End}
+use Rattle.records.specs.declared.Step.the-variants.{Record, End}
 use Rattle.records.specs.RecordVerdicts.{recordVerdict}
-use Rattle.records.proofs.StepLaws.{Says, step-says}
-use Rattle.records.proofs.VisitLaws.{visited-end, visited-incomplete, visited-faulty, visited-sound}
+use Rattle.records.proofs.ProgressLaws.{Says, step-says, visited-end, visited-faulty, visited-sound}
 use Rattle.records.proofs.scan.visit.Statement.{statement}
 use Rattle.records.proofs.scan.visit.Tie as tie
 
@@ -16,20 +16,19 @@ use Rattle.records.proofs.scan.visit.Tie as tie
 says : (c : tie.Start) (t : Step) → c .args .step ≡ t → Says (c .args .s .now) (c .args .progress .at) t
 says c t e = subst (Says (c .args .s .now) (c .args .progress .at)) (sym (c .pre .1) ∙ e) (step-says (c .args .s .now) (c .args .progress .at))
 
+enum-known-step : tie.Need-enum-known-step
+enum-known-step c = search needs
+
 enum-told : tie.Need-enum-told
 enum-told c = search needs
 
 stopped-requires : tie.Need-stopped-requires
 stopped-requires c κs = search needs
 
-enum-told-2 : tie.Need-enum-told-2
-enum-told-2 c = search needs
-
-stopped-requires-2 : tie.Need-stopped-requires-2
-stopped-requires-2 c κs = search needs
-
-enum-known-step : tie.Need-enum-known-step
-enum-known-step c = search needs
+returns : tie.Need-returns
+returns c =
+    let start = c .before .before .before .before .before in
+    rw (c .stopped .ensures) (visited-end _ _ _ (says start End (c .before .enum-told .given .1)))
 
 -- the record that stands at the offset, with the offset after it
 abbrev start-of : tie.After-step → tie.Start
@@ -39,7 +38,7 @@ stands : (c : tie.After-step) → Says (start-of c .args .s .now) (start-of c .a
 stands c = says (start-of c) (Record (c .step .given .0 .0)) (c .step .given .1)
 
 check-record-requires : tie.Need-check-record-requires
-check-record-requires c κs = (stands (c .before) .1 .0, start-of (c .before) .pre .0)
+check-record-requires c κs = (omega (arith, stands (c .before) .0), start-of (c .before) .pre .0)
 
 number-requires : tie.Need-number-requires
 number-requires c κs = search needs
@@ -53,50 +52,36 @@ fault : (c : tie.After-number)
 unfolding verdictOf
 fault c = c .number .ensures ∙ ap (λ (v : Verdict). v .number) (c .before .check-record .ensures)
 
-stopped-requires-3 : tie.Need-stopped-requires-3
-stopped-requires-3 c κs = search needs
+stopped-requires-2 : tie.Need-stopped-requires-2
+stopped-requires-2 c κs = search needs
 
-returns : tie.Need-returns
-returns c =
+returns-2 : tie.Need-returns-2
+returns-2 c =
     let at-number = c .before .before in
-    rw (c .stopped3 .ensures)
+    rw (c .stopped2 .ensures)
     (visited-faulty _ _ _ (stands (step-of at-number) .0) _ (at-number .before .check-record .ensures) (λ e. c .before .if1 .taken (fault at-number ∙ e)))
 
 note-requires : tie.Need-note-requires
 note-requires c κs = search needs
 
-returns-2 : tie.Need-returns-2
-returns-2 c =
-    let start = c .before .before .before .before .before in
-    rw (c .stopped .ensures) (visited-end _ _ _ (says start End (c .before .enum-told .given .1)))
-
 returns-3 : tie.Need-returns-3
 returns-3 c =
-    let start = c .before .before .before .before .before in
-    let cut = says start Incomplete (c .before .enum-told2 .given .1) in
-    rw (c .stopped2 .ensures) (visited-incomplete _ _ _ (cut .0) (cut .1))
-
-returns-4 : tie.Need-returns-4
-returns-4 c =
     let at-number = c .before .before in
     let record-at = stands (step-of at-number) in
     visited-sound _ _ _ (record-at .0) _ (at-number .before .check-record .ensures) (sym (fault at-number) ∙ c .before .if1 .left) _ _
-    (c .note .ensures) (record-at .1 .1)
+    (c .note .ensures) (record-at .1)
 
 pub visit-spec : {M : Type 1} → statement M
 visit-spec =
     tie.close
     (tie.spec
+    enum-known-step
     enum-told
     stopped-requires
-    enum-told-2
-    stopped-requires-2
-    enum-known-step
+    returns
     check-record-requires
     number-requires
-    stopped-requires-3
-    returns
-    note-requires
+    stopped-requires-2
     returns-2
-    returns-3
-    returns-4)
+    note-requires
+    returns-3)

@@ -58,8 +58,7 @@ use Rattle.records.proofs.scan.visit as visit
 use Rattle.records.proofs.scan.visit.Symbol.{name as #visit}
 use Rattle.records.proofs.scan.scan as scan
 use Rattle.records.proofs.scan.scan.Code as code
-use Rattle.records.proofs.scan.scan.Proof.State.{progress-value, IsProgress, progress-typed, at-fits, scanned-value, scanned-is, scanned-typed, Stepped, MovedTo, Ready, Made, State, Less, less-wf, visit-ready, moved-on, moved-less}
-use Rattle.records.proofs.scan.scan.Proof.Callees.{StepC, VisitC, MovedC, to-step, to-visit, to-moved, asked-step, asked-visit, asked-moved}
+use Rattle.records.proofs.scan.scan.Proof.State.{progress-value, IsProgress, progress-typed, at-fits, scanned-value, scanned-is, scanned-typed, Stepped, MovedTo, Ready, Made, State, Less, less-wf, visit-ready, moved-on, moved-less, StepC, VisitC, MovedC, to-step, to-visit, to-moved, asked-step, asked-visit, asked-moved}
 
 -- the types of the locals, as the function's own table spells them
 abbrev type-at : List Local → ℕ → Ty
