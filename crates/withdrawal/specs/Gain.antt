@@ -27,5 +27,5 @@ cost c n = costScale * c * n
 
 -- the whole number m is at most the integer
 unfoldable pub atMost : ℕ → ℤ → Bool
-atMost m (pos k) = leb m k
-atMost m (negsuc k) = false
+atMost m (pos n) = leb m n
+atMost m (negsuc n) = false

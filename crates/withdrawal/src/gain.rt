@@ -6,11 +6,13 @@ ghost use Rattle.schedule.specs.Limits.{couponLimit, penaltyLimit, monthsLimit}
 ghost use Rattle.schedule.specs.Shift.{shiftedLimit};
 ghost use Rattle.withdrawal.specs.Inner.Incentives.{incentiveOf};
 
-// The scales of gain, penalty and cost (01:49).
+// The scale of the gain (01:49).
 const GAIN_SCALE: u64 = 12_000_000;
 
+// What a penalty of one hundredth of a month costs at a coupon of one (01:49).
 const PENALTY_SCALE: u64 = 120_000;
 
+// What a month at a coupon of one is worth (01:49).
 const COST_SCALE: u64 = 12_000_000;
 
 // Gain and cost with `left` months to go. Coupon and retail rate are in hundredths of a percent a year, the penalty in hundredths of a month.
