@@ -2,8 +2,10 @@
 use Prim.Native.Nat.{ℕ, zero, suc, _+_, _*_, _-_, _≤_, zero-le}
 use mathlib.Core.Path.{_≡_, subst₂}
 use lib.Dec.{lit<, lit≤}
-use native.Mathlib.Nat.{zero-add, add-sub-of-le, add-le-add, le-trans}
+use native.Mathlib.Nat.{zero-add, add-sub-of-le, le-trans}
 use native.Mathlib.Omega.{arith}
+use Rattle.lists.specs.Sums.{sumWhere, everywhere}
+use Rattle.lists.proofs.SumLaws.{sumWhere-mono}
 use Rattle.fraction.proofs.EnclosureLaws.{encloses-le}
 use Rattle.schedule.specs.Limits.{monthsLimit}
 use Rattle.pricing.specs.Scales.{par, amountLimit}
@@ -16,9 +18,8 @@ use Rattle.pricing.proofs.EnclosureLaws.{balance-encloses, outflow-encl
 use Rattle.pricing.proofs.MonthLaws.{grown, grown-mono, month-step, distance, distance-mono}
 
 -- outflows of the first t months
-unfoldable pub outflowsBy : Rounding → Terms → ℕ → ℕ
-outflowsBy ρ k zero = 0
-outflowsBy ρ k (suc t) = outflowsBy ρ k t + outflowBy ρ k t
+abbrev pub outflowsBy : Rounding → Terms → ℕ → ℕ
+outflowsBy ρ k t = sumWhere everywhere (outflowBy ρ k) t
 
 -- balance and outflow of month t + 1 from any balances l ≤ u at its start
 step : (k : Terms) → Bounded k → (t l u : ℕ) → l ≤ u
@@ -51,17 +52,12 @@ step-from-zero k b t =
 
 -- upper balance and outflows to month t are at most the distance of 10^9 after t months
 pub amount-le : (k : Terms) → Bounded k → (t : ℕ) → balanceBy up k t + outflowsBy up k t ≤ distance par t
-unfolding outflowsBy distance balanceBy
+unfolding sumWhere distance balanceBy
 amount-le k b zero = omega arith
 amount-le k b (suc t) =
     simp zero-add
     at (carry (distance par t) 0 0 0 0 (balanceBy up k t) (outflowsBy up k t) (balanceBy up k (suc t)) (outflowBy up k t) zero-le zero-le
     (step-from-zero k b t) (simp zero-add (amount-le k b t)))
-
-lower-outflows : (k : Terms) (t : ℕ) → outflowsBy down k t ≤ outflowsBy up k t
-unfolding outflowsBy
-lower-outflows k zero = zero-le
-lower-outflows k (suc t) = add-le-add (lower-outflows k t) (encloses-le (outflow-encloses k t))
 
 step-apart : (k : Terms) → Bounded k → (t : ℕ)
     → balanceBy up k (suc t) + outflowBy up k t ≤ balanceBy down k (suc t) + outflowBy down k t + grown (balanceBy up k t - balanceBy down k t)
@@ -70,11 +66,12 @@ step-apart k b t = step k b t (balanceBy down k t) (balanceBy up k t) (encloses-
 
 -- upper balance and outflows to month t stand above the lower ones by at most the distance of 0 after t months
 pub amount-width : (k : Terms) → Bounded k → (t : ℕ) → balanceBy up k t + outflowsBy up k t ≤ balanceBy down k t + outflowsBy down k t + distance 0 t
-unfolding outflowsBy distance balanceBy
+unfolding sumWhere distance balanceBy
 amount-width k b zero = omega arith
 amount-width k b (suc t) =
     carry (distance 0 t) (balanceBy down k t) (outflowsBy down k t) (balanceBy down k (suc t)) (outflowBy down k t) (balanceBy up k t) (outflowsBy up k t)
-    (balanceBy up k (suc t)) (outflowBy up k t) (encloses-le (balance-encloses k t)) (lower-outflows k t) (step-apart k b t) (amount-width k b t)
+    (balanceBy up k (suc t)) (outflowBy up k t) (encloses-le (balance-encloses k t))
+    (sumWhere-mono everywhere (outflowBy down k) (outflowBy up k) t (λ i h. encloses-le (outflow-encloses k i))) (step-apart k b t) (amount-width k b t)
 
 -- the two distances after the longest term
 pub amount-limit : {t : ℕ} → t ≤ monthsLimit → distance par t ≤ amountLimit

@@ -39,7 +39,7 @@ unit-encloses : (s : ℕ) → Encloses s (scaled (whole 1) s 1) s
 unfolding scaled whole
 unit-encloses s = record { positive = omega arith; below = omega arith; above = omega arith }
 
-pub discount-encloses : (z n : ℕ) → Encloses (discountBy down z n) (scaled (exactDiscount z n) par 1) (discountBy up z n)
+discount-encloses : (z n : ℕ) → Encloses (discountBy down z n) (scaled (exactDiscount z n) par 1) (discountBy up z n)
 unfolding discountBy exactDiscount
 discount-encloses z zero = unit-encloses par
 discount-encloses z (suc n) =

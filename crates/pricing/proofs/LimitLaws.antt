@@ -4,6 +4,8 @@ use mathlib.Core.Logic.{⊎-elim}
 use lib.Dec.{lit<}
 use native.Mathlib.Nat.{le-refl, le-trans, add-le-add, eq-or-lt-of-le, mul-le-mul-left}
 use native.Mathlib.Omega.{arith}
+use Rattle.lists.specs.Sums.{sumWhere, everywhere}
+use Rattle.lists.proofs.SumLaws.{sumWhere-mono}
 use Rattle.fraction.proofs.EnclosureLaws.{encloses-le}
 use Rattle.schedule.specs.Limits.{monthsLimit}
 use Rattle.pricing.specs.Scales.{par, rateScale, amountLimit}
@@ -25,13 +27,8 @@ pub balance-limit : (k : Terms) → Bounded k → (t : ℕ) → t ≤ monthsLimi
 balance-limit k b t h =
     either (λ (ρ : Rounding). balanceBy ρ k t) amountLimit (encloses-le (balance-encloses k t)) (omega (arith, amount-le k b t, amount-limit h))
 
-lower-payments : (k : Terms) (t : ℕ) → paymentsBy down k t ≤ paymentsBy up k t
-unfolding paymentsBy
-lower-payments k zero = zero-le
-lower-payments k (suc t) = add-le-add (lower-payments k t) (encloses-le (flow-encloses k t))
-
 upper-payments : (k : Terms) → Bounded k → (t : ℕ) → t ≤ k .months → paymentsBy up k t ≤ amountLimit
-unfolding paymentsBy
+unfolding sumWhere
 upper-payments k b zero h = zero-le
 upper-payments k b (suc t) h =
     ⊎-elim (λ e. omega (arith, payments-last up k t e, total)) (λ l. omega (arith, payments-before up k (suc t) l, total)) (eq-or-lt-of-le h)
@@ -41,7 +38,9 @@ upper-payments k b (suc t) h =
 
 -- all that is paid to month t of the term
 payments-limit : (k : Terms) → Bounded k → (t : ℕ) → t ≤ k .months → (ρ : Rounding) → paymentsBy ρ k t ≤ amountLimit
-payments-limit k b t h = either (λ (ρ : Rounding). paymentsBy ρ k t) amountLimit (lower-payments k t) (upper-payments k b t h)
+payments-limit k b t h =
+    either (λ (ρ : Rounding). paymentsBy ρ k t) amountLimit
+    (sumWhere-mono everywhere (flowBy down k) (flowBy up k) t (λ i l. encloses-le (flow-encloses k i))) (upper-payments k b t h)
 
 pub discount-limit : (z n : ℕ) (ρ : Rounding) → discountBy ρ z n ≤ par
 unfolding discountBy
@@ -51,7 +50,7 @@ discount-limit z (suc n) ρ =
 
 -- discounted by factors of at most par, the flows are at most the flows themselves
 discounted-le-payments : (k : Terms) (df : ℕ → ℕ) → ((t : ℕ) → df t ≤ par) → (t : ℕ) (ρ : Rounding) → discountedBy ρ k df t ≤ paymentsBy ρ k t
-unfolding discountedBy paymentsBy
+unfolding sumWhere discountedBy
 discounted-le-payments k df hd zero ρ = zero-le
 discounted-le-payments k df hd (suc t) ρ =
     add-le-add (discounted-le-payments k df hd t ρ)

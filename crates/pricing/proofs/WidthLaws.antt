@@ -4,6 +4,7 @@ use mathlib.Core.Path.{_≡_, refl, subst}
 use lib.Dec.{lit<}
 use native.Mathlib.Nat.{add-sub-of-le, le-of-suc-le, mul-le-mul-left}
 use native.Mathlib.Omega.{arith}
+use Rattle.lists.specs.Sums.{sumWhere}
 use Rattle.fraction.proofs.EnclosureLaws.{encloses-le}
 use Rattle.schedule.specs.Limits.{monthsLimit}
 use Rattle.pricing.specs.Scales.{par, valueScale}
@@ -54,7 +55,7 @@ month-width k z t h = apart (flowBy down k t) (flowBy up k t) (encloses-le (flow
 sum-width : (k : Terms) (z : ℕ → ℕ) (t : ℕ) → t ≤ monthsLimit
     → discountedBy up k (discountFactorBy up z) t * par + paymentsBy down k t * par
     ≤ discountedBy down k (discountFactorBy down z) t * par + paymentsBy up k t * par + paymentsBy down k t * monthsLimit + t * (2 * par)
-unfolding discountedBy paymentsBy
+unfolding sumWhere discountedBy
 sum-width k z zero h = zero-le
 sum-width k z (suc t) h = omega (arith, sum-width k z t (le-of-suc-le h), month-width k z t h)
 
