@@ -4,7 +4,7 @@ use mathlib.Core.Path.{_≡_, refl, ap, sym, _∙_}
 use mathlib.Core.List.{List, [], _++_, append-assoc}
 use native.Mathlib.Omega.{arith}
 use lib.ListN.{length, take, drop, length-append, take-append-drop}
-use lib.Seq.{length-take-le, length-front, take-at, drop-drop, drop-append-add}
+use lib.Seq.{length-take-le, length-front, take-all, take-at, drop-drop, drop-append-add}
 use Rattle.lists.specs.Runs.{written}
 use Rattle.lists.specs.Tables.{table, joined}
 use Rattle.lists.proofs.TableLaws.{joined-suc}
@@ -47,3 +47,8 @@ module _ {ℓ} {A : Type ℓ} where
       → Overwritten (first ++ joined (table (i + 1) f)) next before (written after n row)
   overwritten-row first f m sized i n next before after row w r e h =
       rw (joined-suc i f, ← append-assoc, r) (overwritten-more (first ++ joined (table i f)) (f i) n next before after w (rw (sized i) (sym e)) h)
+
+  -- all places
+  pub overwritten-all : (front : List A) (n : ℕ) (before after : List A) → Overwritten front n before after → length before ≤ n → after ≡ front
+  overwritten-all front n before after w h =
+      sym (take-all n after (rw (w .as-long) h)) ∙ ap (take n) (w .is) ∙ take-at front (drop n before) n (w .long)
