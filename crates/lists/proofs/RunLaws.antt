@@ -3,7 +3,7 @@ use Prim.Native.Nat.{ℕ, _+_, _≤_}
 use mathlib.Core.Path.{_≡_, refl, ap, sym, _∙_}
 use mathlib.Core.List.{List, [], _++_, append-assoc}
 use native.Mathlib.Omega.{arith}
-use lib.ListN.{length, take, drop, length-append, take-append-drop}
+use lib.ListN.{length, take, drop, length-append}
 use lib.Seq.{length-take-le, length-front, take-all, take-at, drop-drop, drop-append-add}
 use Rattle.lists.specs.Runs.{written}
 use Rattle.lists.specs.Tables.{table, joined}
@@ -16,29 +16,28 @@ module _ {ℓ} {A : Type ℓ} where
     pub as-long : length after ≡ length before
     pub is : after ≡ front ++ drop n before
 
+  -- from what the list after is
+  pub overwritten-is : (front : List A) (n : ℕ) (before after : List A) → length front ≡ n → n ≤ length before → after ≡ front ++ drop n before
+      → Overwritten front n before after
+  overwritten-is front n before after long h e =
+      record { long = long; as-long = ap length e ∙ length-front before front n (long ∙ sym (length-take-le n before h)); is = e }
+
   -- before the first run
   pub overwritten-none : (l : List A) → Overwritten [] 0 l l
   overwritten-none l = record { long = refl; as-long = refl; is = refl }
-
-  -- the first n places overwritten by what they hold
-  pub overwritten-same : (n : ℕ) (l : List A) → n ≤ length l → Overwritten (take n l) n l l
-  overwritten-same n l h = record { long = length-take-le n l h; as-long = refl; is = sym (take-append-drop n l) }
 
   -- one run more
   pub overwritten-more : (front run : List A) (n m : ℕ) (before after : List A) → Overwritten front n before after → n + length run ≡ m
       → m ≤ length before → Overwritten (front ++ run) m before (written after n run)
   unfolding written
   overwritten-more front run n m before after w e h =
-      record { long = long; as-long = ap length held ∙ length-front before (front ++ run) m (long ∙ sym (length-take-le m before h)); is = held }
+      overwritten-is (front ++ run) m before _ (length-append front run ∙ rw (w .long) e) h
+      (rw (w .is, take-at front (drop n before) n (w .long), rest))
     where
-      long : length (front ++ run) ≡ m
-      long = length-append front run ∙ rw (w .long) e
-
       rest : drop (n + length run) (front ++ drop n before) ≡ drop m before
-      rest = rw (← w .long) (drop-append-add front (drop (length front) before) (length run) ∙ drop-drop (length run) (length front) before) ∙ ap (λ (i : ℕ). drop i before) e
-
-      held : take n after ++ run ++ drop (n + length run) after ≡ front ++ run ++ drop m before
-      held = rw (w .is, take-at front (drop n before) n (w .long), rest)
+      rest =
+          rw (← w .long) (drop-append-add front (drop (length front) before) (length run) ∙ drop-drop (length run) (length front) before)
+          ∙ ap (λ (i : ℕ). drop i before) e
 
   -- one row more of rows of m elements, behind what stands before them
   pub overwritten-row : (first : List A) (f : ℕ → List A) (m : ℕ) → ((i : ℕ) → length (f i) ≡ m)
