@@ -3,8 +3,10 @@
 pub mod cells;
 mod conditions;
 mod decode;
+pub mod sums;
 
-use crate::conditions::check_contents;
+use crate::conditions::check_cells;
+use crate::conditions::check_sheets;
 use crate::decode::contents_at;
 use answers::Answer;
 use answers::number;
@@ -31,14 +33,12 @@ pub fn read(filing: &[u8]) -> Reading
         return refusal(records);
     }
     let first = scanned.first;
-    if filing.len() <= first[2] {
-        return refusal(Answer::SheetMissing(filing.len()));
-    }
-    if filing.len() <= first[3] {
-        return refusal(Answer::SheetMissing(filing.len()));
+    let sheets = check_sheets(filing.len(), first[2], first[3]);
+    if number(sheets) != 0 {
+        return refusal(sheets);
     }
     let contents = contents_at(filing, &first);
-    let answer = check_contents(contents);
+    let answer = check_cells(&contents.cells);
     if number(answer) != 0 {
         return refusal(answer);
     }

@@ -1,4 +1,5 @@
 // The split of a filing into a list of places that the caller lends.
+use crate::NO_PLACE;
 use crate::Outcome;
 use crate::SplitPlaces;
 use crate::SubBalance;
@@ -72,14 +73,9 @@ fn outcome_of(filing: &[u8], size: usize) -> Outcome
 fn refusal(answer: Answer) -> Outcome
     ensures { λ r. ⌜ (r .answer ≡ answer) × (r .places ≡ replicate 36 noPlace) × (r .count ≡ 0) ⌝ }
 {
-    let none = SubBalance {
-        balance: 0,
-        coupon: 0,
-        remaining_months: 0,
-    };
     Outcome {
         answer,
-        places: [none; 36],
+        places: [NO_PLACE; 36],
         count: 0,
     }
 }
