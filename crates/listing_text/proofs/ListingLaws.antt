@@ -26,7 +26,8 @@ pub text-too-long : (s : List ℕ) → filingLimit < length s → tooLong ≡ li
 unfolding listingText
 text-too-long s h = rw (lt-ltb filingLimit (length s) h)
 
-module _ (s before after : List ℕ) (answer : Answer) (short : length s ≤ filingLimit) (long : numberCount ≤ length before) (valued : Valued s before answer after) where
+module _ (s before after : List ℕ) (answer : Answer)
+    (short : length s ≤ filingLimit) (long : numberCount ≤ length before) (valued : Valued s before answer after) where
   verdict-is : verdictOf answer ≡ filingVerdict s
   unfolding verdictOn
   verdict-is = valued .answer-is ∙ sym (list-long numberCount (length before) (filingVerdict s) long)
@@ -36,7 +37,8 @@ module _ (s before after : List ℕ) (answer : Answer) (short : length s ≤ fil
   text-is = rw (le-ltb filingLimit (length s) short, verdict-is)
 
   -- a refused filing
-  pub text-refused : (number place : ℕ) → number ≡ numberOf answer → place ≡ placeOf answer → (number ≡ 0 → ⊥) → refusalLine number place ≡ listingText s
+  pub text-refused : (number place : ℕ) → number ≡ numberOf answer → place ≡ placeOf answer → (number ≡ 0 → ⊥)
+      → refusalLine number place ≡ listingText s
   unfolding verdictText verdictOf
   text-refused number place n p h = rw (n, p) (rw (ne-eqb (numberOf answer) 0 (λ e. h (n ∙ e))) at text-is)
 

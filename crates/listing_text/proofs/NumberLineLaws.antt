@@ -15,7 +15,7 @@ use Rattle.filing.specs.declared.Contents.{Contents}
 use Rattle.valuation.specs.Numbers.{scenarioTotals, numbers}
 use Rattle.valuation.proofs.NumberLaws.{numbers-length, short-lower-read, short-upper-read, long-lower-read, long-upper-read}
 use Rattle.valuation.specs.Promise.{totalNumber}
-use Rattle.text.specs.Decimal.{digitsWithin, decimal, negative, signed}
+use Rattle.text.specs.Decimal.{digitsWithin, decimal, signed}
 use Rattle.text.specs.Lines.{restOfLine}
 use Rattle.text.proofs.LineLaws.{rest-length}
 use Rattle.listing_text.specs.Listing.{shift, scenarioLine, scenarioLines}
@@ -48,7 +48,7 @@ module _ (l : List ℕ) where
 
 -- a shift has four bytes at most
 shift-length : (scenario : ℕ) → scenario < 7 → length (signed (subℕ (100 * scenario) 300)) ≤ 4
-unfolding signed negative decimal digitsWithin
+unfolding signed decimal digitsWithin
 shift-length =
     each-lt 7 (λ (s : ℕ). length (signed (subℕ (100 * s) 300)) ≤ 4)
     (omega arith, (omega arith, (omega arith, (omega arith, (omega arith, (omega arith, (omega arith, tt)))))))

@@ -2,7 +2,7 @@
 use mathlib.Core.Path.{_≡_, refl}
 use mathlib.Core.List.{[], _∷_}
 use lib.ListN.{replicate}
-use Rattle.text.specs.Decimal.{digit, digitsWithin, decimal, negative, signed}
+use Rattle.text.specs.Decimal.{digit, digitsWithin, decimal, signed}
 use Rattle.text.specs.Lines.{spaced, restOfLine, refusedWord, refusalLine}
 use Rattle.listing_text.specs.Listing.{shift, tooLong, listingText}
 
@@ -24,17 +24,17 @@ largest-is = refl
 
 -- -300
 lowest-shift : signed (shift 0) ≡ 45 ∷ 51 ∷ 48 ∷ 48 ∷ []
-unfolding shift signed negative decimal digitsWithin digit
+unfolding shift signed decimal digitsWithin digit
 lowest-shift = refl
 
 -- 0
 middle-shift : signed (shift 3) ≡ 48 ∷ []
-unfolding shift signed negative decimal digitsWithin digit
+unfolding shift signed decimal digitsWithin digit
 middle-shift = refl
 
 -- 300
 highest-shift : signed (shift 6) ≡ 51 ∷ 48 ∷ 48 ∷ []
-unfolding shift signed negative decimal digitsWithin digit
+unfolding shift signed decimal digitsWithin digit
 highest-shift = refl
 
 -- the rest of a line: 7, 10

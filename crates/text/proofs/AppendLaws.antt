@@ -18,7 +18,8 @@ pub appended-length : (l : List ℕ) (i : ℕ) (x m : List ℕ) (j : ℕ) → Ap
 appended-length l i x m j a = rw (a .bytes-are) (length-sets l i x)
 
 -- one text behind another
-pub appended-append : (l : List ℕ) (i : ℕ) (x m : List ℕ) (j : ℕ) (y n : List ℕ) (k : ℕ) → Appended l i x m j → Appended m j y n k → Appended l i (x ++ y) n k
+pub appended-append : (l : List ℕ) (i : ℕ) (x m : List ℕ) (j : ℕ) (y n : List ℕ) (k : ℕ) → Appended l i x m j → Appended m j y n k
+    → Appended l i (x ++ y) n k
 appended-append l i x m j y n k a b =
     record {
       bytes-are = b .bytes-are ∙ rw (a .bytes-are, a .end-is) (sym (sets-append l i x y));
@@ -42,8 +43,8 @@ pub remaining-all : (l : List ℕ) (i : ℕ) (text : List ℕ) → Remaining l i
 remaining-all l i text = record { as-long = refl; whole = refl; reach = refl }
 
 -- one piece more
-pub remaining-less : (l : List ℕ) (i : ℕ) (text m : List ℕ) (j : ℕ) (x rest n : List ℕ) (k : ℕ) → Remaining l i text m j (x ++ rest) → Appended m j x n k
-    → Remaining l i text n k rest
+pub remaining-less : (l : List ℕ) (i : ℕ) (text m : List ℕ) (j : ℕ) (x rest n : List ℕ) (k : ℕ)
+    → Remaining l i text m j (x ++ rest) → Appended m j x n k → Remaining l i text n k rest
 remaining-less l i text m j x rest n k r a =
     record {
       as-long = appended-length m j x n k a ∙ r .as-long;

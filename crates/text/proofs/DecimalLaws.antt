@@ -9,7 +9,7 @@ use lib.Dec.{ltb}
 use lib.IntN.{subℕ}
 use lib.ListN.{length, length-append}
 use borrow.Author.Tests.{lt-ltb, le-ltb, ltb-true, ltb-false}
-use Rattle.text.specs.Decimal.{digit, digitsWithin, decimal, negative, signed}
+use Rattle.text.specs.Decimal.{digit, digitsWithin, decimal, signed}
 
 none-within : (m : ℕ) → digitsWithin m 0 ≡ []
 unfolding digitsWithin
@@ -66,7 +66,7 @@ unfolding signed
 signed-difference a b h = rw (le-ltb a b h)
 
 pub signed-negative : (a b : ℕ) → a < b → signed (subℕ a b) ≡ 45 ∷ decimal (b - a)
-unfolding signed negative
+unfolding signed
 signed-negative a b h =
     let e : suc (b - suc a) ≡ b - a = omega arith in
     rw (lt-ltb a b h, e)

@@ -18,11 +18,7 @@ unfoldable pub decimal : ℕ → List ℕ
 decimal zero = digit 0 ∷ []
 decimal (suc n) = digitsWithin (suc n) (suc n)
 
--- a minus sign and the digits
-unfoldable pub negative : ℕ → List ℕ
-negative n = 45 ∷ decimal n
-
 -- a whole number with its sign, where that is a minus
 unfoldable pub signed : ℤ → List ℕ
 signed (pos n) = decimal n
-signed (negsuc n) = negative (suc n)
+signed (negsuc n) = 45 ∷ decimal (suc n)

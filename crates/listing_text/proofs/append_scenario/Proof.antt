@@ -1,7 +1,7 @@
 -- `listing_text::append_scenario` meets its contract. Assumes nothing.
-use Prim.Native.Nat.{_*_}
+use Prim.Native.Nat.{ℕ, _*_}
 use mathlib.Core.Path.{_≡_, ap}
-use mathlib.Core.List.{[], _∷_, _++_}
+use mathlib.Core.List.{List, [], _∷_, _++_}
 use native.Mathlib.Omega.{arith}
 use lib.IntN.{subℕ}
 use lib.ListN.{length, length-append}
@@ -38,8 +38,13 @@ slice-aggregate-append-line : tie.Need-slice-aggregate-append-line
 slice-aggregate-append-line c = search needs
 
 -- the line, of the totals as they were read
-line : (c : tie.After-total4) → lineIn (c .before .before .before .before .before .before .before .before .before .before .args .numbers .now) (c .before .before .before .before .before .before .before .before .before .before .args .scenario)
-    ≡ signed (subℕ (100 * c .before .before .before .before .before .before .before .before .before .before .args .scenario) 300)
+abbrev list-of : tie.After-total4 → List ℕ
+list-of c = c .before .before .before .before .before .before .before .before .before .before .args .numbers .now
+
+abbrev scenario-of : tie.After-total4 → ℕ
+scenario-of c = c .before .before .before .before .before .before .before .before .before .before .args .scenario
+
+line : (c : tie.After-total4) → lineIn (list-of c) (scenario-of c) ≡ signed (subℕ (100 * scenario-of c) 300)
     ++ restOfLine (c .before .before .before .total .result ∷ c .before .before .total2 .result ∷ c .before .total3 .result ∷ c .total4 .result ∷ [])
 line c =
     line-of _ _ _ _ _ _ (c .before .before .before .total .ensures) (c .before .before .total2 .ensures) (c .before .total3 .ensures) (c .total4 .ensures)
@@ -55,7 +60,8 @@ same-length c = search needs
 returns : tie.Need-returns
 returns c =
     let t = c .before .before .before .before .before in
-    rw (line t) (appended-append _ _ _ _ _ _ _ _ (t .before .before .before .before .before .before .append-difference .ensures) (c .before .before .append-line .ensures))
+    rw (line t)
+    (appended-append _ _ _ _ _ _ _ _ (t .before .before .before .before .before .before .append-difference .ensures) (c .before .before .append-line .ensures))
 
 pub append-scenario-spec : {M : Type 1} → statement M
 append-scenario-spec =

@@ -42,9 +42,13 @@ append-refusal-requires c κs = omega (arith, short c)
 
 returns-2 : tie.Need-returns-2
 returns-2 c =
-    let s = c .before .before .before .before .before .before .before .before .before .before .args .filing .now in
-    let refusal = text-refused s _ _ _ (omega arith) (omega arith) (c .before .before .before .before .before .before .value .ensures) _ _ (c .before .before .before .before .number .ensures) (c .before .place .ensures) (c .before .before .before .if2 .taken) in
-    listed _ _ _ _ _ (omega (arith, short (c .before))) refusal (c .append-refusal .ensures)
+    let p = c .before in
+    let n = c .before .before .before .before in
+    let v = n .before .before in
+    let s = v .before .before .before .before .args .filing .now in
+    let refusal =
+    text-refused s _ _ _ (omega arith) (omega arith) (v .value .ensures) _ _ (n .number .ensures) (p .place .ensures) (c .before .before .before .if2 .taken) in
+    listed _ _ _ _ _ (omega (arith, short p)) refusal (c .append-refusal .ensures)
 
 slice-aggregate-append-scenarios : tie.Need-slice-aggregate-append-scenarios
 slice-aggregate-append-scenarios c = search needs
@@ -54,8 +58,10 @@ append-scenarios-requires c κs = (omega arith, omega (arith, c .before .before 
 
 returns-3 : tie.Need-returns-3
 returns-3 c =
-    let s = c .before .before .before .before .before .before .before .before .before .before .args .filing .now in
-    let lines = text-accepted s _ _ _ (omega arith) (omega arith) (c .before .before .before .before .before .before .value .ensures) _ (c .before .before .before .before .number .ensures) (omega arith) in
+    let n = c .before .before .before .before in
+    let v = n .before .before in
+    let s = v .before .before .before .before .args .filing .now in
+    let lines = text-accepted s _ _ _ (omega arith) (omega arith) (v .value .ensures) _ (n .number .ensures) (omega arith) in
     listed _ _ _ _ _ (omega (arith, c .append-scenarios .ensures .0 .end-is)) lines (c .append-scenarios .ensures .0)
 
 pub write-listing-spec : {M : Type 1} → statement M
