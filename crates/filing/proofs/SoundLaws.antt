@@ -18,7 +18,7 @@ use Rattle.records.specs.RecordVerdicts.{firstFaulty, recordVerdict}
 use Rattle.records.proofs.RecordLaws.{first-fails, with-key-passes, record-of-cell-key, record-of-kind-key}
 use Rattle.records.proofs.FaultLaws.{Sound, faultless-sound}
 use Rattle.filing.specs.Contents.{cellOffset, cellValue, sheetOffset, contentsOf, cellIn, cell}
-use Rattle.filing.specs.Inner.ColumnSums.{BalancesWithin}
+use Rattle.filing.specs.Inner.Sums.{BalancesWithin}
 
 -- a cell of 601 to 661, as read from the contents
 cell-read : (s : List ℕ) (n : ℕ) → 601 ≤ n → n ≤ 661 → cell (contentsOf s) n ≡ cellValue s n

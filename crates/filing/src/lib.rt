@@ -66,3 +66,9 @@ pub struct Contents {
     pub yields: [u16; 120],
     pub rates: [u16; 3],
 }
+
+// The sums of columns 1 to 3, and of the rows above each of the nine positions in its column, in thousands of dollars.
+pub struct ColumnSums {
+    pub totals: [u64; 3],
+    pub above: [u64; 9],
+}

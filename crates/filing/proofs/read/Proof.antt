@@ -15,7 +15,7 @@ use Rattle.filing.specs.declared.Contents.{Contents}
 use Rattle.filing.specs.Contents.{sheetOffset, contentsOf}
 use Rattle.filing.specs.Conditions.{sheetMissing}
 use Rattle.filing.specs.Verdict.{sheetVerdict, contentsVerdict, filingVerdict}
-use Rattle.filing.specs.Inner.ColumnSums.{BalancesWithin}
+use Rattle.filing.specs.Inner.Sums.{BalancesWithin}
 use Rattle.filing.specs.Inner.ContentsAt.{contentsAt}
 use Rattle.filing.proofs.ContentsLaws.{sheet-noted, contents-noted}
 use Rattle.filing.proofs.ReadLaws.{records-refuse, sheets-refuse, contents-decide, contents-accepted, refused-reading}
