@@ -3,27 +3,28 @@ use crate::cells::cell_value;
 use crate::sums::column_sums;
 use answers::Answer;
 use answers::first_refusal;
+use records::KINDS;
 use schedule::Position;
 use schedule::positions::position;
 use schedule::positions::within_row;
 ghost use mathlib.Core.Path.{_≡_};
-ghost use mathlib.Core.Bool.{_||_};
-ghost use lib.Dec.{leb};
-ghost use Rattle.answers.specs.Verdict.{refusedIf};
+ghost use lib.ListN.{length};
 ghost use Rattle.answers.specs.Answers.{verdictOf};
+ghost use Rattle.records.specs.Inner.Notes.{notedBefore};
 ghost use Rattle.filing.specs.Conditions.{monthsOutside};
-ghost use Rattle.filing.specs.Verdict.{monthsVerdict, columnsVerdict, totalVerdict, cellsVerdict};
+ghost use Rattle.filing.specs.Verdict.{sheetVerdict, monthsVerdict, columnsVerdict, totalVerdict, cellsVerdict};
 ghost use Rattle.filing.specs.Inner.Sums.{BalancesWithin, columnSums};
 
-// 6, from the input's length and where the sheets of yields and of retail rates stand: one that is missing is noted at the length.
-pub(crate) fn check_sheets(size: usize, yields: usize, rates: usize) -> Answer
-    ensures { λ r. ⌜ verdictOf r ≡ refusedIf (leb size yields || leb size rates) 6 size ⌝ }
+// 6, from where the sheets stand: one that is missing is noted at the input's length.
+pub(crate) fn check_sheets(s: &[u8], sheets: &[usize; KINDS]) -> Answer
+    requires { ⌜ now sheets ≡ notedBefore (now s) (length (now s)) .sheets ⌝ }
+    ensures { λ r. ⌜ verdictOf r ≡ sheetVerdict (now (s .entry)) ⌝ }
 {
-    if size <= yields {
-        return Answer::SheetMissing(size);
+    if s.len() <= sheets[2] {
+        return Answer::SheetMissing(s.len());
     }
-    if size <= rates {
-        return Answer::SheetMissing(size);
+    if s.len() <= sheets[3] {
+        return Answer::SheetMissing(s.len());
     }
     Answer::Accepted
 }
