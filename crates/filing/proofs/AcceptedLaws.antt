@@ -13,15 +13,15 @@ use Rattle.lists.proofs.TableLaws.{table-le}
 use Rattle.schedule.specs.Cells.{positionAt, brokeredCell, penaltyBalanceCell, penaltyMonthsCell}
 use Rattle.schedule.specs.Limits.{classLimit, rateLimit}
 use Rattle.schedule.proofs.CellLaws.{coupon-cell, months-cell, penalty-months-cell}
-use Rattle.records.specs.Records.{recordRate}
-use Rattle.records.specs.Faults.{sheetRates}
+use Rattle.records.specs.Records.{sheetNumber}
+use Rattle.records.specs.Kinds.{sheetOf, sheetKinds, sheetKind}
 use Rattle.records.proofs.FaultLaws.{neither}
 use Rattle.filing.specs.Contents.{sheetOffset, contentsOf, cell, cdYield, retailRate}
 use Rattle.filing.specs.Conditions.{sheetMissing, columnBalances}
 use Rattle.filing.specs.Verdict.{Accepted}
 use Rattle.filing.specs.Valid.{Valid}
 use Rattle.filing.proofs.SumLaws.{by-column}
-use Rattle.filing.proofs.SoundLaws.{cell-within, balances-within, sheet-rate-limit}
+use Rattle.filing.proofs.SoundLaws.{cell-within, balances-within, sheet-limit}
 use Rattle.filing.proofs.VerdictLaws.{accepted-passed, months-hold, column-holds, total-holds}
 
 module _ (s : List ℕ) (a : Accepted s) where
@@ -33,16 +33,16 @@ module _ (s : List ℕ) (a : Accepted s) where
       (leb-false (length s) (sheetOffset s 2) (missing .0), leb-false (length s) (sheetOffset s 3) (missing .1))
 
   yield-within : (t : ℕ) → cdYield (contentsOf s) t ≤ rateLimit
-  unfolding cdYield contentsOf sheetRates
+  unfolding cdYield contentsOf sheetOf sheetKinds sheetKind
   yield-within t =
-      table-le 1 120 (recordRate s (sheetOffset s 2)) rateLimit
-      (λ j l u. sheet-rate-limit s (accepted-passed s a .none-faulty) 2 (sheets-present .0) j l (omega arith)) (t - 1)
+      table-le 1 120 (sheetNumber s (sheetOffset s 2)) rateLimit
+      (λ j l u. sheet-limit s (accepted-passed s a .none-faulty) 2 (sheets-present .0) j l (omega arith)) (t - 1)
 
   rate-within : (j : ℕ) → retailRate (contentsOf s) j ≤ rateLimit
-  unfolding retailRate contentsOf sheetRates
+  unfolding retailRate contentsOf sheetOf sheetKinds sheetKind
   rate-within j =
-      table-le 1 3 (recordRate s (sheetOffset s 3)) rateLimit
-      (λ j l u. sheet-rate-limit s (accepted-passed s a .none-faulty) 3 (sheets-present .1) j l (omega arith)) (j - 1)
+      table-le 1 3 (sheetNumber s (sheetOffset s 3)) rateLimit
+      (λ j l u. sheet-limit s (accepted-passed s a .none-faulty) 3 (sheets-present .1) j l (omega arith)) (j - 1)
 
   -- what an accepted filing says is valid
   pub accepted-valid : Valid (contentsOf s)

@@ -16,8 +16,7 @@ use Rattle.answers.specs.Verdict.{Verdict, firstOf}
 use Rattle.filing.specs.Contents.{cellIn}
 use Rattle.filing.specs.Conditions.{monthsOutside, columnBalances, aboveColumn}
 use Rattle.filing.specs.Verdict.{positionVerdict, monthsVerdict, columnVerdict, columnsVerdict}
-use Rattle.filing.specs.Inner.ColumnSums.{columnSums}
-use Rattle.filing.proofs.SumLaws.{sum-of-column, column-sum}
+use Rattle.filing.proofs.SumLaws.{sumsBefore, sum-before, column-sum}
 
 module _ (cells : List ℕ) where
   -- without a balance 7 does not hold; with one it does where the months lie outside the row
@@ -31,9 +30,9 @@ module _ (cells : List ℕ) where
   outside-filled p h = simp (ne-eqb (cellIn cells (p .balance)) 0 h)
 
   -- 8 compares a cell with its column's sum, the m-th of the three counted from 0
-  pub above-sum : (m n : ℕ) → m < 3 → ltb (getD (columnSums cells 9) m 0) (cellIn cells n) ≡ aboveColumn cells (m + 1) n
+  pub above-sum : (m n : ℕ) → m < 3 → ltb (getD (sumsBefore cells 9) m 0) (cellIn cells n) ≡ aboveColumn cells (m + 1) n
   unfolding aboveColumn
-  above-sum m n h = rw (sum-of-column cells 9 m (m + 1) refl h, column-sum cells (m + 1) (omega arith) (omega arith))
+  above-sum m n h = rw (sum-before cells 9 m (m + 1) refl h, column-sum cells (m + 1) (omega arith) (omega arith))
 
   -- 7 at the i-th position, and 8 at the i-th of cells 650 to 655, over columns 1 to 3 twice
   abbrev pub monthsAt : ℕ → Verdict

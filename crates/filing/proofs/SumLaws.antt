@@ -11,14 +11,15 @@ use borrow.Author.Tests.{eq-eqb, ne-eqb}
 use lib.Dec.{lit<, eqb}
 use lib.ListN.{getD, set}
 use Rattle.lists.specs.Sums.{sum, sumWhere}
-use Rattle.lists.specs.Tables.{tableFrom, those}
+use Rattle.lists.specs.Tables.{tableFrom, table, those}
 use Rattle.lists.proofs.EachLaws.{each-lt}
-use Rattle.lists.proofs.TableLaws.{tableFrom-getD, table-le}
+use Rattle.lists.proofs.TableLaws.{tableFrom-getD, table-getD, table-le}
 use Rattle.schedule.specs.Cells.{position, positions, positionAt, inColumn}
 use Rattle.schedule.specs.Limits.{balanceLimit, columnLimit}
+use Rattle.filing.specs.declared.ColumnSums.{ColumnSums}
 use Rattle.filing.specs.Contents.{cellIn}
 use Rattle.filing.specs.Conditions.{columnBalances, balances}
-use Rattle.filing.specs.Inner.ColumnSums.{BalancesWithin, columnSum, columnSums}
+use Rattle.filing.specs.Inner.Sums.{BalancesWithin, columnSum, columnSums}
 
 -- what holds of columns 1, 2 and 3 holds of each column
 pub by-column : (P : ℕ → Type 0) → P 1 → P 2 → P 3 → (j : ℕ) → 1 ≤ j → j ≤ 3 → P j
@@ -50,12 +51,26 @@ stored-column f g v j l u =
     (λ e h. rw (e, h 1 (λ q. omega arith), h 2 (λ q. omega arith))) j l u
 
 module _ (cells : List ℕ) where
+  -- the sums of columns 1 to 3 at the positions before the i-th
+  unfoldable pub sumsBefore : ℕ → List ℕ
+  sumsBefore i = tableFrom 1 3 (λ (column : ℕ). columnSum cells column i)
+
+  -- what stands above a position in its column
+  abbrev pub aboveAt : ℕ → ℕ
+  aboveAt i = columnSum cells (positionAt i .column) i
+
   -- the sum of column j, the m-th of the three counted from 0
-  pub sum-of-column : (end m j : ℕ) → j ≡ m + 1 → m < 3 → getD (columnSums cells end) m 0 ≡ columnSum cells j end
-  unfolding columnSums
-  sum-of-column end m j e h =
+  pub sum-before : (i m j : ℕ) → j ≡ m + 1 → m < 3 → getD (sumsBefore i) m 0 ≡ columnSum cells j i
+  unfolding sumsBefore
+  sum-before i m j e h =
       let place : 1 + m ≡ j = omega arith in
-      tableFrom-getD 1 3 (λ (n : ℕ). columnSum cells n end) m 0 h ∙ ap (λ (n : ℕ). columnSum cells n end) place
+      tableFrom-getD 1 3 (λ (n : ℕ). columnSum cells n i) m 0 h ∙ ap (λ (n : ℕ). columnSum cells n i) place
+
+  -- the sum of a position's column
+  pub sum-at : (end i column : ℕ) → i < 9 → column ≡ positionAt i .column → getD (sumsBefore end) (column - 1) 0 ≡ columnSum cells (positionAt i .column) end
+  sum-at end i column h e =
+      let range = column-range i h in
+      sum-before end (column - 1) (positionAt i .column) (omega arith) (omega arith)
 
   -- a position of the column adds its balance to the column's sum, another position nothing
   columnSum-in : (column i : ℕ) → positionAt i .column ≡ column
@@ -69,23 +84,30 @@ module _ (cells : List ℕ) where
 
   -- a position's balance is added to its column's sum
   pub balance-added : (i column : ℕ) → i < 9 → column ≡ positionAt i .column
-      → set (columnSums cells i) (column - 1) (getD (columnSums cells i) (column - 1) 0 + cellIn cells (positionAt i .balance))
-      ≡ columnSums cells (i + 1)
-  unfolding columnSums
+      → set (sumsBefore i) (column - 1) (getD (sumsBefore i) (column - 1) 0 + cellIn cells (positionAt i .balance)) ≡ sumsBefore (i + 1)
+  unfolding sumsBefore
   balance-added i column h e =
       let range = column-range i h in
       stored-column _ _ _ column (omega arith) (omega arith)
-      (ap (λ (n : ℕ). n + cellIn cells (positionAt i .balance)) (sum-of-column i (column - 1) column (omega arith) (omega arith))
-      ∙ columnSum-in column i (sym e))
+      (ap (λ (n : ℕ). n + cellIn cells (positionAt i .balance)) (sum-at i i column h e) ∙ rw e (columnSum-in (positionAt i .column) i refl))
       (λ m other. columnSum-out m i (λ q. other (e ∙ q)))
+
+  -- the parts of the sums
+  pub totals-are : columnSums cells .totals ≡ sumsBefore 9
+  unfolding columnSums sumsBefore
+  totals-are = refl
+
+  pub above-at : (i : ℕ) → i < 9 → getD (columnSums cells .above) i 0 ≡ aboveAt i
+  unfolding columnSums
+  above-at i h = table-getD 9 aboveAt i 0 h
 
   -- over all nine positions a column's sum is that of its balances, and the three columns have all of them
   pub column-sum : (j : ℕ) → 1 ≤ j → j ≤ 3 → columnSum cells j 9 ≡ sum (columnBalances cells j)
   unfolding columnSum sumWhere sum columnBalances positionAt positions position inColumn those
   column-sum = by-column (λ (j : ℕ). columnSum cells j 9 ≡ sum (columnBalances cells j)) (omega arith) (omega arith) (omega arith)
 
-  pub balances-sum : getD (columnSums cells 9) 0 0 + getD (columnSums cells 9) 1 0 + getD (columnSums cells 9) 2 0 ≡ sum (balances cells)
-  unfolding columnSums tableFrom columnSum sumWhere sum balances positionAt positions position
+  pub balances-sum : getD (sumsBefore 9) 0 0 + getD (sumsBefore 9) 1 0 + getD (sumsBefore 9) 2 0 ≡ sum (balances cells)
+  unfolding sumsBefore tableFrom columnSum sumWhere sum balances positionAt positions position
   balances-sum = omega arith
 
   module _ (within : BalancesWithin cells) where
@@ -104,6 +126,6 @@ module _ (cells : List ℕ) where
         omega (arith, columnSum-limit column i (omega arith), cond-le (eqb (positionAt i .column) column) (within i (omega arith)))
 
     -- the sums over the first positions
-    pub sums-limit : (i m : ℕ) → i ≤ 9 → getD (columnSums cells i) m 0 ≤ balanceLimit * i
-    unfolding columnSums
+    pub sums-limit : (i m : ℕ) → i ≤ 9 → getD (sumsBefore i) m 0 ≤ balanceLimit * i
+    unfolding sumsBefore
     sums-limit i m h = table-le 1 3 (λ (j : ℕ). columnSum cells j i) (balanceLimit * i) (λ j l u. columnSum-limit j i h) m

@@ -13,7 +13,7 @@ use Rattle.schedule.specs.Cells.{positionAt, withinRow, totalCell}
 use Rattle.answers.specs.Verdict.{Verdict, accepted, firstRefusal}
 use Rattle.answers.proofs.VerdictLaws.{first-none, tried-none, condition-fails}
 use Rattle.records.specs.RecordVerdicts.{firstFaulty, recordsVerdict}
-use Rattle.records.proofs.PassedLaws.{records-passed}
+use Rattle.records.proofs.ProgressLaws.{records-passed}
 use Rattle.filing.specs.Contents.{contentsOf, cellIn}
 use Rattle.filing.specs.Conditions.{sheetMissing, monthsOutside, columnBalances, balances, aboveColumn, totalDiffers}
 use Rattle.filing.specs.Verdict.{sheetVerdict, positionVerdict, monthsVerdict, columnVerdict, columnsVerdict, totalVerdict, cellsVerdict, contentsVerdict, filingVerdict, Accepted}

@@ -5,12 +5,14 @@ use mathlib.Core.List.{List}
 use lib.ListN.{length, getD}
 use lib.Dec.{leb, ltb}
 use Rattle.lists.specs.Tables.{tableFrom}
-use Rattle.records.specs.Records.{recordValue, recordRate, firstWithKey, cellKey, kindKey}
+use Rattle.records.specs.Records.{recordValue, sheetNumber}
+use Rattle.records.specs.declared.items.Item.the-variants.{Cell, Sheet}
+use Rattle.records.specs.Items.{firstWith}
 use Rattle.filing.specs.declared.Contents.{Contents}
 
 -- the offset of a cell's record, or the input's length where there is none
 unfoldable pub cellOffset : List ℕ → ℕ → ℕ
-cellOffset s n = firstWithKey s (cellKey n) (length s)
+cellOffset s n = firstWith s (Cell n) (length s)
 
 -- the value of a cell, in the cell's unit; an absent cell is 0
 unfoldable pub cellValue : List ℕ → ℕ → ℕ
@@ -18,15 +20,15 @@ cellValue s n = cond (ltb (cellOffset s n) (length s)) (recordValue s (cellOffse
 
 -- the offset of a kind of sheet, or the input's length where there is none
 unfoldable pub sheetOffset : List ℕ → ℕ → ℕ
-sheetOffset s kind = firstWithKey s (kindKey kind) (length s)
+sheetOffset s kind = firstWith s (Sheet kind) (length s)
 
 -- the cells from 601 on, the yields of kind 2 by month from 1 on, the retail rates of kind 3 by column from 1 on
 unfoldable pub contentsOf : List ℕ → Contents
 contentsOf s =
     record {
       cells = tableFrom 601 61 (cellValue s);
-      yields = tableFrom 1 120 (recordRate s (sheetOffset s 2));
-      rates = tableFrom 1 3 (recordRate s (sheetOffset s 3));
+      yields = tableFrom 1 120 (sheetNumber s (sheetOffset s 2));
+      rates = tableFrom 1 3 (sheetNumber s (sheetOffset s 3));
     }
 
 -- the value of a cell, 601 to 661, among the cells from 601 on; another number has none, and is 0

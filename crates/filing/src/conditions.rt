@@ -3,27 +3,28 @@ use crate::cells::cell_value;
 use crate::sums::column_sums;
 use answers::Answer;
 use answers::first_refusal;
+use records::KINDS;
 use schedule::Position;
 use schedule::positions::position;
 use schedule::positions::within_row;
 ghost use mathlib.Core.Path.{_≡_};
-ghost use mathlib.Core.Bool.{_||_};
-ghost use lib.Dec.{leb};
-ghost use Rattle.answers.specs.Verdict.{refusedIf};
+ghost use lib.ListN.{length};
 ghost use Rattle.answers.specs.Answers.{verdictOf};
+ghost use Rattle.records.specs.Inner.Notes.{notedBefore};
 ghost use Rattle.filing.specs.Conditions.{monthsOutside};
-ghost use Rattle.filing.specs.Verdict.{monthsVerdict, columnsVerdict, totalVerdict, cellsVerdict};
-ghost use Rattle.filing.specs.Inner.ColumnSums.{BalancesWithin, columnSums};
+ghost use Rattle.filing.specs.Verdict.{sheetVerdict, monthsVerdict, columnsVerdict, totalVerdict, cellsVerdict};
+ghost use Rattle.filing.specs.Inner.Sums.{BalancesWithin, columnSums};
 
-// 6, from the input's length and where the sheets of yields and of retail rates stand: one that is missing is noted at the length.
-pub(crate) fn check_sheets(size: usize, yields: usize, rates: usize) -> Answer
-    ensures { λ r. ⌜ verdictOf r ≡ refusedIf (leb size yields || leb size rates) 6 size ⌝ }
+// 6, from where the sheets stand: one that is missing is noted at the input's length.
+pub(crate) fn check_sheets(s: &[u8], sheets: &[usize; KINDS]) -> Answer
+    requires { ⌜ now sheets ≡ notedBefore (now s) (length (now s)) .sheets ⌝ }
+    ensures { λ r. ⌜ verdictOf r ≡ sheetVerdict (now (s .entry)) ⌝ }
 {
-    if size <= yields {
-        return Answer::SheetMissing(size);
+    if s.len() <= sheets[2] {
+        return Answer::SheetMissing(s.len());
     }
-    if size <= rates {
-        return Answer::SheetMissing(size);
+    if s.len() <= sheets[3] {
+        return Answer::SheetMissing(s.len());
     }
     Answer::Accepted
 }
@@ -35,8 +36,8 @@ pub(crate) fn check_cells(cells: &[u64; 61]) -> Answer
 {
     let sums = column_sums(cells);
     let months = check_months(cells);
-    let columns = check_columns(cells, &sums);
-    let total = check_total(cells, &sums);
+    let columns = check_columns(cells, &sums.totals);
+    let total = check_total(cells, &sums.totals);
     first_refusal(months, first_refusal(columns, total))
 }
 
@@ -67,14 +68,14 @@ fn months_outside(cells: &[u64; 61], p: Position) -> bool
 }
 
 // 8, by ascending cell: the brokered balances 650 to 652, then the balances subject to penalty 653 to 655.
-fn check_columns(cells: &[u64; 61], sums: &[u64; 3]) -> Answer
-    requires { ⌜ now sums ≡ columnSums (now cells) 9 ⌝ }
+fn check_columns(cells: &[u64; 61], totals: &[u64; 3]) -> Answer
+    requires { ⌜ now totals ≡ columnSums (now cells) .totals ⌝ }
     ensures { λ r. ⌜ verdictOf r ≡ columnsVerdict (now (cells .entry)) ⌝ }
 {
     let mut i = 0;
     while i < 6 {
         let column = i % 3;
-        if sums[column] < cell_value(cells, i + 650) {
+        if totals[column] < cell_value(cells, i + 650) {
             return Answer::AboveColumnSum(i + 650);
         }
         i += 1;
@@ -83,11 +84,11 @@ fn check_columns(cells: &[u64; 61], sums: &[u64; 3]) -> Answer
 }
 
 // 9, at the total.
-fn check_total(cells: &[u64; 61], sums: &[u64; 3]) -> Answer
-    requires { ⌜ BalancesWithin (now cells) × (now sums ≡ columnSums (now cells) 9) ⌝ }
+fn check_total(cells: &[u64; 61], totals: &[u64; 3]) -> Answer
+    requires { ⌜ BalancesWithin (now cells) × (now totals ≡ columnSums (now cells) .totals) ⌝ }
     ensures { λ r. ⌜ verdictOf r ≡ totalVerdict (now (cells .entry)) ⌝ }
 {
-    if cell_value(cells, 645) == sums[0] + sums[1] + sums[2] {
+    if cell_value(cells, 645) == totals[0] + totals[1] + totals[2] {
         Answer::Accepted
     } else {
         Answer::TotalDiffers(645)

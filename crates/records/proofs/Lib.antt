@@ -1,13 +1,9 @@
 pub mod ByteLaws
 pub mod RecordLaws
-pub mod StepLaws
-pub mod RateLaws
-pub mod FaultLaws
-pub mod RecordVerdictLaws
 pub mod ScanLaws
-pub mod OffsetLaws
-pub mod ScanStateLaws
-pub mod PassedLaws
-pub mod VisitLaws
+pub mod ItemLaws
+pub mod NoteLaws
+pub mod FaultLaws
+pub mod ProgressLaws
 pub mod WalkLaws
 pub mod ReaderLaws

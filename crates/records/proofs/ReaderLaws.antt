@@ -1,6 +1,5 @@
 -- What the walks over a reader share: its type, the machine values of a reader and of its bytes, and what the two own, had twice.
 -- Assumes nothing.
-use mathlib.Core.Path.{_≡_, ap, subst}
 use Prim.Native.Nat.{ℕ}
 use mathlib.Core.List.{List, [], _∷_}
 use lib.Dec.{T as Holds}
@@ -20,7 +19,6 @@ use denote.Builtin.{u8}
 use denote.Ref.{RefT, NamedLft}
 use denote.Signature.{namedLft}
 use denote.Slice.{sliceVal, ShrSlice, shr-slice-copy}
-use denote.Steps.{only}
 use denote.Struct.Declared.{Declared}
 use denote.Struct.Laws as LL
 use Rattle.records.specs.declared.reader.Reader.{Reader}
@@ -69,10 +67,3 @@ module _ {M : Type 1} (𝓤 : URA M) (H : Heap 𝓤) (A : Atoms 𝓤) (W : Given
     where
       α : NamedLft
       α = record { mir = erased; lft = κ }
-
--- a reader's machine value is the one that its fields spell
-pub reader-value-is : (κ : Lft) (r : Reader) (u : Val) → Is (TheReader (κ, tt)) r (u ∷ []) → u ≡ reader-value r
-reader-value-is κ r u is = ap only (LL.tells (the-struct κ) (the-laws κ) r (u ∷ []) is)
-
-pub reader-is : (κ : Lft) (r : Reader) (u : Val) → Is (TheReader (κ, tt)) r (u ∷ []) → Is (TheReader (κ, tt)) r (reader-value r ∷ [])
-reader-is κ r u is = subst (λ (x : Val). Is (TheReader (κ, tt)) r (x ∷ [])) (reader-value-is κ r u is) is

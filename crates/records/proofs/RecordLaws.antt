@@ -1,5 +1,5 @@
 -- The search over records: where its answer lies, what holds of the record that it finds, and what two searches over the same records have to do
--- with each other. Then the keys: which record has the key of a cell or of a sheet.
+-- with each other.
 -- Assumes nothing.
 use Prim.Native.Nat.{ℕ, zero, suc, _≤_, _<_}
 use native.Mathlib.Nat.{le-refl}
@@ -7,54 +7,37 @@ use native.Mathlib.Omega.{arith}
 use mathlib.Core.Path.{_≡_, refl}
 use mathlib.Core.Bool.{Bool, true, false, cond}
 use mathlib.Core.List.{List}
-use borrow.Author.Tests.{leb-false, eqb-true}
-use lib.Dec.{leb, eqb}
-use Rattle.records.specs.Records.{nextRecord, searchRecords, firstRecord, firstWithKey, recordKind, recordCell, recordKey, cellKey, kindKey}
+use borrow.Author.Tests.{leb-false}
+use lib.Dec.{leb}
+use Rattle.records.specs.Records.{nextRecord, searchRecords, firstRecord}
 
--- One record of a search: `over` is the test that the search has come to its end, `here` the test of the record at hand, and `rest` what the
--- search of the records after it gives
-one-le : (end at rest : ℕ) (over here : Bool) → leb end at ≡ over → rest ≤ end → cond over end (cond here at rest) ≤ end
-one-le end at rest true here e h = le-refl end
-one-le end at rest false true e h = omega (arith, leb-false end at e)
-one-le end at rest false false e h = h
-
-one-passes : (test : ℕ → Bool) (end at rest : ℕ) (over here : Bool)
-    → test at ≡ here
-    → (rest < end → test rest ≡ true)
-    → cond over end (cond here at rest) < end
-    → test (cond over end (cond here at rest)) ≡ true
-one-passes test end at rest true here e ih h = absurd (omega arith)
-one-passes test end at rest false true e ih h = e
-one-passes test end at rest false false e ih h = ih h
-
-one-fails : (test : ℕ → Bool) (end at rest other : ℕ) (over here found : Bool)
+-- One record of two searches, for `test` and for `found`: `over` is the test that they have come to their end, `here` and `hit` the tests of the record
+-- at hand, `rest` and `other` what they give of the records after it
+one-fails : (test : ℕ → Bool) (end at rest other : ℕ) (over here hit : Bool)
     → leb end at ≡ over
     → test at ≡ here
     → (end ≤ rest → other < end → test other ≡ false)
     → end ≤ cond over end (cond here at rest)
-    → cond over end (cond found at other) < end
-    → test (cond over end (cond found at other)) ≡ false
-one-fails test end at rest other true here found o e ih h l = absurd (omega arith)
-one-fails test end at rest other false true found o e ih h l = absurd (omega (arith, leb-false end at o))
+    → cond over end (cond hit at other) < end
+    → test (cond over end (cond hit at other)) ≡ false
+one-fails test end at rest other true here hit o e ih h l = absurd (omega arith)
+one-fails test end at rest other false true hit o e ih h l = absurd (omega (arith, leb-false end at o))
 one-fails test end at rest other false false true o e ih h l = e
 one-fails test end at rest other false false false o e ih h l = ih h l
 
 module _ (s : List ℕ) where
-  search-le : (test : ℕ → Bool) (end at steps : ℕ) → searchRecords s test end at steps ≤ end
+  -- what holds of the end, and of each record before it that passes the test, holds of the answer
+  search-holds : (P : ℕ → Type 0) (test : ℕ → Bool) (end : ℕ) → P end → ((at : ℕ) → at < end → test at ≡ true → P at)
+      → (at steps : ℕ) → P (searchRecords s test end at steps)
   unfolding searchRecords
-  search-le test end at zero = le-refl end
-  search-le test end at (suc steps) =
-      one-le end at (searchRecords s test end (nextRecord s at) steps) (leb end at) (test at) refl
-      (search-le test end (nextRecord s at) steps)
-
-  search-passes : (test : ℕ → Bool) (end at steps : ℕ)
-      → searchRecords s test end at steps < end
-      → test (searchRecords s test end at steps) ≡ true
-  unfolding searchRecords
-  search-passes test end at zero h = absurd (omega arith)
-  search-passes test end at (suc steps) h =
-      one-passes test end at (searchRecords s test end (nextRecord s at) steps) (leb end at) (test at) refl
-      (search-passes test end (nextRecord s at) steps) h
+  search-holds P test end none one at zero = none
+  search-holds P test end none one at (suc steps) =
+      by (leb end at) (test at) refl refl (search-holds P test end none one (nextRecord s at) steps)
+    where
+      by : (over here : Bool) {rest : ℕ} → leb end at ≡ over → test at ≡ here → P rest → P (cond over end (cond here at rest))
+      by true here o e h = none
+      by false true o e h = one at (leb-false end at o) e
+      by false false o e h = h
 
   search-fails : (test found : ℕ → Bool) (end at steps : ℕ)
       → end ≤ searchRecords s test end at steps
@@ -69,12 +52,12 @@ module _ (s : List ℕ) where
   -- the answer is at most the end
   pub first-le : (test : ℕ → Bool) (end : ℕ) → firstRecord s test end ≤ end
   unfolding firstRecord
-  first-le test end = search-le test end 0 end
+  first-le test end = search-holds (λ (r : ℕ). r ≤ end) test end (le-refl end) (λ at l e. omega arith) 0 end
 
   -- a record that is found passes the test
   pub first-passes : (test : ℕ → Bool) (end : ℕ) → firstRecord s test end < end → test (firstRecord s test end) ≡ true
   unfolding firstRecord
-  first-passes test end = search-passes test end 0 end
+  first-passes test end = search-holds (λ (r : ℕ). r < end → test r ≡ true) test end (λ l. absurd (omega arith)) (λ at l e h. e) 0 end
 
   -- where no record passes a test, a record that another test finds fails it
   pub first-fails : (test found : ℕ → Bool) (end : ℕ)
@@ -83,30 +66,3 @@ module _ (s : List ℕ) where
       → test (firstRecord s found end) ≡ false
   unfolding firstRecord
   first-fails test found end = search-fails test found end 0 end
-
--- a key is a multiple of 4 for a cell, and one more than a multiple of 4 for a sheet
-key-of-cell : (kind cell n : ℕ) (b : Bool) → eqb kind 1 ≡ b → cond b (cellKey cell) (kindKey kind) ≡ cellKey n → (kind ≡ 1) × (cell ≡ n)
-unfolding cellKey kindKey
-key-of-cell kind cell n true e h = (eqb-true kind 1 e, omega arith)
-key-of-cell kind cell n false e h = absurd (omega arith)
-
-key-of-kind : (kind cell n : ℕ) (b : Bool) → cond b (cellKey cell) (kindKey kind) ≡ kindKey n → kind ≡ n
-unfolding cellKey kindKey
-key-of-kind kind cell n true h = absurd (omega arith)
-key-of-kind kind cell n false h = omega arith
-
--- a record with a cell's key is of kind 1 and holds that cell
-pub record-of-cell-key : (s : List ℕ) (at n : ℕ) → recordKey s at ≡ cellKey n → (recordKind s at ≡ 1) × (recordCell s at ≡ n)
-unfolding recordKey
-record-of-cell-key s at n h = key-of-cell (recordKind s at) (recordCell s at) n (eqb (recordKind s at) 1) refl h
-
--- a record with a sheet's key is of that kind
-pub record-of-kind-key : (s : List ℕ) (at kind : ℕ) → recordKey s at ≡ kindKey kind → recordKind s at ≡ kind
-unfolding recordKey
-record-of-kind-key s at kind h = key-of-kind (recordKind s at) (recordCell s at) kind (eqb (recordKind s at) 1) h
-
--- a record found by its key has that key
-pub with-key-passes : (s : List ℕ) (key end : ℕ) → firstWithKey s key end < end → recordKey s (firstWithKey s key end) ≡ key
-unfolding firstWithKey
-with-key-passes s key end h =
-    eqb-true (recordKey s (firstWithKey s key end)) key (first-passes s (λ (at : ℕ). eqb (recordKey s at) key) end h)

@@ -1,92 +1,115 @@
-// The faults of one complete record: refusals 2 to 5, in the paper's order. Refusal 1 is an incomplete record, which the step tells.
-use crate::CELLS_BASE;
-use crate::OFFSET_COUNT;
+// The faults of one record: refusals 1 to 5, each a function, in the paper's order.
+use crate::FIRST_CELL;
 use crate::fields::record_cell;
-use crate::fields::record_rate;
+use crate::fields::record_kind;
+use crate::fields::record_length;
 use crate::fields::record_value;
-use crate::kinds::kind_length;
-use crate::kinds::sheet_rates;
+use crate::fields::sheet_number;
+use crate::items::Item;
+use crate::items::Noted;
+use crate::items::record_item;
+use crate::kinds::due_length;
+use crate::kinds::sheet_kind;
 use answers::Answer;
+use answers::first_refusal;
 use schedule::tables::cell_class;
 use schedule::tables::class_limit;
 ghost use mathlib.Core.Path.{_≡_};
-ghost use mathlib.Core.Bool.{false};
-ghost use Rattle.answers.specs.Answers.{verdictOf};
-ghost use Rattle.records.specs.Records.{recordKind, recordLength};
-ghost use Rattle.records.specs.Faults.{incomplete, misshapen, rateOver};
-ghost use Rattle.records.specs.Inner.Offsets.{offsetsBefore};
+ghost use Prim.Native.Nat.{_≤_};
+ghost use lib.ListN.{length};
+ghost use Rattle.answers.specs.Verdict.{firstRefusal, refusedIf};
+ghost use Rattle.answers.specs.Answers.{numberOf, placeOf, verdictOf};
+ghost use Rattle.records.specs.Faults as faults;
+ghost use Rattle.records.specs.Inner.Notes.{notedBefore};
 ghost use Rattle.records.specs.RecordVerdicts.{recordVerdict};
 
-// The answer on a complete record, given its kind, its length and the offsets noted of the records before it.
-pub(crate) fn check_record(
-    s: &[u8],
-    at: usize,
-    kind: u16,
-    length: usize,
-    first: &[usize; OFFSET_COUNT],
-) -> Answer
-    requires { ⌜ incomplete (now s) at ≡ false ⌝ }
-    requires { ⌜ kind ≡ recordKind (now s) at ⌝ }
-    requires { ⌜ length ≡ recordLength (now s) at ⌝ }
-    requires { ⌜ now first ≡ offsetsBefore (now s) at ⌝ }
+// The answer on the record at an offset, given what is noted of the records before it.
+pub(crate) fn check_record(s: &[u8], at: usize, noted: Noted) -> Answer
+    requires { ⌜ (at ≤ length (now s)) × (noted ≡ notedBefore (now s) at) ⌝ }
     ensures { λ r. ⌜ verdictOf r ≡ recordVerdict (now (s .entry)) at ⌝ }
 {
-    if length as u64 != kind_length(kind as usize) {
-        return Answer::RecordMisshapen(at);
+    let end = refused_if(incomplete(s, at), Answer::RecordIncomplete(at));
+    let shape = or_refused(end, misshapen(s, at), Answer::RecordMisshapen(at));
+    let listing = or_refused(shape, unlisted(s, at), Answer::CellUnlisted(at));
+    let repetition = or_refused(listing, repeated(s, at, noted), Answer::Repeated(at));
+    or_refused(repetition, over_limit(s, at), Answer::OverLimit(at))
+}
+
+// The refusal of a row where its condition holds.
+fn refused_if(holds: bool, refusal: Answer) -> Answer
+    ensures { λ r. ⌜ verdictOf r ≡ refusedIf holds (numberOf refusal) (placeOf refusal) ⌝ }
+{
+    if holds { refusal } else { Answer::Accepted }
+}
+
+// The next row, after the answer of the rows before it.
+fn or_refused(answer: Answer, holds: bool, refusal: Answer) -> Answer
+    ensures { λ r. ⌜ verdictOf r ≡ firstRefusal (verdictOf answer) (refusedIf holds (numberOf refusal) (placeOf refusal)) ⌝ }
+{
+    first_refusal(answer, refused_if(holds, refusal))
+}
+
+// 1: the record runs past the end, its length or itself, or its length is below 2.
+fn incomplete(s: &[u8], at: usize) -> bool
+    ensures { λ r. ⌜ r ≡ faults.incomplete (now (s .entry)) at ⌝ }
+{
+    if s.len() <= at {
+        return true;
     }
+    let body = at + 2;
+    let length = record_length(s, at);
+    (s.len() < body) | ((length < 2) | (s.len() < body + length))
+}
+
+// 2: the kind is unknown, or the length is not that kind's.
+fn misshapen(s: &[u8], at: usize) -> bool
+    ensures { λ r. ⌜ r ≡ faults.misshapen (now (s .entry)) at ⌝ }
+{
+    record_length(s, at) != due_length(s, at)
+}
+
+// 3: the cell is not listed.
+fn unlisted(s: &[u8], at: usize) -> bool
+    ensures { λ r. ⌜ r ≡ faults.unlisted (now (s .entry)) at ⌝ }
+{
+    (record_kind(s, at) == 1) & (cell_class(record_cell(s, at)) == 0)
+}
+
+// 4: the cell, or the kind of sheet, stands in an earlier record.
+fn repeated(s: &[u8], at: usize, noted: Noted) -> bool
+    requires { ⌜ (at ≤ length (now s)) × (noted ≡ notedBefore (now s) at) ⌝ }
+    ensures { λ r. ⌜ r ≡ faults.repeated (now (s .entry)) at ⌝ }
+{
+    match record_item(s, at) {
+        Item::Cell(cell) => {
+            let i = (cell - FIRST_CELL) as usize;
+            noted.cells[i] < s.len()
+        }
+        Item::Sheet(kind) => noted.sheets[kind] < s.len(),
+        Item::Nothing => false,
+    }
+}
+
+// 5: a value is over its limit.
+fn over_limit(s: &[u8], at: usize) -> bool
+    ensures { λ r. ⌜ r ≡ faults.overLimit (now (s .entry)) at ⌝ }
+{
+    let kind = record_kind(s, at);
     if kind == 1 {
-        check_cell(s, at, first)
-    } else {
-        check_sheet(s, at, kind as usize, first)
+        return class_limit(cell_class(record_cell(s, at))) < record_value(s, at);
     }
+    let sheet = sheet_kind(kind);
+    number_over(s, at, sheet.limit, sheet.numbers as usize)
 }
 
-// The answer on a record of kind 1 that has its kind's length.
-fn check_cell(s: &[u8], at: usize, first: &[usize; OFFSET_COUNT]) -> Answer
-    requires { ⌜ (incomplete (now s) at ≡ false) × (misshapen (now s) at ≡ false) ⌝ }
-    requires { ⌜ recordKind (now s) at ≡ 1 ⌝ }
-    requires { ⌜ now first ≡ offsetsBefore (now s) at ⌝ }
-    ensures { λ r. ⌜ verdictOf r ≡ recordVerdict (now (s .entry)) at ⌝ }
-{
-    let cell = record_cell(s, at);
-    let class = cell_class(cell);
-    if class == 0 {
-        return Answer::CellUnlisted(at);
-    }
-    let place = (cell - CELLS_BASE) as usize;
-    if first[place] < s.len() {
-        return Answer::Repeated(at);
-    }
-    if class_limit(class) < record_value(s, at) {
-        return Answer::OverLimit(at);
-    }
-    Answer::Accepted
-}
-
-// The answer on a sheet of rates that has its kind's length.
-fn check_sheet(s: &[u8], at: usize, kind: usize, first: &[usize; OFFSET_COUNT]) -> Answer
-    requires { ⌜ (incomplete (now s) at ≡ false) × (misshapen (now s) at ≡ false) ⌝ }
-    requires { ⌜ (kind ≡ recordKind (now s) at) × (kind ≡ 1 → ⊥) ⌝ }
-    requires { ⌜ now first ≡ offsetsBefore (now s) at ⌝ }
-    ensures { λ r. ⌜ verdictOf r ≡ recordVerdict (now (s .entry)) at ⌝ }
-{
-    if first[kind] < s.len() {
-        return Answer::Repeated(at);
-    }
-    if rate_over(s, at, sheet_rates(kind) as usize) {
-        return Answer::OverLimit(at);
-    }
-    Answer::Accepted
-}
-
-// One of a sheet's first n rates is over the limit.
-fn rate_over(s: &[u8], at: usize, n: usize) -> bool
-    ensures { λ r. ⌜ r ≡ rateOver (now (s .entry)) at n ⌝ }
+// One of a sheet's first n numbers is over the limit.
+fn number_over(s: &[u8], at: usize, limit: u16, n: usize) -> bool
+    ensures { λ r. ⌜ r ≡ faults.numberOver (now (s .entry)) at limit n ⌝ }
 {
     let mut i = 0;
     while i < n {
         i += 1;
-        if 2500 < record_rate(s, at, i) {
+        if limit < sheet_number(s, at, i) {
             return true;
         }
     }

@@ -1,9 +1,22 @@
-// What a record holds: its cell, its value, its rates. A number past the end is 0.
+// What a record holds: its length and kind, its cell and value, the numbers of a sheet. A number past the end is 0.
 use crate::bytes::number_at;
 ghost use mathlib.Core.Path.{_≡_};
 ghost use Prim.Native.Nat.{_+_, _≤_};
 ghost use Rattle.records.specs.Bytes.{numberAt};
-ghost use Rattle.records.specs.Records.{recordCell, recordValue, recordRate};
+ghost use Rattle.records.specs.Records.{recordLength, recordKind, recordCell, recordValue, sheetNumber};
+
+// The number of bytes after the length itself.
+pub(crate) fn record_length(s: &[u8], at: usize) -> usize
+    ensures { λ r. ⌜ r ≡ recordLength (now (s .entry)) at ⌝ }
+{
+    number_at(s, at, 2) as usize
+}
+
+pub(crate) fn record_kind(s: &[u8], at: usize) -> usize
+    ensures { λ r. ⌜ r ≡ recordKind (now (s .entry)) at ⌝ }
+{
+    field_at(s, at, 2, 2) as usize
+}
 
 // The cell of a record of kind 1.
 pub(crate) fn record_cell(s: &[u8], at: usize) -> u64
@@ -19,9 +32,9 @@ pub fn record_value(s: &[u8], at: usize) -> u64
     field_at(s, at, 6, 8)
 }
 
-// The i-th rate of a sheet, from 1, in hundredths of a percent a year.
-pub fn record_rate(s: &[u8], at: usize, i: usize) -> u16
-    ensures { λ r. ⌜ r ≡ recordRate (now (s .entry)) at i ⌝ }
+// The i-th number of a sheet, from 1.
+pub fn sheet_number(s: &[u8], at: usize, i: usize) -> u16
+    ensures { λ r. ⌜ r ≡ sheetNumber (now (s .entry)) at i ⌝ }
 {
     if s.len() <= i {
         return 0;

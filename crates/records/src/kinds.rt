@@ -1,18 +1,59 @@
-// What the paper fixes of each kind of record: its length, and the rates on a sheet.
-use schedule::tables::entry_at;
+// The kinds of record: what a sheet of each kind holds, and the length that a record is to have.
+use crate::KINDS;
+use crate::fields::record_kind;
 ghost use mathlib.Core.Path.{_≡_};
-ghost use Rattle.records.specs.Faults.{kindLength, sheetRates};
+ghost use Rattle.records.specs.Kinds.{sheetKind, dueLength};
 
-// The length of a record of a kind, in bytes: 0 where the kind is unknown.
-pub(crate) fn kind_length(kind: usize) -> u64
-    ensures { λ r. ⌜ r ≡ kindLength kind ⌝ }
-{
-    entry_at(&[0, 12, 242, 8], kind)
+// A kind of sheet: how many numbers it holds, 2 bytes each, and the largest that each may be. One that is no sheet holds none.
+pub struct SheetKind {
+    pub numbers: u16,
+    pub limit: u16,
 }
 
-// How many rates a sheet of a kind holds.
-pub(crate) fn sheet_rates(kind: usize) -> u64
-    ensures { λ r. ⌜ r ≡ sheetRates kind ⌝ }
+const SHEET_KINDS: [SheetKind; KINDS] = [
+    SheetKind {
+        numbers: 0,
+        limit: 0,
+    },
+    SheetKind {
+        numbers: 0,
+        limit: 0,
+    },
+    SheetKind {
+        numbers: 120,
+        limit: 2_500,
+    },
+    SheetKind {
+        numbers: 3,
+        limit: 2_500,
+    },
+];
+
+// The sheet of a kind.
+pub(crate) fn sheet_kind(kind: usize) -> SheetKind
+    ensures { λ r. ⌜ r ≡ sheetKind kind ⌝ }
 {
-    entry_at(&[0, 0, 120, 3], kind)
+    if kind < KINDS {
+        SHEET_KINDS[kind]
+    } else {
+        SheetKind {
+            numbers: 0,
+            limit: 0,
+        }
+    }
+}
+
+// The length that a record is to have by its kind: 0 where the kind is unknown.
+pub(crate) fn due_length(s: &[u8], at: usize) -> usize
+    ensures { λ r. ⌜ r ≡ dueLength (now (s .entry)) at ⌝ }
+{
+    let kind = record_kind(s, at);
+    if kind == 1 {
+        return 12;
+    }
+    let sheet = sheet_kind(kind);
+    if sheet.numbers == 0 {
+        return 0;
+    }
+    2 + 2 * (sheet.numbers as usize)
 }

@@ -1,25 +1,30 @@
 // The records of a filing, front to back.
-use crate::CELLS_BASE;
-use crate::OFFSET_COUNT;
+use crate::CELLS;
+use crate::KINDS;
 use crate::Step;
 use crate::faults::check_record;
-use crate::fields::record_cell;
+use crate::items::Noted;
+use crate::items::note;
 use crate::reader::Reader;
 use answers::Answer;
 use answers::number;
 ghost use mathlib.Core.Path.{_≡_};
+ghost use mathlib.Core.Bool.{false};
 ghost use Rattle.answers.specs.Answers.{verdictOf};
-ghost use Rattle.records.specs.Records.{recordKind};
-ghost use Rattle.records.specs.Inner.Offsets.{recordPlace, offsetsBefore};
-ghost use Rattle.records.specs.RecordVerdicts.{firstFaulty, recordVerdict, recordsVerdict};
-ghost use Rattle.records.specs.Inner.Steps.{stepAt};
+ghost use Rattle.records.specs.Inner.Notes.{notedBefore};
 ghost use Rattle.records.specs.Inner.Scans.{scanStart, Visited};
+ghost use Rattle.records.specs.Inner.Steps.{stepAt};
+ghost use Rattle.records.specs.RecordVerdicts.{firstFaulty, recordsVerdict};
 
-// The answer on the records read, with the offset of the first record of each cell and sheet among them: the input's length where there is
-// none. The records before `at` are read, and `going` says that the next one is to be read.
+// The answer on the records, with what is noted of those before the first faulty one.
 pub struct Scanned {
     pub answer: Answer,
-    pub first: [usize; OFFSET_COUNT],
+    pub noted: Noted,
+}
+
+// A scan on its way: what the records before `at` have given, and whether there is one to read at `at`.
+pub struct Progress {
+    pub scanned: Scanned,
     pub at: usize,
     pub going: bool,
 }
@@ -27,82 +32,67 @@ pub struct Scanned {
 // Reads the records up to the first faulty one, each once: a reader moves over them.
 pub fn scan(s: &[u8]) -> Scanned
     ensures { λ r. ⌜ (verdictOf (r .answer) ≡ recordsVerdict (now (s .entry)))
-        × (r .first ≡ offsetsBefore (now (s .entry)) (firstFaulty (now (s .entry)))) ⌝ }
+        × (r .noted ≡ notedBefore (now (s .entry)) (firstFaulty (now (s .entry)))) ⌝ }
 {
     let mut reader = Reader::new(s);
-    let mut scanned = start(s.len());
-    while scanned.going {
+    let mut progress = start(s.len());
+    while progress.going {
         let step = reader.step();
-        scanned = visit(s, step, scanned);
-        reader = reader.moved(scanned.at);
+        progress = visit(s, step, progress);
+        reader = reader.moved(progress.at);
     }
-    scanned
+    progress.scanned
 }
 
 // Before the first record.
-fn start(size: usize) -> Scanned
+fn start(size: usize) -> Progress
     ensures { λ r. ⌜ r ≡ scanStart size ⌝ }
 {
-    Scanned {
-        answer: Answer::Accepted,
-        first: [size; OFFSET_COUNT],
+    Progress {
+        scanned: Scanned {
+            answer: Answer::Accepted,
+            noted: Noted {
+                sheets: [size; KINDS],
+                cells: [size; CELLS],
+            },
+        },
         at: 0,
         going: true,
     }
 }
 
 // One record more: what stands at the offset reached, after the records before it.
-fn visit(s: &[u8], step: Step, scanned: Scanned) -> Scanned
-    requires { ⌜ (scanned .first ≡ offsetsBefore (now s) (scanned .at)) × (step ≡ stepAt (now s) (scanned .at)) ⌝ }
-    ensures { λ r. ⌜ Visited (now (s .entry)) (scanned .first) (scanned .at) r ⌝ }
+fn visit(s: &[u8], step: Step, progress: Progress) -> Progress
+    requires { ⌜ (progress .scanned .noted ≡ notedBefore (now s) (progress .at)) × (step ≡ stepAt (now s) (progress .at)) ⌝ }
+    ensures { λ r. ⌜ Visited (now (s .entry)) (progress .scanned .noted) (progress .at) r ⌝ }
 {
-    let at = scanned.at;
-    let mut first = scanned.first;
-    match step {
-        Step::End => Scanned {
-            answer: Answer::Accepted,
-            first,
-            at,
-            going: false,
+    let at = progress.at;
+    let noted = progress.scanned.noted;
+    let Step::Record(next) = step else {
+        return stopped(Answer::Accepted, noted, at);
+    };
+    let answer = check_record(s, at, noted);
+    if number(answer) != 0 {
+        return stopped(answer, noted, at);
+    }
+    let after = note(s, at, noted);
+    Progress {
+        scanned: Scanned {
+            answer,
+            noted: after,
         },
-        Step::Incomplete => Scanned {
-            answer: Answer::RecordIncomplete(at),
-            first,
-            at,
-            going: false,
-        },
-        Step::Record { kind, length, next } => {
-            let answer = check_record(s, at, kind, length, &first);
-            if number(answer) != 0 {
-                return Scanned {
-                    answer,
-                    first,
-                    at,
-                    going: false,
-                };
-            }
-            let place = record_place(s, at, kind);
-            first[place] = at;
-            Scanned {
-                answer,
-                first,
-                at: next,
-                going: true,
-            }
-        }
+        at: next,
+        going: true,
     }
 }
 
-// The place of a sound record among the offsets.
-fn record_place(s: &[u8], at: usize, kind: u16) -> usize
-    requires { ⌜ kind ≡ recordKind (now s) at ⌝ }
-    requires { ⌜ recordVerdict (now s) at .number ≡ 0 ⌝ }
-    ensures { λ r. ⌜ r ≡ recordPlace (now (s .entry)) at ⌝ }
+// The scan ends at an offset.
+fn stopped(answer: Answer, noted: Noted, at: usize) -> Progress
+    ensures { λ r. ⌜ r ≡ record { scanned = record { answer = answer; noted = noted }; at = at; going = false } ⌝ }
 {
-    if kind == 1 {
-        let cell = record_cell(s, at);
-        (cell - CELLS_BASE) as usize
-    } else {
-        kind as usize
+    Progress {
+        scanned: Scanned { answer, noted },
+        at,
+        going: false,
     }
 }

@@ -15,7 +15,7 @@ use Rattle.filing.specs.declared.Contents.{Contents}
 use Rattle.filing.specs.Contents.{cell}
 use Rattle.filing.specs.Conditions.{columnBalances}
 use Rattle.filing.specs.Valid.{Valid}
-use Rattle.filing.specs.Inner.ColumnSums.{columnSum}
+use Rattle.filing.specs.Inner.Sums.{columnSum}
 use Rattle.filing.proofs.SumLaws.{column-range, column-sum, column-limit}
 use Rattle.shares.specs.declared.Row.{Row}
 use Rattle.shares.specs.Apportion.{shareBehind}

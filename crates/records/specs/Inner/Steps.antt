@@ -1,17 +1,13 @@
--- What stands at an offset of a filing (01:6, 01:11): a record, an incomplete one, or nothing. Definitions only.
+-- What stands at an offset of a filing (01:6, 01:11): a record, or nothing. Definitions only.
 use Prim.Native.Nat.{ℕ}
 use mathlib.Core.Bool.{cond}
 use mathlib.Core.List.{List}
 use lib.ListN.{length}
 use lib.Dec.{leb}
 use Rattle.records.specs.declared.Step.{Step}
-use Rattle.records.specs.declared.Step.the-variants.{Record, Incomplete, End}
-use Rattle.records.specs.Records.{recordLength, recordKind, nextRecord}
-use Rattle.records.specs.Faults.{incomplete}
+use Rattle.records.specs.declared.Step.the-variants.{Record, End}
+use Rattle.records.specs.Records.{nextRecord}
 
--- nothing at the end or past it; a record that has fault 1; else the record's kind, its length and the offset after it
+-- nothing at the end or past it; else a record, with the offset after it
 unfoldable pub stepAt : List ℕ → ℕ → Step
-stepAt s at =
-    cond (leb (length s) at) End
-    (cond (incomplete s at) Incomplete
-    (Record (recordKind s at) (recordLength s at) (nextRecord s at)))
+stepAt s at = cond (leb (length s) at) End (Record (nextRecord s at))

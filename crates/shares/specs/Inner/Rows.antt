@@ -5,7 +5,7 @@ use mathlib.Core.List.{List, [], _∷_}
 use Rattle.schedule.specs.Cells.{positionAt, brokeredCell, penaltyBalanceCell}
 use Rattle.schedule.specs.Limits.{columnLimit}
 use Rattle.filing.specs.Contents.{cellIn}
-use Rattle.filing.specs.Inner.ColumnSums.{columnSum}
+use Rattle.filing.specs.Inner.Sums.{columnSum}
 use Rattle.shares.specs.declared.Row.{Row}
 use Rattle.shares.specs.Apportion.{shareBehind}
 

@@ -11,10 +11,10 @@ check-months-requires : tie.Need-check-months-requires
 check-months-requires c κs = search needs
 
 check-columns-requires : tie.Need-check-columns-requires
-check-columns-requires c κs = search needs
+check-columns-requires c κs = cc
 
 check-total-requires : tie.Need-check-total-requires
-check-total-requires c κs = search needs
+check-total-requires c κs = (search needs, cc)
 
 first-refusal-requires : tie.Need-first-refusal-requires
 first-refusal-requires c κs = search needs

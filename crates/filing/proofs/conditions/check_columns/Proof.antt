@@ -12,15 +12,16 @@ use Rattle.answers.specs.Answers.{verdictOf}
 use Rattle.answers.proofs.VerdictLaws.{Untried, tried-start, tried-here, tried-next, tried-all, condition-holds, condition-refuses, condition-none}
 use Rattle.filing.specs.Conditions.{aboveColumn}
 use Rattle.filing.specs.Verdict.{columnVerdict}
+use Rattle.filing.proofs.SumLaws.{totals-are}
 use Rattle.filing.proofs.ConditionLaws.{above-sum, columnsAt, columns-in-turn}
 use Rattle.filing.proofs.conditions.check_columns.Statement.{statement}
 use Rattle.filing.proofs.conditions.check_columns.Tie as tie
 
 abbrev Inv-loop : tie.InvT-loop
-Inv-loop cells sums i₀ i = Untried (columnsAt cells) 6 i
+Inv-loop cells totals i₀ i = Untried (columnsAt cells) 6 i
 
 abbrev μ-loop : tie.MeasureT-loop
-μ-loop cells sums i₀ i = 6 - i
+μ-loop cells totals i₀ i = 6 - i
 
 loop-holds : tie.Need-loop-holds Inv-loop μ-loop
 loop-holds c = tried-start _ 6
@@ -39,11 +40,11 @@ cell-value-requires c κs = tt
 
 -- what the code tests is 8 at the i-th cell
 tested : (c : tie.After-cell-value Inv-loop μ-loop)
-    → ltb (getD (c .before .before .before .before .args .sums .now) (c .before .before .before .loop .i % 3) 0) (c .cell-value .result)
+    → ltb (getD (c .before .before .before .before .args .totals .now) (c .before .before .before .loop .i % 3) 0) (c .cell-value .result)
     ≡ aboveColumn (c .before .before .before .before .args .cells .now) (c .before .before .before .loop .i % 3 + 1) (c .before .before .before .loop .i + 650)
 tested c =
     let i = c .before .before .before .loop .i in
-    rw (c .before .before .before .before .pre, c .cell-value .ensures)
+    rw (c .before .before .before .before .pre, totals-are, c .cell-value .ensures)
     (above-sum (c .before .before .before .before .args .cells .now) (i % 3) (i + 650) (omega arith))
 
 add-t12 : tie.Need-add-t12 Inv-loop μ-loop

@@ -15,7 +15,7 @@ use Rattle.answers.proofs.VerdictLaws.{condition-holds, condition-passes}
 use Rattle.filing.specs.Contents.{cellIn}
 use Rattle.filing.specs.Conditions.{balances, totalDiffers}
 use Rattle.filing.specs.Verdict.{totalVerdict}
-use Rattle.filing.proofs.SumLaws.{balances-sum, sums-limit}
+use Rattle.filing.proofs.SumLaws.{totals-are, balances-sum, sums-limit}
 use Rattle.lists.specs.Sums.{sum}
 use Rattle.filing.proofs.conditions.check_total.Statement.{statement}
 use Rattle.filing.proofs.conditions.check_total.Tie as tie
@@ -30,8 +30,8 @@ element-copy-out-if1-2 : tie.Need-element-copy-out-if1-2
 element-copy-out-if1-2 c = search needs
 
 -- each of the three sums
-limit : (c : tie.Start) (m : ℕ) → getD (c .args .sums .now) m 0 ≤ balanceLimit * 9
-limit c m = rw (c .pre .1) (sums-limit (c .args .cells .now) (c .pre .0) 9 m (omega arith))
+limit : (c : tie.Start) (m : ℕ) → getD (c .args .totals .now) m 0 ≤ balanceLimit * 9
+limit c m = rw (c .pre .1, totals-are) (sums-limit (c .args .cells .now) (c .pre .0) 9 m (omega arith))
 
 add-if1 : tie.Need-add-if1
 add-if1 c = omega (arith, limit (c .before .before .before) 0, limit (c .before .before .before) 1)
@@ -46,8 +46,8 @@ add-if1-2 c =
 
 -- the sum that the code compares is that of the nine balances
 whole : (c : tie.Start)
-    → getD (c .args .sums .now) 0 0 + getD (c .args .sums .now) 1 0 + getD (c .args .sums .now) 2 0 ≡ sum (balances (c .args .cells .now))
-whole c = rw (c .pre .1) (balances-sum (c .args .cells .now))
+    → getD (c .args .totals .now) 0 0 + getD (c .args .totals .now) 1 0 + getD (c .args .totals .now) 2 0 ≡ sum (balances (c .args .cells .now))
+whole c = rw (c .pre .1, totals-are) (balances-sum (c .args .cells .now))
 
 returns : tie.Need-returns
 unfolding verdictOf accepted totalVerdict totalDiffers

@@ -1,9 +1,8 @@
 -- `scan` meets its contract: a walk of its MIR. A reader is made of the bytes and held in a local, and moves over the records in a loop.
--- `Proof/State.antt` says what holds where the loop's test is reached, `Proof/Callees.antt` what is passed at each call, and `Proof/Turn.antt` walks
--- the loop; here is the way to it, and the contract.
+-- `Proof/State.antt` says what holds where the loop's test is reached and what is passed at each call, and `Proof/Turn.antt` walks the loop; here is the
+-- way to it, and the contract.
 -- Assumes nothing.
 mod State
-mod Callees
 mod Turn
 use mathlib.Core.Path.{_≡_, refl}
 use Prim.Native.Nat.{ℕ}
@@ -41,8 +40,8 @@ use denote.Triple.Table.{entered, cited}
 use denote.Triple.Walked.{goes-none-slice, Walks, walked, walk-meets}
 use denote.Exit.{yes}
 use Rattle.records.specs.Inner.Scans.{scanStart}
-use Rattle.records.proofs.WalkLaws.{returned}
-use Rattle.records.proofs.ReaderLaws.{bytes-value, OwnBytes, OwnReader, token, bytes-twice, reader-typed, reader-value-is, reader-is}
+use Rattle.records.proofs.WalkLaws.{returned, value-is, is-value}
+use Rattle.records.proofs.ReaderLaws.{the-struct, the-laws, bytes-value, OwnBytes, OwnReader, token, bytes-twice, reader-typed}
 use Rattle.records.proofs.reader.Reader.new as new
 use Rattle.records.proofs.reader.Reader.new.Symbol as new-def
 use Rattle.records.proofs.reader.Reader.new.Symbol.{name as #new}
@@ -53,6 +52,8 @@ use Rattle.records.proofs.reader.Reader.step.Met as step-thm
 use Rattle.records.proofs.reader.Reader.moved.Symbol as moved-def
 use Rattle.records.proofs.reader.Reader.moved.Symbol.{name as #moved}
 use Rattle.records.proofs.reader.Reader.moved.Met as moved-thm
+use Rattle.records.proofs.scan.Progress as P
+use Rattle.records.proofs.scan.Progress.Laws as P′
 use Rattle.records.proofs.scan.start as start
 use Rattle.records.proofs.scan.start.Symbol as start-def
 use Rattle.records.proofs.scan.start.Symbol.{name as #start}
@@ -64,9 +65,8 @@ use Rattle.records.proofs.scan.scan.Key.{name as #scan}
 use Rattle.records.proofs.scan.scan as scan
 use Rattle.records.proofs.scan.scan.Statement as stated
 use Rattle.records.proofs.scan.scan.Code as code
-use Rattle.records.proofs.scan.scan.Proof.State.{OwnScanned, scanned-value-is, scanned-is, scanned-typed, Opened, started}
-use Rattle.records.proofs.scan.scan.Proof.Callees.{NewC, StartC, StepC, VisitC, MovedC, to-new, to-start, asked-new, asked-start}
-use Rattle.records.proofs.scan.scan.Proof.Turn.{Scanned-type, Reader-type, stayed, Post, looped}
+use Rattle.records.proofs.scan.scan.Proof.State.{progress-typed, Opened, started, NewC, StartC, StepC, VisitC, MovedC, to-new, to-start, asked-new, asked-start}
+use Rattle.records.proofs.scan.scan.Proof.Turn.{Progress-type, Reader-type, stayed, Post, looped}
 
 -- that each callee meets its contract
 record Known {M : Type 1} (𝓤 : URA M) (H : Heap 𝓤) (A : Atoms 𝓤) (mem : Memory → SProp 𝓤) (run : Routine → Fun 𝓤) (𝓣 : Tables 𝓤 H) : Type 2 where
@@ -80,9 +80,9 @@ module _ {M : Type 1} (𝓤 : URA M) (H : Heap 𝓤) (A : Atoms 𝓤) (W : Given
   -- the way to the loop, on the bytes s
   walk : (κ : Lft) (q : Share) (s : RefT (List ℕ)) → Is (ShrSlice (named 0) κ u8) s (bytes-value s ∷ [])
       → ent 𝓤 (onEntry 𝓤 H A scan.signature (κ, tt) (q, tt) (s, tt) (bytes-value s ∷ [], tt)) (WpFn 𝓤 H (𝓣 .C) (𝓣 .Λ) code.function (bytes-value s ∷ []) (Post 𝓤 H A mem run κ q s))
-  walk κ q s p =
+  walk κ q s slice =
       let fm = fmOf 𝓤 H (W .laws) 𝓣 in
-      let typed = shr-slice-lawful 𝓤 H A W (named 0) κ u8 .typed s (bytes-value s ∷ []) p .0 in
+      let typed = shr-slice-lawful 𝓤 H A W (named 0) κ u8 .typed s (bytes-value s ∷ []) slice .0 in
       qed W (raw (onEntry 𝓤 H A scan.signature (κ, tt) (q, tt) (s, tt) (bytes-value s ∷ [], tt)) ∷ []) ∵ enter ! (𝓣 .C) (𝓣 .Λ) code.function (bytes-value s ∷ []) _ $
       alloc1 ! (λ l₀. alloc1 ! (λ l₁. alloc1 ! (λ l₂. alloc1 ! (λ l₃. alloc1 ! (λ l₄. alloc1 ! (λ l₅. alloc1 ! (λ l₆. alloc1 ! (λ l₇. alloc1 ! (λ l₈. alloc0 ! $ params1 ! $
       pass1 ! (init ! 14 refl typed) $ pass0 ! $
@@ -94,20 +94,20 @@ module _ {M : Type 1} (𝓤 : URA M) (H : Heap 𝓤) (A : Atoms 𝓤) (W : Given
       calls-at ! fm (NewC 𝓤 H A mem run) (known .new) (to-new 𝓤 H A mem run κ q s) (and-then ! (load ! (from ! (stop !)) (look ! 16 refl)) (no-more !)) (λ u.
       returned ! tt new.ended (new.clauses 𝓤 H A mem run) (κ, tt) (s, tt) tt (token 𝓤 κ q) (Opened s) u (id⊢ 𝓤 _) (λ r ws. id⊢ 𝓤 _) (λ r opened is.
       land ! (from ! (stop !)) (init ! 15 refl (reader-typed 𝓤 H A W κ r u is)) $
-      rewrite ! 15 (λ (x : Val). ‵ (fat fullShare Reader-type l₂ 0 x)) (reader-value-is κ r u is) refl $
-      rewrite ! 0 (λ (x : Val). ‵ (OwnReader κ r x)) (reader-value-is κ r u is) refl $
+      rewrite ! 15 (λ (x : Val). ‵ (fat fullShare Reader-type l₂ 0 x)) (value-is (the-struct κ) (the-laws κ) r u is) refl $
+      rewrite ! 0 (λ (x : Val). ‵ (OwnReader κ r x)) (value-is (the-struct κ) (the-laws κ) r u is) refl $
       -- nothing is scanned yet
       assigns ! (of-opd ! (load ! (from ! (fld ! refl (stop !))) (look-in ! 17 (sub ! 1 refl (whole !))))) (from ! (stop !)) (init ! 9 refl (tt, typed .1 .1 .0)) $
       nothing ! $ owned ! usize (Is usize) (uint-makes 𝓤 H A W w64) (length (s .now)) _ (refl, typed .1 .1 .0 .fits) $ fjoin ! $ nothing ! $
       use2 W (raw (StartC 𝓤 H A mem run .pre (to-start 𝓤 H A mem run (length (s .now))))) (asked-start 𝓤 H A W mem run (length (s .now))) $
       calls-at ! fm (StartC 𝓤 H A mem run) (known .start) (to-start 𝓤 H A mem run (length (s .now))) (and-then ! (load ! (from ! (stop !)) (look ! 10 refl)) (no-more !)) (λ u′.
-      returned ! tt start.ended (start.clauses 𝓤 H A mem run) tt (length (s .now), tt) tt (‵ ftrue) (λ k. k ≡ scanStart (length (s .now))) u′ (id⊢ 𝓤 _) (λ k ws. id⊢ 𝓤 _) (λ k e is′.
-      land ! (from ! (stop !)) (init ! 15 refl (scanned-typed 𝓤 H A W k u′ is′)) $
-      rewrite ! 15 (λ (x : Val). ‵ (fat fullShare Scanned-type l₃ 0 x)) (scanned-value-is k u′ is′) refl $
-      rewrite ! 0 (λ (x : Val). ‵ (OwnScanned k x)) (scanned-value-is k u′ is′) refl $
-      forget ! 11 refl $ move ! (1 ∷ 17 ∷ 15 ∷ 19 ∷ 9 ∷ 7 ∷ 13 ∷ 5 ∷ 2 ∷ 0 ∷ 4 ∷ 3 ∷ 21 ∷ 11 ∷ 22 ∷ 20 ∷ 18 ∷ 16 ∷ 14 ∷ 12 ∷ 10 ∷ 8 ∷ 6 ∷ []) $ drop ! $
+      returned ! tt start.ended (start.clauses 𝓤 H A mem run) tt (length (s .now), tt) tt (‵ ftrue) (λ p. p ≡ scanStart (length (s .now))) u′ (id⊢ 𝓤 _) (λ p ws. id⊢ 𝓤 _) (λ p e is′.
+      land ! (from ! (stop !)) (init ! 15 refl (progress-typed 𝓤 H A W p u′ is′)) $
+      rewrite ! 15 (λ (x : Val). ‵ (fat fullShare Progress-type l₃ 0 x)) (value-is P.the-type P′.the-laws p u′ is′) refl $
+      forget ! 11 refl $ move ! (1 ∷ 0 ∷ 17 ∷ 15 ∷ 19 ∷ 9 ∷ 7 ∷ 13 ∷ 5 ∷ 2 ∷ 4 ∷ 3 ∷ 21 ∷ 11 ∷ 22 ∷ 20 ∷ 18 ∷ 16 ∷ 14 ∷ 12 ∷ 10 ∷ 8 ∷ 6 ∷ []) $ drop ! $ drop ! $
       -- the loop
-      first ! $ blocks ! $ by ! (looped 𝓤 H A W mem run κ q s 𝓣 fm (known .step) (known .visit) (known .moved) l₀ l₁ l₂ l₃ l₄ l₅ l₆ l₇ l₈ (started κ s r k (reader-is κ r u is) (scanned-is k u′ is′) opened e)))))))))))))))
+      first ! $ blocks ! $ by ! (looped 𝓤 H A W mem run κ q s 𝓣 fm (known .step) (known .visit) (known .moved) l₀ l₁ l₂ l₃ l₄ l₅ l₆ l₇ l₈
+      (started κ s r p (is-value (the-struct κ) (the-laws κ) r u is) (is-value P.the-type P′.the-laws p u′ is′) opened e)))))))))))))))
 
   scan-walks : Walks 𝓤 H A scan.ended stayed (WpFn 𝓤 H (𝓣 .C) (𝓣 .Λ) code.function) (scan.clauses 𝓤 H A mem run)
   scan-walks =

@@ -1,116 +1,87 @@
 -- `visit` meets its contract: the step says what stands at the offset, and each way of ending or going on is a law of the visited record.
 -- Assumes nothing.
-use Prim.Native.Nat.{_<_}
 use native.Mathlib.Omega.{arith}
-use mathlib.Core.Path.{_≡_, sym, ap, _∙_}
+use mathlib.Core.Path.{_≡_, sym, ap, subst, _∙_}
 use borrow.Author.Needs.{needs}
 use Rattle.answers.specs.Answers.{verdictOf}
-use Rattle.answers.specs.Verdict.{Verdict, refused}
+use Rattle.answers.specs.Verdict.{Verdict}
+use Rattle.records.specs.declared.Step.{Step}
+use Rattle.records.specs.declared.Step.the-variants.{Record, End}
 use Rattle.records.specs.RecordVerdicts.{recordVerdict}
-use Rattle.records.specs.Inner.Offsets.{offsetCount}
-use Rattle.records.proofs.FaultLaws.{faultless}
-use Rattle.records.proofs.OffsetLaws.{faultless-place}
-use Rattle.records.proofs.RecordVerdictLaws.{verdict-incomplete}
-use Rattle.records.proofs.StepLaws.{end-past, incomplete-at, StandsAt, record-stands}
-use Rattle.records.proofs.VisitLaws.{visited-end, visited-faulty, visited-sound}
+use Rattle.records.proofs.ProgressLaws.{Says, step-says, visited-end, visited-faulty, visited-sound}
 use Rattle.records.proofs.scan.visit.Statement.{statement}
 use Rattle.records.proofs.scan.visit.Tie as tie
 
-enum-told : tie.Need-enum-told
-enum-told c = search needs
-
-enum-told-2 : tie.Need-enum-told-2
-enum-told-2 c = search needs
+-- what a step says of the bytes at the offset
+says : (c : tie.Start) (t : Step) → c .args .step ≡ t → Says (c .args .s .now) (c .args .progress .at) t
+says c t e = subst (Says (c .args .s .now) (c .args .progress .at)) (sym (c .pre .1) ∙ e) (step-says (c .args .s .now) (c .args .progress .at))
 
 enum-known-step : tie.Need-enum-known-step
 enum-known-step c = search needs
 
--- the record that the step answered
-stands : (c : tie.After-step)
-    → StandsAt (c .before .before .before .before .args .s .now) (c .before .before .before .before .args .scanned .at) (c .step .given .0 .0)
-    (c .step .given .0 .1 .0) (c .step .given .0 .1 .1 .0)
-stands c = record-stands _ _ _ _ _ (sym (c .before .before .before .before .pre .1) ∙ c .step .given .1)
+enum-told : tie.Need-enum-told
+enum-told c = search needs
+
+stopped-requires : tie.Need-stopped-requires
+stopped-requires c κs = search needs
+
+returns : tie.Need-returns
+returns c =
+    let start = c .before .before .before .before .before in
+    rw (c .stopped .ensures) (visited-end _ _ _ (says start End (c .before .enum-told .given .1)))
+
+-- the record that stands at the offset, with the offset after it
+abbrev start-of : tie.After-step → tie.Start
+start-of c = c .before .before .before .before
+
+stands : (c : tie.After-step) → Says (start-of c .args .s .now) (start-of c .args .progress .at) (Record (c .step .given .0 .0))
+stands c = says (start-of c) (Record (c .step .given .0 .0)) (c .step .given .1)
 
 check-record-requires : tie.Need-check-record-requires
-check-record-requires c κs =
-    let r = stands (c .before .before) in
-    (r .complete, (r .kind-is, (r .length-is, c .before .before .before .before .before .before .pre .0)))
+check-record-requires c κs = (omega (arith, stands (c .before) .0), start-of (c .before) .pre .0)
 
 number-requires : tie.Need-number-requires
 number-requires c κs = search needs
 
 -- the number that the code tests is the record's fault
+abbrev step-of : tie.After-number → tie.After-step
+step-of c = c .before .before .before
+
 fault : (c : tie.After-number)
-    → c .number .result
-    ≡ recordVerdict (c .before .before .before .before .before .before .before .before .args .s .now)
-    (c .before .before .before .before .before .before .before .before .args .scanned .at) .number
+    → c .number .result ≡ recordVerdict (start-of (step-of c) .args .s .now) (start-of (step-of c) .args .progress .at) .number
 unfolding verdictOf
 fault c = c .number .ensures ∙ ap (λ (v : Verdict). v .number) (c .before .check-record .ensures)
 
-returns : tie.Need-returns
-returns c =
-    let start = c .before .before .before .before .before .before .before .before .before in
-    let r = stands (c .before .before .before .before .before) in
-    visited-faulty (start .args .s .now) (start .args .scanned .first) (start .args .scanned .at) (r .within) _
-    (c .before .before .check-record .ensures) (λ e. c .if1 .taken (fault (c .before) ∙ e))
-
-record-place-requires : tie.Need-record-place-requires
-record-place-requires c κs =
-    (stands (c .before .before .before .before .before) .kind-is, sym (fault (c .before)) ∙ c .if1 .left)
-
--- the record is faultless
-no-fault : (c : tie.After-record-place)
-    → recordVerdict (c .before .before .before .before .before .before .before .before .before .before .args .s .now)
-    (c .before .before .before .before .before .before .before .before .before .before .args .scanned .at) .number
-    ≡ 0
-no-fault c = sym (fault (c .before .before)) ∙ c .before .if1 .left
-
-place-lt : (c : tie.After-record-place) → c .record-place .result < offsetCount
-place-lt c = omega (arith, faultless-place _ _ (faultless _ _ (no-fault c)) .below, c .record-place .ensures)
-
-mul-first : tie.Need-mul-first
-mul-first c = omega (arith, place-lt c)
-
-array-write-first : tie.Need-array-write-first
-array-write-first c = place-lt c
+stopped-requires-2 : tie.Need-stopped-requires-2
+stopped-requires-2 c κs = search needs
 
 returns-2 : tie.Need-returns-2
 returns-2 c =
-    let start = c .before .before .before .before in
-    visited-end (start .args .s .now) (start .args .scanned .first) (start .args .scanned .at)
-    (end-past (start .args .s .now) (start .args .scanned .at) (sym (start .pre .1) ∙ c .enum-told .given .1))
+    let at-number = c .before .before in
+    rw (c .stopped2 .ensures)
+    (visited-faulty _ _ _ (stands (step-of at-number) .0) _ (at-number .before .check-record .ensures) (λ e. c .before .if1 .taken (fault at-number ∙ e)))
+
+note-requires : tie.Need-note-requires
+note-requires c κs = search needs
 
 returns-3 : tie.Need-returns-3
-unfolding verdictOf refused
 returns-3 c =
-    let start = c .before .before .before .before in
-    let s = start .args .s .now in
-    let at = start .args .scanned .at in
-    let cut = incomplete-at s at (sym (start .pre .1) ∙ c .enum-told2 .given .1) in
-    let one = verdict-incomplete s at (cut .1) in
-    let fault : recordVerdict s at .number ≡ 1 = ap (λ (v : Verdict). v .number) one in
-    visited-faulty s (start .args .scanned .first) at (cut .0) _ (sym one) (λ e. omega arith)
-
-returns-4 : tie.Need-returns-4
-returns-4 c =
-    let start = c .before .before .before .before .before .before .before .before .before .before in
-    let r = stands (c .before .before .before .before .before .before) in
-    visited-sound (start .args .s .now) (start .args .scanned .first) (start .args .scanned .at) (r .within) _
-    (c .before .before .before .check-record .ensures) (no-fault c) _ _ (c .record-place .ensures) (r .next-is)
+    let at-number = c .before .before in
+    let record-at = stands (step-of at-number) in
+    visited-sound _ _ _ (record-at .0) _ (at-number .before .check-record .ensures) (sym (fault at-number) ∙ c .before .if1 .left) _ _
+    (c .note .ensures) (record-at .1)
 
 pub visit-spec : {M : Type 1} → statement M
 visit-spec =
     tie.close
     (tie.spec
-    enum-told
-    enum-told-2
     enum-known-step
+    enum-told
+    stopped-requires
+    returns
     check-record-requires
     number-requires
-    returns
-    record-place-requires
-    mul-first
-    array-write-first
+    stopped-requires-2
     returns-2
-    returns-3
-    returns-4)
+    note-requires
+    returns-3)

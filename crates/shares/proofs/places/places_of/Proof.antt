@@ -1,4 +1,4 @@
--- `places_of` meets its contract. The loop's invariant: the places of the positions passed are theirs, and the columns' sums are those over them.
+-- `places_of` meets its contract. The loop's invariant: the places of the positions passed are theirs.
 -- Assumes nothing.
 use Prim.Native.Nat.{ℕ, _+_, _*_, _-_, _≤_}
 use mathlib.Core.Path.{_≡_, refl, sym, subst, _∙_}
@@ -7,11 +7,9 @@ use lib.Dec.{lit<}
 use lib.ListN.{length, take, length-set}
 use lib.Seq.{take-all}
 use borrow.Author.Needs.{needs}
-use Rattle.lists.specs.Sums.{sumWhere}
 use Rattle.lists.specs.Tables.{tableFrom, table}
 use Rattle.lists.proofs.TableLaws.{table-stored}
 use Rattle.filing.specs.Valid.{Valid}
-use Rattle.filing.specs.Inner.ColumnSums.{columnSum, columnSums}
 use Rattle.shares.specs.Places.{placeAt, placesOf}
 use Rattle.shares.specs.Inner.Rows.{RowWithin}
 use Rattle.shares.proofs.RowLaws.{row-within}
@@ -20,38 +18,36 @@ use Rattle.shares.proofs.places.places_of.Statement.{statement}
 use Rattle.shares.proofs.places.places_of.Tie as tie
 
 abbrev Inv-loop : tie.InvT-loop
-Inv-loop k totals places₀ above₀ i₀ places above i =
-    (i ≤ 9) × (length places ≡ 36) × (take (4 * i) places ≡ table (4 * i) (placeAt k)) × (above ≡ columnSums (k .cells) i)
+Inv-loop k sums places₀ i₀ places i =
+    (i ≤ 9) × (length places ≡ 36) × (take (4 * i) places ≡ table (4 * i) (placeAt k))
 
 abbrev μ-loop : tie.MeasureT-loop
-μ-loop k totals places₀ above₀ i₀ places above i = 9 - i
+μ-loop k sums places₀ i₀ places i = 9 - i
 
 column-sums-requires : tie.Need-column-sums-requires Inv-loop μ-loop
 column-sums-requires c κs = c .before .before .pre .balance-limit
 
 loop-holds : tie.Need-loop-holds Inv-loop μ-loop
-unfolding tableFrom columnSums columnSum sumWhere
-loop-holds c = (omega arith, refl, refl, refl)
+unfolding tableFrom
+loop-holds c = (omega arith, refl, refl)
 
--- what holds at the loop's head: the contents are valid, and the columns' sums over all positions
+-- what holds at the loop's head: the contents are valid
 valid : (c : tie.At-loop Inv-loop μ-loop) → Valid (c .before .before .before .before .args .t1)
 valid c = c .before .before .before .before .pre
 
 row-at-requires : tie.Need-row-at-requires Inv-loop μ-loop
-row-at-requires c κs =
-    let loop = c .before .before .before .before .before in
-    (c .before .before .before .before .loop-test .taken, loop .before .column-sums .ensures, loop .loop .inv .3)
+row-at-requires c κs = (c .before .before .before .before .column-sums .ensures, c .before .before .loop-test .taken)
 
 row-shares-requires : tie.Need-row-shares-requires Inv-loop μ-loop
 row-shares-requires c κs =
-    let loop = c .before .before .before .before .before .before in
-    subst RowWithin (sym (c .row-at .ensures)) (row-within _ (valid loop) (loop .loop .i) (c .before .before .before .before .before .loop-test .taken))
+    let loop = c .before .before .before .before in
+    subst RowWithin (sym (c .row-at .ensures)) (row-within _ (valid loop) (loop .loop .i) (c .before .before .before .loop-test .taken))
 
 mul-at : tie.Need-mul-at Inv-loop μ-loop
 mul-at c = search needs
 
-array-read-t20 : tie.Need-array-read-t20 Inv-loop μ-loop
-array-read-t20 c = search needs
+array-read-t16 : tie.Need-array-read-t16 Inv-loop μ-loop
+array-read-t16 c = search needs
 
 mul-places : tie.Need-mul-places Inv-loop μ-loop
 mul-places c = search needs
@@ -59,8 +55,8 @@ mul-places c = search needs
 array-set-from-places : tie.Need-array-set-from-places Inv-loop μ-loop
 array-set-from-places c = omega arith
 
-array-read-t20-2 : tie.Need-array-read-t20-2 Inv-loop μ-loop
-array-read-t20-2 c = search needs
+array-read-t16-2 : tie.Need-array-read-t16-2 Inv-loop μ-loop
+array-read-t16-2 c = search needs
 
 add-places : tie.Need-add-places Inv-loop μ-loop
 add-places c = omega arith
@@ -71,8 +67,8 @@ mul-places-2 c = search needs
 array-set-from-places-2 : tie.Need-array-set-from-places-2 Inv-loop μ-loop
 array-set-from-places-2 c = omega arith
 
-array-read-t20-3 : tie.Need-array-read-t20-3 Inv-loop μ-loop
-array-read-t20-3 c = search needs
+array-read-t16-3 : tie.Need-array-read-t16-3 Inv-loop μ-loop
+array-read-t16-3 c = search needs
 
 add-places-2 : tie.Need-add-places-2 Inv-loop μ-loop
 add-places-2 c = omega arith
@@ -83,8 +79,8 @@ mul-places-3 c = search needs
 array-set-from-places-3 : tie.Need-array-set-from-places-3 Inv-loop μ-loop
 array-set-from-places-3 c = omega arith
 
-array-read-t20-4 : tie.Need-array-read-t20-4 Inv-loop μ-loop
-array-read-t20-4 c = search needs
+array-read-t16-4 : tie.Need-array-read-t16-4 Inv-loop μ-loop
+array-read-t16-4 c = search needs
 
 add-places-3 : tie.Need-add-places-3 Inv-loop μ-loop
 add-places-3 c = omega arith
@@ -95,11 +91,6 @@ mul-places-4 c = search needs
 array-set-from-places-4 : tie.Need-array-set-from-places-4 Inv-loop μ-loop
 array-set-from-places-4 c = omega arith
 
-add-balance-requires : tie.Need-add-balance-requires Inv-loop μ-loop
-add-balance-requires c κs =
-    let test = c .before .before .before .before .before .before .before .before .before in
-    (valid (test .before) .balance-limit, test .loop-test .taken, test .before .loop .inv .3)
-
 add-i : tie.Need-add-i Inv-loop μ-loop
 add-i c = omega arith
 
@@ -108,12 +99,11 @@ loop-less c = omega arith
 
 loop-again : tie.Need-loop-again Inv-loop μ-loop
 loop-again c =
-    let filled = c .before .before .before .before in
-    let test = filled .before .before .before .before .before .before in
+    let test = c .before .before .before .before in
     let k = test .before .before .before .before .before .args .t1 in
     let loop = test .before .loop in
     let i = loop .i in
-    let place = place-of k (valid (test .before)) i (test .loop-test .taken) _ (filled .before .row-at .ensures) _ (filled .row-shares .ensures) in (
+    let place = place-of k (valid (test .before)) i (test .loop-test .taken) _ (c .before .row-at .ensures) _ (c .row-shares .ensures) in (
       omega arith,
       simp length-set (loop .inv .1),
       table-stored (placeAt k) _ (4 * i + 3) (4 * (i + 1)) _
@@ -123,7 +113,6 @@ loop-again c =
           (simp length-set (omega arith)) (omega arith) (place 1 (4 * i + 1) refl (lit< tt)))
           (simp length-set (omega arith)) (omega arith) (place 2 (4 * i + 2) refl (lit< tt)))
           (simp length-set (omega arith)) (omega arith) (place 3 (4 * i + 3) refl (lit< tt)),
-      c .add-balance .ensures,
     )
 
 returns : tie.Need-returns Inv-loop μ-loop
@@ -144,22 +133,21 @@ places-of-spec =
     row-at-requires
     row-shares-requires
     mul-at
-    array-read-t20
+    array-read-t16
     mul-places
     array-set-from-places
-    array-read-t20-2
+    array-read-t16-2
     add-places
     mul-places-2
     array-set-from-places-2
-    array-read-t20-3
+    array-read-t16-3
     add-places-2
     mul-places-3
     array-set-from-places-3
-    array-read-t20-4
+    array-read-t16-4
     add-places-3
     mul-places-4
     array-set-from-places-4
-    add-balance-requires
     add-i
     loop-less
     loop-again

@@ -1,0 +1,104 @@
+-- What a record is one of: which records are of a cell and which of a sheet, and when two items are the same.
+-- Assumes nothing.
+use Prim.Native.Nat.{ℕ, _≤_, _<_}
+use native.Mathlib.Omega.{arith}
+use mathlib.Core.Path.{_≡_, refl, sym, ap}
+use mathlib.Core.Bool.{Bool, true, false, cond, true≢false}
+use mathlib.Core.List.{List}
+use borrow.Author.Tests.{ltb-true, ltb-false, eqb-true, eqb-false}
+use lib.Dec.{ltb, eqb}
+use lib.ListN.{List·getD-eq-default}
+use Rattle.schedule.specs.Limits.{cellClass}
+use Rattle.schedule.proofs.ClassLaws.{class-listed}
+use Rattle.records.specs.declared.items.Item.{Item}
+use Rattle.records.specs.declared.items.Item.the-variants.{Cell, Sheet, Nothing}
+use Rattle.records.specs.declared.kinds.SheetKind.{SheetKind}
+use Rattle.records.specs.Records.{recordKind, recordCell}
+use Rattle.records.specs.Kinds.{kindCount, sheetOf, sheetKinds, sheetKind}
+use Rattle.records.specs.Items.{sameItem, recordItem, firstWith}
+use Rattle.records.proofs.RecordLaws.{first-passes}
+
+-- the same item is the one item
+pub same-item : (a b : Item) → sameItem a b ≡ true → a ≡ b
+unfolding sameItem
+same-item (Cell m) (Cell n) e = ap Cell (eqb-true m n e)
+same-item (Cell m) (Sheet n) e = absurd (true≢false (sym e))
+same-item (Cell m) Nothing e = absurd (true≢false (sym e))
+same-item (Sheet m) (Cell n) e = absurd (true≢false (sym e))
+same-item (Sheet m) (Sheet n) e = ap Sheet (eqb-true m n e)
+same-item (Sheet m) Nothing e = absurd (true≢false (sym e))
+same-item Nothing b e = absurd (true≢false (sym e))
+
+-- nothing is the same as no item
+pub same-nothing : (a : Item) → sameItem a Nothing ≡ false
+unfolding sameItem
+same-nothing (Cell m) = refl
+same-nothing (Sheet m) = refl
+same-nothing Nothing = refl
+
+-- a record that is found by its item is of that item
+pub with-passes : (s : List ℕ) (item : Item) (end : ℕ) → firstWith s item end < end → recordItem s (firstWith s item end) ≡ item
+unfolding firstWith
+with-passes s item end h =
+    same-item (recordItem s (firstWith s item end)) item (first-passes s (λ (at : ℕ). sameItem (recordItem s at) item) end h)
+
+-- a kind that holds a number is one of the kinds
+kind-known : (kind : ℕ) (b : Bool) → ltb kind kindCount ≡ b → (sheetKind kind .numbers ≡ 0 → ⊥) → kind < kindCount
+unfolding sheetKinds sheetKind sheetOf
+kind-known kind true e h = ltb-true kind kindCount e
+kind-known kind false e h =
+    absurd (h (ap (λ (k : SheetKind). k .numbers) (List·getD-eq-default sheetKinds (sheetOf 0 0) {n = kind} (ltb-false kind kindCount e))))
+
+-- a record of a cell: it is of kind 1 and holds that cell, which is listed
+pub record OfCell (s : List ℕ) (at cell : ℕ) : Type 0 where
+  pub kind-is : recordKind s at ≡ 1
+  pub cell-is : recordCell s at ≡ cell
+  pub from-601 : 601 ≤ cell
+  pub to-661 : cell ≤ 661
+
+-- a record of a sheet: it is of that kind, which is one of the kinds and a sheet's
+pub record OfSheet (s : List ℕ) (at kind : ℕ) : Type 0 where
+  pub kind-is : recordKind s at ≡ kind
+  pub not-one : kind ≡ 1 → ⊥
+  pub some : sheetKind kind .numbers ≡ 0 → ⊥
+  pub known : kind < kindCount
+
+module _ (s : List ℕ) (at : ℕ) where
+  -- the item by the tests: the kind is 1, the cell is not listed, the kind is no sheet
+  abbrev itemBy : Bool → Bool → Bool → Item
+  itemBy one off none = cond one (cond off Nothing (Cell (recordCell s at))) (cond none Nothing (Sheet (recordKind s at)))
+
+  of-cell : (cell : ℕ) (one off none : Bool) → eqb (recordKind s at) 1 ≡ one → eqb (cellClass (recordCell s at)) 0 ≡ off
+      → itemBy one off none ≡ Cell cell → OfCell s at cell
+  of-cell cell true true none a b e = let z : _≡_ {A = ℕ} 0 1 = cc in absurd (omega arith)
+  of-cell cell true false none a b e =
+      let is : recordCell s at ≡ cell = cc in
+      let listed = class-listed (recordCell s at) (eqb-false (cellClass (recordCell s at)) 0 b) in
+      record { kind-is = eqb-true (recordKind s at) 1 a; cell-is = is; from-601 = omega (arith, listed .0); to-661 = omega (arith, listed .1) }
+  of-cell cell false off true a b e = let z : _≡_ {A = ℕ} 0 1 = cc in absurd (omega arith)
+  of-cell cell false off false a b e = let z : _≡_ {A = ℕ} 0 1 = cc in absurd (omega arith)
+
+  of-sheet : (kind : ℕ) (one off none : Bool) → eqb (recordKind s at) 1 ≡ one → eqb (sheetKind (recordKind s at) .numbers) 0 ≡ none
+      → itemBy one off none ≡ Sheet kind → OfSheet s at kind
+  of-sheet kind true true none a b e = let z : _≡_ {A = ℕ} 0 1 = cc in absurd (omega arith)
+  of-sheet kind true false none a b e = let z : _≡_ {A = ℕ} 0 1 = cc in absurd (omega arith)
+  of-sheet kind false off true a b e = let z : _≡_ {A = ℕ} 0 1 = cc in absurd (omega arith)
+  of-sheet kind false off false a b e =
+      let is : recordKind s at ≡ kind = cc in
+      let some : (sheetKind kind .numbers ≡ 0 → ⊥) = rw (← is) (eqb-false (sheetKind (recordKind s at) .numbers) 0 b) in
+      record {
+        kind-is = is;
+        not-one = rw (← is) (eqb-false (recordKind s at) 1 a);
+        some = some;
+        known = kind-known kind (ltb kind kindCount) refl some;
+      }
+
+  pub record-of-cell : (cell : ℕ) → recordItem s at ≡ Cell cell → OfCell s at cell
+  unfolding recordItem
+  record-of-cell cell e =
+      of-cell cell (eqb (recordKind s at) 1) (eqb (cellClass (recordCell s at)) 0) (eqb (sheetKind (recordKind s at) .numbers) 0) refl refl e
+
+  pub record-of-sheet : (kind : ℕ) → recordItem s at ≡ Sheet kind → OfSheet s at kind
+  unfolding recordItem
+  record-of-sheet kind e =
+      of-sheet kind (eqb (recordKind s at) 1) (eqb (cellClass (recordCell s at)) 0) (eqb (sheetKind (recordKind s at) .numbers) 0) refl refl e

@@ -1,0 +1,30 @@
+-- What may stand only once in a filing (01:34): a cell, or a kind of sheet. Definitions only.
+use Prim.Native.Nat.{ℕ}
+use mathlib.Core.Bool.{Bool, false, cond}
+use mathlib.Core.List.{List}
+use lib.Dec.{eqb}
+use Rattle.schedule.specs.Limits.{cellClass}
+use Rattle.records.specs.declared.items.Item.{Item}
+use Rattle.records.specs.declared.items.Item.the-variants.{Cell, Sheet, Nothing}
+use Rattle.records.specs.Records.{recordKind, recordCell, firstRecord}
+use Rattle.records.specs.Kinds.{sheetKind}
+
+-- the same cell, or the same kind of sheet
+unfoldable pub sameItem : Item → Item → Bool
+sameItem (Cell m) (Cell n) = eqb m n
+sameItem (Cell m) (Sheet n) = false
+sameItem (Cell m) Nothing = false
+sameItem (Sheet m) (Cell n) = false
+sameItem (Sheet m) (Sheet n) = eqb m n
+sameItem (Sheet m) Nothing = false
+sameItem Nothing item = false
+
+-- what a record is one of: kind 1 of its cell, where that is listed; a sheet of its kind
+unfoldable pub recordItem : List ℕ → ℕ → Item
+recordItem s at =
+    cond (eqb (recordKind s at) 1) (cond (eqb (cellClass (recordCell s at)) 0) Nothing (Cell (recordCell s at)))
+    (cond (eqb (sheetKind (recordKind s at) .numbers) 0) Nothing (Sheet (recordKind s at)))
+
+-- the first record of an item before `end`: its offset, or `end` where there is none
+unfoldable pub firstWith : List ℕ → Item → ℕ → ℕ
+firstWith s item end = firstRecord s (λ (at : ℕ). sameItem (recordItem s at) item) end

@@ -1,0 +1,38 @@
+-- The kinds of record (01:7-9): what a sheet of each kind holds, and the length that a record is to have. Definitions only.
+use Prim.Native.Nat.{ℕ, _+_, _*_}
+use mathlib.Core.Bool.{cond}
+use mathlib.Core.List.{List, [], _∷_}
+use lib.ListN.{getD}
+use lib.Dec.{eqb}
+use Rattle.schedule.specs.Limits.{rateLimit}
+use Rattle.records.specs.declared.kinds.SheetKind.{SheetKind}
+use Rattle.records.specs.Records.{recordKind}
+
+-- the kinds are below this number
+abbrev pub kindCount : ℕ
+kindCount = 4
+
+-- a sheet of so many numbers, 2 bytes each, up to a limit
+unfoldable pub sheetOf : ℕ → ℕ → SheetKind
+sheetOf numbers limit = record { numbers = numbers; limit = limit }
+
+-- The sheets by kind (01:8-9, 01:24): 2, the CD yields of months 1 to 120; 3, the retail rates of columns 1 to 3. A kind that is no sheet holds
+-- no number
+unfoldable pub sheetKinds : List SheetKind
+sheetKinds =
+    sheetOf 0 0
+    ∷ sheetOf 0 0
+    ∷ sheetOf 120 rateLimit
+    ∷ sheetOf 3 rateLimit
+    ∷ []
+
+unfoldable pub sheetKind : ℕ → SheetKind
+sheetKind kind = getD sheetKinds kind (sheetOf 0 0)
+
+-- the length of a sheet, bytes: its kind and its numbers; 0, which no complete record has, where the kind is no sheet
+unfoldable pub sheetLength : ℕ → ℕ
+sheetLength numbers = cond (eqb numbers 0) 0 (2 + 2 * numbers)
+
+-- the length that a record is to have, by its kind
+unfoldable pub dueLength : List ℕ → ℕ → ℕ
+dueLength s at = cond (eqb (recordKind s at) 1) 12 (sheetLength (sheetKind (recordKind s at) .numbers))

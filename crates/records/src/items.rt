@@ -1,0 +1,61 @@
+// What may stand only once in a filing, and where each stands.
+use crate::CELLS;
+use crate::FIRST_CELL;
+use crate::KINDS;
+use crate::fields::record_cell;
+use crate::fields::record_kind;
+use crate::kinds::sheet_kind;
+use schedule::tables::cell_class;
+ghost use mathlib.Core.Path.{_≡_};
+ghost use Rattle.records.specs.Items.{recordItem};
+ghost use Rattle.records.specs.Inner.Notes.{noteItem};
+
+// A cell by its number, a sheet by its kind.
+pub enum Item {
+    Cell(u64),
+    Sheet(usize),
+    Nothing,
+}
+
+// The offset of the first record of each kind of sheet, and of each cell from 601 on: the input's length where there is none.
+pub struct Noted {
+    pub sheets: [usize; KINDS],
+    pub cells: [usize; CELLS],
+}
+
+// What a record is one of: kind 1 of its cell, where that is listed; a sheet of its kind.
+pub(crate) fn record_item(s: &[u8], at: usize) -> Item
+    ensures { λ r. ⌜ r ≡ recordItem (now (s .entry)) at ⌝ }
+{
+    let kind = record_kind(s, at);
+    if kind == 1 {
+        let cell = record_cell(s, at);
+        if cell_class(cell) == 0 {
+            return Item::Nothing;
+        }
+        return Item::Cell(cell);
+    }
+    let sheet = sheet_kind(kind);
+    if sheet.numbers == 0 {
+        return Item::Nothing;
+    }
+    Item::Sheet(kind)
+}
+
+// The record at an offset is noted.
+pub(crate) fn note(s: &[u8], at: usize, noted: Noted) -> Noted
+    ensures { λ r. ⌜ r ≡ noteItem noted (recordItem (now (s .entry)) at) at ⌝ }
+{
+    let mut after = noted;
+    match record_item(s, at) {
+        Item::Cell(cell) => {
+            let i = (cell - FIRST_CELL) as usize;
+            after.cells[i] = at;
+        }
+        Item::Sheet(kind) => {
+            after.sheets[kind] = at;
+        }
+        Item::Nothing => {}
+    }
+    after
+}
