@@ -17,16 +17,20 @@ ghost use Rattle.withdrawal.specs.Inner.TierArrays.{tierTable, Usable, N
 ghost use Rattle.withdrawal.specs.Inner.MonthPlaces.{monthPlace};
 ghost use Rattle.withdrawal.specs.Inner.Incentives.{gainOf, Small};
 
+// The most tiers of annual withdrawal.
+pub const TIER_LIMIT: usize = 16;
+
 // q where nothing is withdrawn, in billionths.
 const FULL_SURVIVAL: u64 = 1_000_000_000;
 
 // Tiers of annual withdrawal, in the first `count` places, highest edge first: edges in hundredths, withdrawals in thousandths, and the survival
-// of each withdrawal in billionths. Where no edge is reached the withdrawal is `otherwise` and its survival `retained`.
+// of each withdrawal in billionths; the places past these are 0. Where no edge is reached the withdrawal is `otherwise` and its survival
+// `retained`.
 pub struct WithdrawalTiers {
     pub count: usize,
-    pub edges: [u64; 16],
-    pub withdrawals: [u64; 16],
-    pub survivals: [u64; 16],
+    pub edges: [u64; TIER_LIMIT],
+    pub withdrawals: [u64; TIER_LIMIT],
+    pub survivals: [u64; TIER_LIMIT],
     pub otherwise: u64,
     pub retained: u64,
 }

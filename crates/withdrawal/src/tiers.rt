@@ -1,5 +1,6 @@
 // Tiers of annual withdrawal, tried from the highest edge.
 use crate::Incentive;
+use crate::TIER_LIMIT;
 use crate::WithdrawalTiers;
 ghost use mathlib.Core.Path.{_≡_};
 ghost use Prim.Native.Nat.{_≤_};
@@ -57,14 +58,14 @@ pub fn house() -> WithdrawalTiers
 // Tiers with the survival of each withdrawal beside it: the table of survivals is read once for each tier, not once for each month.
 pub(crate) fn with_survivals(
     count: usize,
-    edges: [u64; 16],
-    withdrawals: [u64; 16],
+    edges: [u64; TIER_LIMIT],
+    withdrawals: [u64; TIER_LIMIT],
     otherwise: u64,
 ) -> WithdrawalTiers
     requires { ⌜ TiersFit count edges withdrawals otherwise ⌝ }
     ensures { λ r. ⌜ r ≡ withSurvivals count edges withdrawals otherwise ⌝ }
 {
-    let mut survivals = [0u64; 16];
+    let mut survivals = [0u64; TIER_LIMIT];
     let mut i: usize = 0;
     while i < count {
         survivals[i] = crate::survival(withdrawals[i]);
