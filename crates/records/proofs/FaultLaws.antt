@@ -1,16 +1,16 @@
 -- The numbers of a sheet against their limit, the verdict on one record, and what holds of a record that has none of the faults 1 to 5.
 -- Assumes nothing.
-use Prim.Native.Nat.{ℕ, suc, _+_, _*_, _≤_, zero, _-_, _<_}
-use native.Mathlib.Omega.{arith}
-use mathlib.Core.Path.{_≡_, refl, ap, _∙_, sym, subst}
-use mathlib.Core.Bool.{Bool, true, false, cond, _||_, true≢false}
-use mathlib.Core.List.{List}
-use borrow.Author.Tests.{ltb-false, eqb-true, eqb-false, eq-eqb, ne-eqb, not-false, lt-ltb, le-ltb, ltb-true}
-use lib.Dec.{ltb, eqb}
-use lib.ListN.{length}
+use Prim.Native.Nat.{ℕ, zero, suc, _+_, _*_, _-_, _≤_, _<_}
 use native.Mathlib.Nat.{not-suc-le-zero, le-of-suc-le-suc, eq-or-lt-of-le}
 use native.Mathlib.Numerals.{add-one}
+use native.Mathlib.Omega.{arith}
+use mathlib.Core.Path.{_≡_, refl, sym, ap, subst, _∙_}
 use mathlib.Core.Logic.{⊎-elim}
+use mathlib.Core.Bool.{Bool, true, false, cond, _||_, true≢false}
+use mathlib.Core.List.{List}
+use borrow.Author.Tests.{ltb-true, ltb-false, lt-ltb, le-ltb, eqb-true, eqb-false, eq-eqb, ne-eqb, not-false}
+use lib.Dec.{ltb, eqb}
+use lib.ListN.{length}
 use Rattle.schedule.specs.Limits.{cellClass, classLimit}
 use Rattle.answers.specs.Verdict.{Verdict, accepted, refused, refusedIf, firstRefusal, firstOf}
 use Rattle.answers.proofs.VerdictLaws.{first-passed, first-refused, first-none, condition-fails}
@@ -102,17 +102,12 @@ module _ (s : List ℕ) (at : ℕ) where
   unfolding recordVerdict firstOf
   verdict-rows = rw (last-row (overLimit s at) 4 at) (simp first-assoc)
 
-  -- 1 does not hold: the record lies within the bytes, with room for its kind
-  pub record Within : Type 0 where
-    pub begins : at + 2 ≤ length s
-    pub ends : nextRecord s at ≤ length s
-
-  pub complete-within : incomplete s at ≡ false → Within
+  -- 1 does not hold: the record ends within the bytes
+  pub complete-ends : incomplete s at ≡ false → nextRecord s at ≤ length s
   unfolding incomplete
-  complete-within h =
-      let h1 = neither (ltb (length s) (at + 2)) (ltb (recordLength s at) 2 || ltb (length s) (nextRecord s at)) h in
-      let h2 = neither (ltb (recordLength s at) 2) (ltb (length s) (nextRecord s at)) (h1 .1) in
-      record { begins = ltb-false (length s) (at + 2) (h1 .0); ends = ltb-false (length s) (nextRecord s at) (h2 .1) }
+  complete-ends h =
+      let rest = neither (ltb (length s) (at + 2)) (ltb (recordLength s at) 2 || ltb (length s) (nextRecord s at)) h .1 in
+      ltb-false (length s) (nextRecord s at) (neither (ltb (recordLength s at) 2) (ltb (length s) (nextRecord s at)) rest .1)
 
   -- 2 does not hold: the length is the kind's
   shaped-length : misshapen s at ≡ false → recordLength s at ≡ dueLength s at
@@ -164,7 +159,7 @@ module _ (s : List ℕ) (at : ℕ) where
   faultless-sound h =
       let f = faultless h in
       record {
-        complete = complete-within (f .complete) .ends;
+        complete = complete-ends (f .complete);
         shaped = shaped-length (f .shaped);
         value-limit = value-within (f .limited);
         number-limit = numbers-within (f .limited);
