@@ -39,8 +39,8 @@ pub struct Outcome {
     pub count: usize,
 }
 
-// The answer on a filing and an array of places, and the array after the call.
+// The answer on a filing and the first places of an array, and the array after the call.
 pub struct SplitPlaces {
     pub answer: Answer,
-    pub places: [SubBalance; 36],
+    pub places: [SubBalance; 40],
 }
