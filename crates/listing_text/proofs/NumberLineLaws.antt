@@ -3,17 +3,17 @@
 use Prim.Native.Nat.{ℕ, zero, suc, _+_, _*_, _-_, _^_, _≤_, _<_}
 use mathlib.Core.Path.{_≡_, refl, ap}
 use mathlib.Core.List.{List, [], _∷_, _++_}
-use native.Mathlib.Nat.{add-zero, mul-suc}
+use native.Mathlib.Nat.{mul-suc}
 use native.Mathlib.Numerals.{add-one}
 use native.Mathlib.Omega.{arith}
 use lib.IntN.{subℕ}
-use lib.ListN.{length, getD, length-append, List·getD-append}
+use lib.ListN.{length, getD, length-append}
 use Rattle.lists.specs.Tables.{tableFrom, joined}
 use Rattle.lists.proofs.EachLaws.{each-lt}
 use Rattle.lists.proofs.TableLaws.{table-ext}
 use Rattle.filing.specs.declared.Contents.{Contents}
 use Rattle.valuation.specs.Numbers.{scenarioTotals, numbers}
-use Rattle.valuation.proofs.NumberLaws.{numbers-length, short-lower-read, short-upper-read, long-lower-read, long-upper-read}
+use Rattle.valuation.proofs.NumberLaws.{numbers-split, total-read}
 use Rattle.valuation.specs.Promise.{totalNumber}
 use Rattle.text.specs.Decimal.{digitsWithin, decimal, signed}
 use Rattle.text.specs.Lines.{restOfLine}
@@ -77,22 +77,15 @@ module _ (l : List ℕ) (fits : (i : ℕ) → getD l i 0 < 2 ^ 64) where
   lines-length = joined-le 89 0 7 (lineIn l) line-length
 
 module _ (k : Contents) (rest : List ℕ) where
-  total-read : (i : ℕ) → i < 568 → getD (numbers k ++ rest) i 0 ≡ getD (numbers k) i 0
-  total-read i h = List·getD-append (numbers k) rest 0 i (omega (arith, numbers-length k))
-
   totals-are : (scenario : ℕ) → scenario < 7 → totalsIn (numbers k ++ rest) scenario ≡ scenarioTotals k scenario
   unfolding totalsIn totalNumber scenarioTotals
   totals-are scenario h =
       rw (
-        total-read (540 + 4 * scenario + 0) (omega arith),
-        total-read (540 + 4 * scenario + 1) (omega arith),
-        total-read (540 + 4 * scenario + 2) (omega arith),
-        total-read (540 + 4 * scenario + 3) (omega arith),
-        add-zero,
-        short-lower-read k scenario h,
-        short-upper-read k scenario h,
-        long-lower-read k scenario h,
-        long-upper-read k scenario h,
+        numbers-split k rest,
+        total-read k rest scenario 0 h (omega arith),
+        total-read k rest scenario 1 h (omega arith),
+        total-read k rest scenario 2 h (omega arith),
+        total-read k rest scenario 3 h (omega arith),
       )
 
   -- the lines read off a list that begins with a filing's 568 numbers

@@ -1,6 +1,7 @@
 // The text that the listing prints of a filing.
 use answers::number;
 use answers::place;
+use schedule::scenarios::Scenario;
 use text::append;
 use text::append_difference;
 use text::append_line;
@@ -38,7 +39,7 @@ fn append_scenarios(out: &mut [u8], numbers: &[u64]) -> usize
 {
     let mut end: usize = 0;
     let mut scenario: usize = 0;
-    while scenario < 7 {
+    while (scenario as u64) < Scenario::COUNT {
         end = append_scenario(out, end, numbers, scenario);
         scenario += 1;
     }
