@@ -99,8 +99,6 @@ def forms_of_filing():
     yield "zero balances with WAC and WARM", filing(deposits(0, 1_500, lambda place: 120))
     yield "a zero balance beside another", filing({601: 10, 608: 1, 615: 0, 622: 120, 619: 1_500, 645: 10})
     yield "zero brokered, penalty and total", filing({650: 0, 655: 0, 658: 3_600, 645: 0})
-    for numbers in (0, 1, 567, 568, 569, 600):
-        yield f"list of {numbers}", filing(LISTING), numbers
 
 
 FAMILIES = (

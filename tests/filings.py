@@ -1,8 +1,8 @@
 #!/usr/bin/env python3
-"""The filings that the two test programs run: writes crates/figures_test/stdin and crates/second/stdin, the same bytes.
+"""The entries that the two test programs run: writes crates/figures_test/stdin and crates/second/stdin, the same bytes.
 
-With the word `names` it prints the number and the name of each filing instead. An entry is three 4-byte numbers, little-endian (the length
-of the list of numbers, that of the list of places and that of the filing), and then the filing."""
+With the word `names` it prints the number and the name of each entry instead. An entry is four 4-byte numbers, little-endian (the number of
+the call, the length of the list of numbers, that of the list of places and that of the input), and then the input."""
 import struct
 import sys
 from pathlib import Path
@@ -10,25 +10,40 @@ from pathlib import Path
 sys.dont_write_bytecode = True
 
 import accepted
+import calls
 import refused
 
 CRATES = Path(__file__).resolve().parent.parent / "crates"
 
+# The programs read an entry's input into a room of this size, a byte more than the listing takes, and lend lists of at most as many numbers and places.
+ROOM = 65_537
+MOST_NUMBERS = 600
+MOST_PLACES = 40
+
 
 def entries():
-    """Each filing's name, the length of its list of numbers, and its bytes."""
-    for family in accepted.FAMILIES + refused.FAMILIES:
-        for name, data, *numbers in family():
-            yield name, numbers[0] if numbers else 568, data
+    """Each entry's name and its bytes."""
+    for family in accepted.FAMILIES + refused.FAMILIES + calls.FAMILIES:
+        for name, data, *lists in family():
+            yield name, entry(calls.VALUE_AND_SPLIT, data, *lists)
+    for family in calls.LISTINGS:
+        for name, data in family():
+            yield f"listing: {name}", entry(calls.LISTING_TEXT, data)
+    yield "a call that is unknown", entry(calls.UNKNOWN, b"")
+
+
+def entry(call, data, numbers=568, places=36):
+    assert len(data) <= ROOM and numbers <= MOST_NUMBERS and places <= MOST_PLACES, "an entry that the test programs cannot hold"
+    return struct.pack("<IIII", call, numbers, places, len(data)) + data
 
 
 def print_names():
-    for number, (name, _, _) in enumerate(entries()):
+    for number, (name, _) in enumerate(entries()):
         print(number, name)
 
 
 def write_corpus():
-    corpus = b"".join(struct.pack("<III", numbers, 36, len(data)) + data for _, numbers, data in entries())
+    corpus = b"".join(data for _, data in entries())
     for program in ("figures_test", "second"):
         (CRATES / program / "stdin").write_bytes(corpus)
 

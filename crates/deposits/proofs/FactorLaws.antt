@@ -1,63 +1,57 @@
--- The factors of a month in the seven scenarios, and their places in the list. Assumes nothing.
-use Prim.Native.Nat.{ℕ, suc, _+_, _*_, _/_, _%_, _≤_, _<_}
+-- The factors of the seven scenarios in the list, month by month. Assumes nothing.
+use Prim.Native.Nat.{ℕ, suc, _+_, _*_, _-_, _^_, _≤_, _<_}
 use mathlib.Core.Path.{_≡_, refl, ap, _∙_}
-use mathlib.Core.List.{List, [], _∷_}
+use mathlib.Core.Bool.{Bool, true, false, cond}
+use mathlib.Core.List.{List}
 use native.Mathlib.Omega.{arith}
-use lib.Dec.{lit<}
-use lib.ListN.{length, getD, take, set, length-set}
-use borrow.Author.Tests.{lt-ltb, le-ltb}
-use Rattle.lists.specs.Tables.{tableFrom, table}
-use Rattle.lists.proofs.TableLaws.{table-getD, table-ext, table-le, table-stored}
-use Rattle.schedule.specs.Shift.{shiftedRate}
-use Rattle.schedule.proofs.ShiftLaws.{shifted-rate-le}
+use lib.Dec.{ltb}
+use lib.ListN.{length, getD, replicate, length-replicate}
+use borrow.Author.Tests.{lt-ltb}
+use Rattle.lists.specs.Tables.{tableFrom}
+use Rattle.lists.proofs.TableLaws.{table-length, table-getD, table-le, joined-getD, joined-le}
+use Rattle.lists.proofs.TestLaws.{either, entries-le}
+use Rattle.schedule.specs.Shift.{shiftedRate, shiftedRates}
 use Rattle.pricing.specs.Rounding.{Rounding}
-use Rattle.pricing.specs.Run.{discountBy}
+use Rattle.pricing.specs.Run.{discountBy, discountFactorBy}
 use Rattle.pricing.specs.Inner.Multipliers.{discountsBy, AtMost}
-use Rattle.deposits.specs.Inner.Factors.{factorAt, shiftedRates, monthFactors}
+use Rattle.pricing.proofs.LimitLaws.{discount-limit}
+use Rattle.deposits.specs.DepositTerms.{sheetYield}
+use Rattle.deposits.specs.Inner.Factors.{monthFactors, factorsBy}
+use Rattle.deposits.specs.Inner.Prices.{listed, AtMostPar}
 
--- the rates of a yield within its limit
-pub shifted-rates-at-most : (rate : ℕ) → rate ≤ 2500 → AtMost 2800 (shiftedRates rate)
+-- a rate of the seven scenarios
+pub shifted-at : (rate scenario : ℕ) → scenario < 7 → getD (shiftedRates rate) scenario 0 ≡ shiftedRate scenario rate
 unfolding shiftedRates
-shifted-rates-at-most rate h = table-le 0 7 _ 2800 (λ s l u. shifted-rate-le s rate (omega arith) h)
+shifted-at rate scenario h = table-getD 7 (λ (s : ℕ). shiftedRate s rate) scenario 0 h
 
-module _ (ρ : Rounding) (yields : List ℕ) (longest month : ℕ) where
-  -- a month past the longest term
-  pub month-past : longest ≤ month → 0 ∷ 0 ∷ 0 ∷ 0 ∷ 0 ∷ 0 ∷ 0 ∷ [] ≡ monthFactors ρ yields longest month
-  unfolding monthFactors factorAt tableFrom
-  month-past h =
-      table-ext 7 (λ (s : ℕ). 0) (λ (s : ℕ). factorAt ρ yields longest (7 * month + s))
-      (λ s l. let e : (7 * month + s) / 7 ≡ month = omega arith in rw (e, le-ltb month longest h))
+discounts-length : (ρ : Rounding) (rates : List ℕ) (n : ℕ) → length (discountsBy ρ rates n) ≡ 7
+unfolding discountsBy
+discounts-length ρ rates n = table-length 0 7 _
 
-  -- a month within it
-  pub month-within : month < longest → discountsBy ρ (shiftedRates (getD yields month 0)) (suc month) ≡ monthFactors ρ yields longest month
-  unfolding discountsBy shiftedRates monthFactors factorAt
-  month-within h =
-      table-ext 7 (λ (s : ℕ). discountBy ρ (getD (shiftedRates (getD yields month 0)) s 0) (suc month)) (λ (s : ℕ). factorAt ρ yields longest (7 * month + s))
-      (λ s l. let e : (7 * month + s) / 7 ≡ month = omega arith in
-      let r : (7 * month + s) % 7 ≡ s = omega arith in
-      rw (table-getD 7 (λ (i : ℕ). shiftedRate i (getD yields month 0)) s 0 l, e, r, lt-ltb month longest h))
+discounts-at-most : (ρ : Rounding) (rates : List ℕ) (n : ℕ) → AtMost (10 ^ 9) (discountsBy ρ rates n)
+unfolding discountsBy
+discounts-at-most ρ rates n = table-le 0 7 _ (10 ^ 9) (λ i l u. discount-limit _ n ρ)
 
--- a list whose first m sevens are a table, with the next seven stored
-pub seven-stored : (f : ℕ → ℕ) (l seven : List ℕ) (m : ℕ) → length l ≡ 840 → m < 120 → take (7 * m) l ≡ table (7 * m) f
-    → seven ≡ table 7 (λ (s : ℕ). f (7 * m + s))
-    → take (7 * (m + 1)) (set (set (set (set (set (set (set l (7 * m) (getD seven 0 0)) (7 * m + 1) (getD seven 1 0)) (7 * m + 2) (getD seven 2 0))
-    (7 * m + 3) (getD seven 3 0)) (7 * m + 4) (getD seven 4 0)) (7 * m + 5) (getD seven 5 0)) (7 * m + 6) (getD seven 6 0))
-    ≡ table (7 * (m + 1)) f
-seven-stored f l seven m long h held e =
-    next 6 _ (7 * (m + 1)) (lit< tt) (simp length-set long) (omega arith)
-    (next 5 _ _ (lit< tt) (simp length-set long) (omega arith)
-    (next 4 _ _ (lit< tt) (simp length-set long) (omega arith)
-    (next 3 _ _ (lit< tt) (simp length-set long) (omega arith)
-    (next 2 _ _ (lit< tt) (simp length-set long) (omega arith)
-    (next 1 _ _ (lit< tt) (simp length-set long) (omega arith)
-    (table-stored f l (7 * m) (7 * m + 1) (getD seven 0 0) held (omega arith) refl (first ∙ ap f (omega arith))))))))
-  where
-    at : (s : ℕ) → s < 7 → getD seven s 0 ≡ f (7 * m + s)
-    at s u = rw e (table-getD 7 (λ (i : ℕ). f (7 * m + i)) s 0 u)
+module _ (ρ : Rounding) (yields : List ℕ) (longest : ℕ) where
+  -- a month has seven factors
+  pub month-length : (month : ℕ) → length (monthFactors ρ yields longest month) ≡ 7
+  unfolding monthFactors
+  month-length month = either (λ (l : List ℕ). length l ≡ 7) (ltb month longest) (discounts-length ρ _ (suc month)) refl
 
-    first : getD seven 0 0 ≡ f (7 * m + 0)
-    first = at 0 (lit< tt)
+  -- none is above 10^9
+  month-at-most : (month : ℕ) → AtMost (10 ^ 9) (monthFactors ρ yields longest month)
+  unfolding monthFactors
+  month-at-most month = either (AtMost (10 ^ 9)) (ltb month longest) (discounts-at-most ρ _ (suc month)) (entries-le (replicate 7 0) (10 ^ 9) tt)
 
-    next : (s : ℕ) (k : List ℕ) (more : ℕ) → s < 7 → length k ≡ 840 → more ≡ 7 * m + s + 1 → take (7 * m + s) k ≡ table (7 * m + s) f
-        → take more (set k (7 * m + s) (getD seven s 0)) ≡ table more f
-    next s k more u long e held = table-stored f k (7 * m + s) more (getD seven s 0) held (omega arith) e (at s u)
+  pub factors-at-most-par : AtMostPar (factorsBy ρ yields longest)
+  unfolding factorsBy
+  factors-at-most-par = joined-le 0 120 (monthFactors ρ yields longest) (10 ^ 9) (λ month i l u. month-at-most month i)
+
+  -- the factor of scenario s and month t + 1 within the longest term is the discount factor of the definitions
+  pub factor-is : (scenario t : ℕ) → scenario < 7 → t < 120 → t < longest
+      → listed (factorsBy ρ yields longest) scenario (suc t) ≡ discountFactorBy ρ (sheetYield yields scenario) (suc t)
+  unfolding listed factorsBy monthFactors discountsBy discountFactorBy sheetYield
+  factor-is scenario t hs ht hl =
+      let before : suc t - 1 ≡ t = omega arith in
+      rw (before, joined-getD 7 120 (monthFactors ρ yields longest) month-length t scenario 0 ht hs, lt-ltb t longest hl)
+      (table-getD 7 _ scenario 0 hs ∙ rw (shifted-at (getD yields t 0) scenario hs))

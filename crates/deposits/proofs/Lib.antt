@@ -1,3 +1,4 @@
 pub mod TermsLaws
 pub mod FactorLaws
 pub mod PriceLaws
+pub mod ValueLaws

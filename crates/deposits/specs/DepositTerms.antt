@@ -1,21 +1,32 @@
--- The terms of a deposit (01:49-55). Definitions only.
-use Prim.Native.Nat.{ℕ, _*_}
+-- The terms of a deposit (01:49-56) and the yields that discount it (01:48). Definitions only.
+use Prim.Native.Nat.{ℕ, _*_, _-_}
+use mathlib.Core.List.{List}
+use lib.ListN.{getD}
+use Rattle.schedule.specs.Shift.{shiftedRate}
 use Rattle.withdrawal.specs.Tiers.{TierTable}
 use Rattle.withdrawal.specs.MonthSurvival.{Account, retail, brokered, accountOf, monthSurvival}
 use Rattle.pricing.specs.Terms.{Terms}
 use Rattle.deposits.specs.declared.Deposit.{Deposit}
+
+-- a coupon's growth (01:56): a month's interest, in units of 1 / (3 × 10^9) of the balance, on a coupon in hundredths of a percent a year
+abbrev pub couponGrowth : ℕ → ℕ
+couponGrowth c = 25000 * c
 
 -- a (01:55): the month's servicing cost, billionths of the balance
 unfoldable pub servicingCost : Account → ℕ
 servicingCost retail = 175000
 servicingCost brokered = 19000
 
--- the terms of a deposit, with the tiers by which retail deposits are withdrawn
-unfoldable pub termsOf : TierTable → Deposit → Terms
-termsOf tiers d =
+-- the terms of a deposit at a shifted retail rate, with the tiers by which retail deposits are withdrawn
+unfoldable pub termsOf : TierTable → Deposit → ℕ → Terms
+termsOf tiers d rate =
     record {
-      growth = 25000 * d .coupon;
+      growth = couponGrowth (d .coupon);
       servicing = servicingCost (accountOf (d .brokered));
       months = d .months;
-      survival = monthSurvival tiers (accountOf (d .brokered)) (d .coupon) (d .penalty) (d .rate) (d .months);
+      survival = monthSurvival tiers (accountOf (d .brokered)) (d .coupon) (d .penalty) rate (d .months);
     }
+
+-- the shifted yield of a month, from 1 on, by a sheet of yields, hundredths of a percent a year
+unfoldable pub sheetYield : List ℕ → ℕ → ℕ → ℕ
+sheetYield yields scenario month = shiftedRate scenario (getD yields (month - 1) 0)

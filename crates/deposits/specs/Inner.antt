@@ -1,3 +1,4 @@
 -- Definitions for the contracts of inner functions. What the promise says does not rest on them.
-pub mod Prices
 pub mod Factors
+pub mod Prices
+pub mod Values

@@ -1,14 +1,13 @@
-// One deposit in a scenario: the discount factors, and its lower and upper price.
+// One deposit in each scenario: the discount factors, its lower and upper prices and values.
 pub mod factors;
-pub mod prices;
+mod prices;
+pub mod values;
 
-// A deposit as its cash flows see it: coupon and shifted retail rate in hundredths of a percent a year, penalty in hundredths of a month,
-// remaining months.
+// A deposit as its cash flows see it: coupon in hundredths of a percent a year, penalty in hundredths of a month, remaining months.
 pub struct Deposit {
     pub brokered: bool,
     pub coupon: u64,
     pub penalty: u64,
-    pub rate: u64,
     pub months: u64,
 }
 

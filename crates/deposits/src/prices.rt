@@ -1,30 +1,34 @@
 // The price of a deposit: its months walked once, with the lower and the upper run side by side.
 use crate::Bounds;
 use crate::Deposit;
+use crate::factors::FactorTable;
 use pricing::Run;
 use pricing::months::next_month;
 use withdrawal::WithdrawalTiers;
 use withdrawal::month_survival;
 ghost use mathlib.Core.Path.{_≡_};
-ghost use Prim.Native.Nat.{_+_, _<_};
+ghost use Prim.Native.Nat.{_<_, _≤_};
+ghost use Rattle.schedule.specs.Limits.{couponLimit};
+ghost use Rattle.schedule.specs.Shift.{scenarioCount, shiftedLimit};
 ghost use Rattle.withdrawal.specs.MonthSurvival.{accountOf};
 ghost use Rattle.withdrawal.specs.Inner.TierArrays.{tierTable, Usable};
-ghost use Rattle.deposits.specs.DepositTerms.{servicingCost};
+ghost use Rattle.deposits.specs.DepositTerms.{couponGrowth, servicingCost};
 ghost use Rattle.deposits.specs.Inner.Prices.{listedPrices, DepositLimits, AtMostPar};
 
-// Lower and upper price in billionths. Seven discount factors stand for each month, one for each scenario.
-pub fn price_of(
+// Lower and upper price in a scenario in billionths, at the scenario's retail rate in hundredths of a percent a year.
+pub(crate) fn price_of(
     d: Deposit,
+    rate: u64,
     tiers: WithdrawalTiers,
-    lower: &[u64; 840],
-    upper: &[u64; 840],
+    lower: &FactorTable,
+    upper: &FactorTable,
     scenario: usize,
 ) -> Bounds
-    requires { ⌜ DepositLimits d × Usable tiers × (scenario < 7) ⌝ }
+    requires { ⌜ DepositLimits d × (rate ≤ shiftedLimit) × Usable tiers × (scenario < scenarioCount) ⌝ }
     requires { ⌜ AtMostPar (now lower) × AtMostPar (now upper) ⌝ }
-    ensures { λ r. ⌜ r ≡ listedPrices (tierTable tiers) d (now (lower .entry)) (now (upper .entry)) scenario ⌝ }
+    ensures { λ r. ⌜ r ≡ listedPrices (tierTable tiers) d rate (now (lower .entry)) (now (upper .entry)) scenario ⌝ }
 {
-    let growth = 25000 * d.coupon;
+    let growth = coupon_growth(d.coupon);
     let servicing = servicing_cost(d.brokered);
     let months = d.months;
     let mut low = Run {
@@ -43,7 +47,7 @@ pub fn price_of(
             d.brokered,
             d.coupon,
             d.penalty,
-            d.rate,
+            rate,
             months,
             t + 1,
             tier,
@@ -60,6 +64,14 @@ pub fn price_of(
         lower: low.price,
         upper: high.price,
     }
+}
+
+// The month's interest on a coupon in units of 1 / (3 × 10^9) of the balance.
+fn coupon_growth(coupon: u64) -> u64
+    requires { ⌜ coupon ≤ couponLimit ⌝ }
+    ensures { λ r. ⌜ r ≡ couponGrowth coupon ⌝ }
+{
+    25000 * coupon
 }
 
 // The month's servicing cost in billionths of the balance.

@@ -16,9 +16,9 @@ use Rattle.records.specs.Items.{sameItem, recordItem, firstWith}
 use Rattle.records.specs.Faults.{incomplete, repeated, numberOver, overLimit}
 use Rattle.records.specs.RecordVerdicts.{firstFaulty, recordVerdict, recordsVerdict}
 use Rattle.filing.specs.declared.Contents.{Contents}
-use Rattle.filing.specs.Contents.{cellOffset, cellValue, sheetOffset, contentsOf, cell, cdYield, retailRate}
+use Rattle.filing.specs.Contents.{cellOffset, cellValue, sheetOffset, contentsOf, cellIn, cell, cdYield, retailRate}
 use Rattle.filing.specs.Conditions.{sheetMissing, monthsOutside, columnBalances, balances, aboveColumn, totalDiffers}
-use Rattle.filing.specs.Verdict.{sheetVerdict, positionVerdict, monthsVerdict, columnVerdict, columnsVerdict, totalVerdict, contentsVerdict, filingVerdict}
+use Rattle.filing.specs.Verdict.{sheetVerdict, positionVerdict, monthsVerdict, columnVerdict, columnsVerdict, totalVerdict, cellsVerdict, filingVerdict}
 
 -- n bytes of a number, the least first
 abbrev bytes : ℕ → ℕ → List ℕ
@@ -176,7 +176,7 @@ cases = shape-cases ++ cell-cases ++ sheet-cases ++ months-cases ++ column-cases
 
 -- every case holds
 verdicts-hold : map (λ (c : Case). filingVerdict (c .input)) cases ≡ map (λ (c : Case). c .verdict) cases
-unfolding numberAt nextRecord searchRecords firstRecord sheetOf sheetKinds sheetKind sheetLength dueLength sameItem recordItem firstWith incomplete repeated numberOver overLimit cellClass classLimit contains position positions brokeredCell penaltyBalanceCell penaltyMonthsCell unusedCells firstFaulty sheetOffset sheetMissing filingVerdict refused cellOffset cellValue contentsOf cell monthsOutside columnBalances balances aboveColumn totalDiffers sum those inColumn withinRow sheetVerdict positionVerdict monthsVerdict columnVerdict columnsVerdict totalVerdict contentsVerdict recordVerdict recordsVerdict accepted refusedIf firstRefusal firstOf tableFrom joined
+unfolding numberAt nextRecord searchRecords firstRecord sheetOf sheetKinds sheetKind sheetLength dueLength sameItem recordItem firstWith incomplete repeated numberOver overLimit cellClass classLimit contains position positions brokeredCell penaltyBalanceCell penaltyMonthsCell unusedCells firstFaulty sheetOffset sheetMissing filingVerdict refused cellOffset cellValue contentsOf cellIn monthsOutside columnBalances balances aboveColumn totalDiffers sum those inColumn withinRow sheetVerdict positionVerdict monthsVerdict columnVerdict columnsVerdict totalVerdict cellsVerdict recordVerdict recordsVerdict accepted refusedIf firstRefusal firstOf tableFrom joined
 verdicts-hold = refl
 
 -- what a filing says: cells that are present and absent, the ends of the yields and of the rates, and reads beyond them
@@ -188,7 +188,7 @@ contents-hold :
     ∷ cdYield sample 1 ∷ cdYield sample 120 ∷ cdYield sample 121 ∷ retailRate sample 1
     ∷ retailRate sample 3 ∷ []
     ≡ 0 ∷ 10 ∷ 0 ∷ 20 ∷ 0 ∷ 10 ∷ 1200 ∷ 0 ∷ 100 ∷ 300 ∷ []
-unfolding numberAt nextRecord searchRecords firstRecord sheetOf sheetKinds sheetKind sameItem recordItem firstWith cellClass contains position positions brokeredCell penaltyBalanceCell penaltyMonthsCell unusedCells cellOffset cellValue sheetOffset contentsOf cell cdYield retailRate tableFrom joined
+unfolding numberAt nextRecord searchRecords firstRecord sheetOf sheetKinds sheetKind sameItem recordItem firstWith cellClass contains position positions brokeredCell penaltyBalanceCell penaltyMonthsCell unusedCells cellOffset cellValue sheetOffset contentsOf cellIn cdYield retailRate tableFrom joined
 contents-hold = refl
 
 -- 10 comes before the verdict on the filing, at the list's length

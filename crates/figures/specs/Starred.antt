@@ -16,7 +16,7 @@ use Rattle.deposits.specs.DepositTerms.{termsOf}
 
 -- the terms of a deposit with coupon c, penalty p, retail rate r and T months, under the house's tiers
 unfoldable pub houseTerms : Bool → (c p r T : ℕ) → Terms
-houseTerms isBrokered c p r T = termsOf houseTiers (record { brokered = isBrokered; coupon = c; penalty = p; rate = r; months = T })
+houseTerms isBrokered c p r T = termsOf houseTiers (record { brokered = isBrokered; coupon = c; penalty = p; months = T }) r
 
 -- one yield in every month
 unfoldable pub flat : ℕ → ℕ → ℕ

@@ -1,76 +1,81 @@
-// The entries of the input.
-use crate::printing::print_entry;
-ghost use mathlib.Core.Path.{_≡_};
-ghost use Prim.Native.Nat.{_+_, _≤_, _<_};
-ghost use lib.ListN.{length};
-ghost use Rattle.records.specs.Bytes.{numberAt};
-ghost use Rattle.figures_test.specs.Entries.{entryAt};
+// The entries of standard input, and what is printed of each.
+use libc::STDIN_FILENO;
+use output::end_line;
+use output::next_number;
+use output::text;
+ghost use Prim.Native.Nat.{_<_};
 
-// An entry: the length of its list of numbers, and where its filing starts and ends.
-pub struct Entry {
-    pub numbers: usize,
-    pub start: usize,
-    pub end: usize,
-}
+// The longest input, a byte more than the listing takes.
+const ROOM: usize = 65537;
 
-// What stands at a place of the input: a whole entry, or none.
-pub enum Found {
-    Whole(Entry),
-    Nothing,
-}
+const MISSING: usize = 18446744073709551615;
 
-// Prints each entry, counted from 0. An incomplete last entry is left.
-pub fn print_entries(input: &[u8]) {
-    let mut at: usize = 0;
-    let mut i: u64 = 0;
-    while at < input.len() {
-        let Found::Whole(entry) = entry_at(input, at) else {
-            return;
-        };
-        let start = entry.start;
-        let end = entry.end;
-        print_entry(i, &input[start..end], entry.numbers);
-        at = end;
-        i += 1;
+// Prints each entry, counted from 0.
+pub fn print_entries() {
+    for i in 0..18446744073709551615 {
+        if !print_entry(i) {
+            break;
+        }
     }
 }
 
-// The entry at a place.
-fn entry_at(input: &[u8], at: usize) -> Found
-    ensures { λ r. ⌜ r ≡ entryAt (now (input .entry)) at ⌝ }
-{
-    if input.len() < 12 {
-        return Found::Nothing;
+// Prints entry i; false where there is none.
+fn print_entry(i: u64) -> bool {
+    let call = next_size();
+    let numbers = next_size();
+    let places = next_size();
+    let size = next_size();
+    if size == MISSING {
+        return false;
     }
-    if input.len() - 12 < at {
-        return Found::Nothing;
-    }
-    let start = at + 12;
-    let size = size_at(input, at + 8);
-    if input.len() - start < size {
-        return Found::Nothing;
-    }
-    let numbers = size_at(input, at);
-    Found::Whole(Entry {
-        numbers,
-        start,
-        end: start + size,
-    })
+    text(b"entry");
+    next_number(i);
+    end_line();
+    let mut room = [0u8; ROOM];
+    print_first(&mut room, size, call, numbers, places);
+    true
 }
 
-// The number that the 4 bytes from a place on spell.
-fn size_at(input: &[u8], at: usize) -> usize
-    requires { ⌜ at + 4 ≤ length (now input) ⌝ }
-    ensures { λ r. ⌜ r ≡ numberAt (now (input .entry)) at 4 ⌝ }
-{
-    wide(input[at])
-        + 256 * wide(input[at + 1])
-        + 65536 * wide(input[at + 2])
-        + 16777216 * wide(input[at + 3])
+// The number that the next 4 bytes spell, MISSING where there are fewer.
+fn next_size() -> usize {
+    let mut bytes = [0u8; 4];
+    let n = io::read_full(STDIN_FILENO, &mut bytes);
+    if n < 4 {
+        return MISSING;
+    }
+    wide(bytes[0]) + 256 * wide(bytes[1]) + 65536 * wide(bytes[2]) + 16777216 * wide(bytes[3])
 }
 
 fn wide(b: u8) -> usize
-    ensures { λ r. ⌜ (r ≡ b) × (r < 256) ⌝ }
+    ensures { λ r. ⌜ r < 256 ⌝ }
 {
     b as usize
+}
+
+// Reads an input of `size` bytes into the room and prints what the call answers on it. A larger one is left.
+fn print_first(room: &mut [u8], size: usize, call: usize, numbers: usize, places: usize) {
+    if size <= room.len() {
+        print_input(&mut room[..size], call, numbers, places);
+    }
+}
+
+fn print_input(input: &mut [u8], call: usize, numbers: usize, places: usize) {
+    let n = io::read_full(STDIN_FILENO, input);
+    print_call(&input[..n], call, numbers, places);
+}
+
+// Call 0 values the input with a list of `numbers` numbers and splits it into a list of `places` places; call 1 lists it.
+fn print_call(input: &[u8], call: usize, numbers: usize, places: usize) {
+    match call {
+        0 => {
+            crate::valuing::print_valuing(input, numbers);
+            crate::splitting::print_splitting(input, places);
+        }
+        1 => crate::listing::print_listing(input),
+        _ => {
+            text(b"no call");
+            next_number(call as u64);
+            end_line();
+        }
+    }
 }

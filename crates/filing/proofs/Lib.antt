@@ -1,8 +1,8 @@
-pub mod ContentsLaws
-pub mod ContentsRow
-pub mod ConditionLaws
-pub mod BalanceLaws
-pub mod ReadLaws
-pub mod VerdictLaws
 pub mod AcceptedLaws
+pub mod ConditionLaws
+pub mod ContentsLaws
+pub mod ReadLaws
 pub mod ReadingLaws
+pub mod SoundLaws
+pub mod SumLaws
+pub mod VerdictLaws

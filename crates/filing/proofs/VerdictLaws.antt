@@ -1,29 +1,29 @@
--- What the verdict of acceptance says of each condition: none of them holds.
+-- What the verdict of acceptance says: no record is faulty, no sheet is missing, and the cells keep 7 to 9.
 -- Assumes nothing.
-use Prim.Native.Nat.{ℕ, zero, suc, _+_, _%_, _≤_, _<_}
-use native.Mathlib.Nat.{not-suc-le-zero}
+use Prim.Native.Nat.{ℕ, _+_, _%_, _≤_, _<_}
 use native.Mathlib.Omega.{arith}
 use mathlib.Core.Path.{_≡_, sym, ap, _∙_}
-use mathlib.Core.Bool.{false}
+use mathlib.Core.Bool.{Bool, true, false, not, _&&_, true≢false}
 use mathlib.Core.List.{List}
-use lib.Dec.{lit<}
+use borrow.Author.Tests.{ltb-false, eqb-true, ne-eqb, not-false}
+use lib.Dec.{T, eqb}
 use lib.ListN.{length}
-use Rattle.schedule.specs.Cells.{positionAt, brokeredCell, penaltyBalanceCell, totalCell}
+use Rattle.lists.specs.Sums.{sum}
+use Rattle.schedule.specs.Cells.{positionAt, withinRow, totalCell}
 use Rattle.answers.specs.Verdict.{Verdict, accepted, firstRefusal}
 use Rattle.answers.proofs.VerdictLaws.{first-none, tried-none, condition-fails}
 use Rattle.records.specs.RecordVerdicts.{firstFaulty, recordsVerdict}
 use Rattle.records.proofs.ProgressLaws.{records-passed}
-use Rattle.filing.specs.declared.Contents.{Contents}
-use Rattle.filing.specs.Contents.{contentsOf}
-use Rattle.filing.specs.Conditions.{sheetMissing, monthsOutside, aboveColumn, totalDiffers}
-use Rattle.filing.specs.Verdict.{sheetVerdict, positionVerdict, monthsVerdict, columnVerdict, columnsVerdict, totalVerdict, contentsVerdict, filingVerdict, Accepted}
+use Rattle.filing.specs.Contents.{contentsOf, cellIn}
+use Rattle.filing.specs.Conditions.{sheetMissing, monthsOutside, columnBalances, balances, aboveColumn, totalDiffers}
+use Rattle.filing.specs.Verdict.{sheetVerdict, positionVerdict, monthsVerdict, columnVerdict, columnsVerdict, totalVerdict, cellsVerdict, contentsVerdict, filingVerdict, Accepted}
 use Rattle.filing.proofs.ConditionLaws.{monthsAt, columnsAt, months-in-turn, columns-in-turn}
 
 -- the conditions on an accepted filing, in their order
 pub record Passed (s : List ℕ) : Type 0 where
   pub none-faulty : firstFaulty s ≡ length s
   pub none-missing : sheetMissing s ≡ false
-  pub contents : contentsVerdict (contentsOf s) .number ≡ 0
+  pub cells : contentsVerdict (contentsOf s) .number ≡ 0
 
 pub accepted-passed : (s : List ℕ) → Accepted s → Passed s
 unfolding filingVerdict sheetVerdict accepted
@@ -34,48 +34,49 @@ accepted-passed s a =
     record {
       none-faulty = records-passed s (records .0);
       none-missing = condition-fails (sheetMissing s) 5 (length s) (rest .0);
-      contents = rest .1;
+      cells = rest .1;
     }
 
--- what holds of columns 1, 2 and 3 holds of each column
-by-column : (P : ℕ → Type 0) → P 1 → P 2 → P 3 → (j : ℕ) → 1 ≤ j → j ≤ 3 → P j
-by-column P a b c zero l u = absurd (not-suc-le-zero l)
-by-column P a b c (suc zero) l u = a
-by-column P a b c (suc (suc zero)) l u = b
-by-column P a b c (suc (suc (suc zero))) l u = c
-by-column P a b c (suc (suc (suc (suc n)))) l u = absurd (omega arith)
+-- months that are outside nowhere but without a balance
+within : (zero inside : Bool) → zero ≡ false → (not zero && not inside) ≡ false → T inside
+within true inside e h = absurd (true≢false e)
+within false true e h = tt
+within false false e h = absurd (true≢false h)
 
--- the conditions on what an accepted filing says, in their order
-pub record Consistent (k : Contents) : Type 0 where
-  pub months-inside : (i : ℕ) → i < 9 → monthsOutside k (positionAt i) ≡ false
-  pub brokered-below : (j : ℕ) → 1 ≤ j → j ≤ 3 → aboveColumn k j (brokeredCell j) ≡ false
-  pub penalized-below : (j : ℕ) → 1 ≤ j → j ≤ 3 → aboveColumn k j (penaltyBalanceCell j) ≡ false
-  pub total-same : totalDiffers k ≡ false
+module _ (cells : List ℕ) (passed : cellsVerdict cells .number ≡ 0) where
+  columns-passed : firstRefusal (columnsVerdict cells) (totalVerdict cells) .number ≡ 0
+  unfolding cellsVerdict
+  columns-passed = first-none (monthsVerdict cells) (firstRefusal (columnsVerdict cells) (totalVerdict cells)) passed .1
 
--- 7 holds at none of the nine positions, 8 at none of the six cells
-months-fail : (k : Contents) → monthsVerdict k .number ≡ 0 → (i : ℕ) → i < 9 → monthsOutside k (positionAt i) ≡ false
-unfolding positionVerdict
-months-fail k h i l =
-    condition-fails (monthsOutside k (positionAt i)) 6 (positionAt i .months)
-    (tried-none (monthsAt k) 9 (ap (λ (v : Verdict). v .number) (sym (months-in-turn k)) ∙ h) i l)
+  -- 7 holds at none of the nine positions
+  months-inside : (i : ℕ) → i < 9 → monthsOutside cells (positionAt i) ≡ false
+  unfolding cellsVerdict positionVerdict
+  months-inside i l =
+      let none = first-none (monthsVerdict cells) (firstRefusal (columnsVerdict cells) (totalVerdict cells)) passed .0 in
+      condition-fails (monthsOutside cells (positionAt i)) 6 (positionAt i .months)
+      (tried-none (monthsAt cells) 9 (ap (λ (v : Verdict). v .number) (sym (months-in-turn cells)) ∙ none) i l)
 
-columns-fail : (k : Contents) → columnsVerdict k .number ≡ 0 → (i : ℕ) → i < 6 → aboveColumn k (i % 3 + 1) (i + 650) ≡ false
-unfolding columnVerdict
-columns-fail k h i l =
-    condition-fails (aboveColumn k (i % 3 + 1) (i + 650)) 7 (i + 650)
-    (tried-none (columnsAt k) 6 (ap (λ (v : Verdict). v .number) (sym (columns-in-turn k)) ∙ h) i l)
+  -- so a balance has its months within its row
+  pub months-hold : (i : ℕ) → i < 9 → 0 < cellIn cells (positionAt i .balance)
+      → T (withinRow (positionAt i .row) (cellIn cells (positionAt i .months)))
+  unfolding monthsOutside
+  months-hold i l pos =
+      within (eqb (cellIn cells (positionAt i .balance)) 0) (withinRow (positionAt i .row) (cellIn cells (positionAt i .months)))
+      (ne-eqb (cellIn cells (positionAt i .balance)) 0 (λ e. omega arith)) (months-inside i l)
 
-pub contents-consistent : (k : Contents) → contentsVerdict k .number ≡ 0 → Consistent k
-unfolding contentsVerdict totalVerdict brokeredCell penaltyBalanceCell
-contents-consistent k h =
-    let months = first-none (monthsVerdict k) (firstRefusal (columnsVerdict k) (totalVerdict k)) h in
-    let columns = first-none (columnsVerdict k) (totalVerdict k) (months .1) in
-    let below = columns-fail k (columns .0) in
-    record {
-      months-inside = months-fail k (months .0);
-      brokered-below =
-          by-column (λ (j : ℕ). aboveColumn k j (brokeredCell j) ≡ false) (below 0 (lit< tt)) (below 1 (lit< tt)) (below 2 (lit< tt));
-      penalized-below =
-          by-column (λ (j : ℕ). aboveColumn k j (penaltyBalanceCell j) ≡ false) (below 3 (lit< tt)) (below 4 (lit< tt)) (below 5 (lit< tt));
-      total-same = condition-fails (totalDiffers k) 8 totalCell (columns .1);
-    }
+  -- 8 holds at none of cells 650 to 655: each is at most its column's sum
+  pub column-holds : (i : ℕ) → i < 6 → cellIn cells (i + 650) ≤ sum (columnBalances cells (i % 3 + 1))
+  unfolding columnVerdict aboveColumn
+  column-holds i l =
+      let none = first-none (columnsVerdict cells) (totalVerdict cells) columns-passed .0 in
+      ltb-false (sum (columnBalances cells (i % 3 + 1))) (cellIn cells (i + 650))
+      (condition-fails (aboveColumn cells (i % 3 + 1) (i + 650)) 7 (i + 650)
+      (tried-none (columnsAt cells) 6 (ap (λ (v : Verdict). v .number) (sym (columns-in-turn cells)) ∙ none) i l))
+
+  -- 9 does not hold: the total is the sum of the nine balances
+  pub total-holds : cellIn cells totalCell ≡ sum (balances cells)
+  unfolding totalVerdict totalDiffers
+  total-holds =
+      eqb-true (cellIn cells totalCell) (sum (balances cells))
+      (not-false (eqb (cellIn cells totalCell) (sum (balances cells)))
+      (condition-fails (totalDiffers cells) 8 totalCell (first-none (columnsVerdict cells) (totalVerdict cells) columns-passed .1)))

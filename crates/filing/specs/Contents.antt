@@ -1,9 +1,9 @@
 -- What a filing says: its cells, its CD yields and its retail rates (01:6-11). Definitions only.
 use Prim.Native.Nat.{ℕ, _-_}
-use mathlib.Core.Bool.{cond}
+use mathlib.Core.Bool.{cond, _&&_}
 use mathlib.Core.List.{List}
 use lib.ListN.{length, getD}
-use lib.Dec.{ltb}
+use lib.Dec.{leb, ltb}
 use Rattle.lists.specs.Tables.{tableFrom}
 use Rattle.records.specs.Records.{recordValue, sheetNumber}
 use Rattle.records.specs.declared.items.Item.the-variants.{Cell, Sheet}
@@ -31,9 +31,13 @@ contentsOf s =
       rates = tableFrom 1 3 (sheetNumber s (sheetOffset s 3));
     }
 
--- the value of a cell, 601 to 661; another number has none, and is 0
-unfoldable pub cell : Contents → ℕ → ℕ
-cell k n = cond (ltb n 601) 0 (getD (k .cells) (n - 601) 0)
+-- the value of a cell, 601 to 661, among the cells from 601 on; another number has none, and is 0
+unfoldable pub cellIn : List ℕ → ℕ → ℕ
+cellIn cells n = cond (leb 601 n && leb n 661) (getD cells (n - 601) 0) 0
+
+-- the value of a cell in what a filing says
+abbrev pub cell : Contents → ℕ → ℕ
+cell k n = cellIn (k .cells) n
 
 -- the secondary-market CD yield of a month, 1 to 120, hundredths of a percent a year
 unfoldable pub cdYield : Contents → ℕ → ℕ

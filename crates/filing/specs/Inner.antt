@@ -1,3 +1,2 @@
 -- Definitions for the contracts of inner functions. What a filing means does not rest on them.
-pub mod ContentsAt
-pub mod Balances
+pub mod Sums

@@ -4,19 +4,20 @@ use mathlib.Core.Path.{_≡_}
 use lib.Dec.{T}
 use Rattle.lists.specs.Sums.{sum}
 use Rattle.schedule.specs.Cells.{positionAt, withinRow, brokeredCell, penaltyBalanceCell, penaltyMonthsCell, totalCell}
+use Rattle.schedule.specs.Limits.{balanceLimit, couponLimit, monthsLimit, penaltyLimit, rateLimit}
 use Rattle.filing.specs.declared.Contents.{Contents}
 use Rattle.filing.specs.Contents.{cell, cdYield, retailRate}
 use Rattle.filing.specs.Conditions.{columnBalances, balances}
 
 -- i: one of the nine positions, 0 to 8; j: a column, 1 to 3; t: a month
 pub record Valid (k : Contents) : Type 0 where
-  pub balance-limit : (i : ℕ) → i < 9 → cell k (positionAt i .balance) ≤ 999999999
-  pub coupon-limit : (i : ℕ) → i < 9 → cell k (positionAt i .coupon) ≤ 1500
-  pub months-limit : (i : ℕ) → i < 9 → cell k (positionAt i .months) ≤ 120
+  pub balance-limit : (i : ℕ) → i < 9 → cell k (positionAt i .balance) ≤ balanceLimit
+  pub coupon-limit : (i : ℕ) → i < 9 → cell k (positionAt i .coupon) ≤ couponLimit
+  pub months-limit : (i : ℕ) → i < 9 → cell k (positionAt i .months) ≤ monthsLimit
   pub months-in-row : (i : ℕ) → i < 9 → 0 < cell k (positionAt i .balance) → T (withinRow (positionAt i .row) (cell k (positionAt i .months)))
-  pub penalty-limit : (j : ℕ) → 1 ≤ j → j ≤ 3 → cell k (penaltyMonthsCell j) ≤ 3600
-  pub brokered-within : (j : ℕ) → 1 ≤ j → j ≤ 3 → cell k (brokeredCell j) ≤ sum (columnBalances k j)
-  pub penalized-within : (j : ℕ) → 1 ≤ j → j ≤ 3 → cell k (penaltyBalanceCell j) ≤ sum (columnBalances k j)
-  pub total-is-sum : cell k totalCell ≡ sum (balances k)
-  pub yield-limit : (t : ℕ) → cdYield k t ≤ 2500
-  pub rate-limit : (j : ℕ) → retailRate k j ≤ 2500
+  pub penalty-limit : (j : ℕ) → 1 ≤ j → j ≤ 3 → cell k (penaltyMonthsCell j) ≤ penaltyLimit
+  pub brokered-within : (j : ℕ) → 1 ≤ j → j ≤ 3 → cell k (brokeredCell j) ≤ sum (columnBalances (k .cells) j)
+  pub penalized-within : (j : ℕ) → 1 ≤ j → j ≤ 3 → cell k (penaltyBalanceCell j) ≤ sum (columnBalances (k .cells) j)
+  pub total-is-sum : cell k totalCell ≡ sum (balances (k .cells))
+  pub yield-limit : (t : ℕ) → cdYield k t ≤ rateLimit
+  pub rate-limit : (j : ℕ) → retailRate k j ≤ rateLimit

@@ -1,18 +1,17 @@
-// The cells of what a filing says.
-use crate::Contents;
+// The cells of what a filing says, the values of cells 601 to 661.
 ghost use mathlib.Core.Path.{_≡_};
-ghost use Rattle.filing.specs.Contents.{cell};
+ghost use Rattle.filing.specs.Contents.{cellIn};
 
 // The value of a cell, 601 to 661; 0 for another number.
-pub fn cell_value(k: Contents, n: usize) -> u64
-    ensures { λ r. ⌜ r ≡ cell k n ⌝ }
+pub fn cell_value(cells: &[u64; 61], n: usize) -> u64
+    ensures { λ r. ⌜ r ≡ cellIn (now (cells .entry)) n ⌝ }
 {
     if n < 601 {
         return 0;
     }
-    let i = n - 601;
-    if 61 <= i {
+    if 661 < n {
         return 0;
     }
-    k.cells[i]
+    let i = n - 601;
+    cells[i]
 }

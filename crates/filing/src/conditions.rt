@@ -1,56 +1,54 @@
-// The conditions on what a filing says: refusals 7 to 9, in the paper's order.
-use crate::Contents;
+// What can be wrong with a filing whose records are sound: refusals 6 to 9, in the paper's order.
 use crate::cells::cell_value;
+use crate::sums::column_sums;
 use answers::Answer;
 use answers::first_refusal;
-use schedule::positions::balance_cell;
-use schedule::positions::column_of;
-use schedule::positions::least_months;
-use schedule::positions::months_cell;
-use schedule::positions::most_months;
+use records::KINDS;
+use schedule::Position;
+use schedule::positions::position;
+use schedule::positions::within_row;
 ghost use mathlib.Core.Path.{_≡_};
-ghost use Prim.Native.Nat.{_<_, _≤_};
-ghost use Rattle.lists.specs.Sums.{sum};
-ghost use Rattle.schedule.specs.Cells.{positions, positionAt};
-ghost use Rattle.answers.specs.Verdict.{accepted};
+ghost use lib.ListN.{length};
 ghost use Rattle.answers.specs.Answers.{verdictOf};
-ghost use Rattle.filing.specs.Conditions.{monthsOutside, columnBalances, aboveColumn, totalDiffers};
-ghost use Rattle.filing.specs.Verdict.{monthsVerdict, columnsVerdict, totalVerdict, contentsVerdict};
-ghost use Rattle.filing.specs.Inner.Balances.{positionCells, leftAfter};
+ghost use Rattle.records.specs.Inner.Notes.{notedBefore};
+ghost use Rattle.filing.specs.Conditions.{monthsOutside};
+ghost use Rattle.filing.specs.Verdict.{sheetVerdict, monthsVerdict, columnsVerdict, totalVerdict, cellsVerdict};
+ghost use Rattle.filing.specs.Inner.Sums.{BalancesWithin, columnSums};
 
-// One of the nine positions: the cells of its balance and its WARM, its column, and the least and the most months of its row.
-pub struct PositionCells {
-    pub balance: usize,
-    pub months: usize,
-    pub column: usize,
-    pub least: u64,
-    pub most: u64,
-}
-
-// What is left of an amount.
-pub enum Left {
-    Amount(u64),
-    Short,
-}
-
-// The answer on the contents of a filing.
-pub(crate) fn check_contents(k: Contents) -> Answer
-    ensures { λ r. ⌜ verdictOf r ≡ contentsVerdict k ⌝ }
+// 6, from where the sheets stand: one that is missing is noted at the input's length.
+pub(crate) fn check_sheets(s: &[u8], sheets: &[usize; KINDS]) -> Answer
+    requires { ⌜ now sheets ≡ notedBefore (now s) (length (now s)) .sheets ⌝ }
+    ensures { λ r. ⌜ verdictOf r ≡ sheetVerdict (now (s .entry)) ⌝ }
 {
-    let months = check_months(k);
-    let columns = check_columns(k);
-    let total = check_total(k);
+    if s.len() <= sheets[2] {
+        return Answer::SheetMissing(s.len());
+    }
+    if s.len() <= sheets[3] {
+        return Answer::SheetMissing(s.len());
+    }
+    Answer::Accepted
+}
+
+// 7 to 9, on the cells of a filing.
+pub(crate) fn check_cells(cells: &[u64; 61]) -> Answer
+    requires { ⌜ BalancesWithin (now cells) ⌝ }
+    ensures { λ r. ⌜ verdictOf r ≡ cellsVerdict (now (cells .entry)) ⌝ }
+{
+    let sums = column_sums(cells);
+    let months = check_months(cells);
+    let columns = check_columns(cells, &sums.totals);
+    let total = check_total(cells, &sums.totals);
     first_refusal(months, first_refusal(columns, total))
 }
 
 // 7, by ascending WARM cell.
-fn check_months(k: Contents) -> Answer
-    ensures { λ r. ⌜ verdictOf r ≡ monthsVerdict k ⌝ }
+fn check_months(cells: &[u64; 61]) -> Answer
+    ensures { λ r. ⌜ verdictOf r ≡ monthsVerdict (now (cells .entry)) ⌝ }
 {
     let mut i = 0;
     while i < 9 {
-        if months_outside(k, i) {
-            let p = position_cells(i);
+        let p = position(i);
+        if months_outside(cells, p) {
             return Answer::MonthsOutsideRow(p.months);
         }
         i += 1;
@@ -58,13 +56,26 @@ fn check_months(k: Contents) -> Answer
     Answer::Accepted
 }
 
+// A position has a balance, and its remaining months lie outside its row.
+fn months_outside(cells: &[u64; 61], p: Position) -> bool
+    ensures { λ r. ⌜ r ≡ monthsOutside (now (cells .entry)) p ⌝ }
+{
+    if cell_value(cells, p.balance) == 0 {
+        return false;
+    }
+    let months = cell_value(cells, p.months);
+    !within_row(p.row, months)
+}
+
 // 8, by ascending cell: the brokered balances 650 to 652, then the balances subject to penalty 653 to 655.
-fn check_columns(k: Contents) -> Answer
-    ensures { λ r. ⌜ verdictOf r ≡ columnsVerdict k ⌝ }
+fn check_columns(cells: &[u64; 61], totals: &[u64; 3]) -> Answer
+    requires { ⌜ now totals ≡ columnSums (now cells) .totals ⌝ }
+    ensures { λ r. ⌜ verdictOf r ≡ columnsVerdict (now (cells .entry)) ⌝ }
 {
     let mut i = 0;
     while i < 6 {
-        if above_column(k, i % 3 + 1, i + 650) {
+        let column = i % 3;
+        if totals[column] < cell_value(cells, i + 650) {
             return Answer::AboveColumnSum(i + 650);
         }
         i += 1;
@@ -73,89 +84,13 @@ fn check_columns(k: Contents) -> Answer
 }
 
 // 9, at the total.
-fn check_total(k: Contents) -> Answer
-    ensures { λ r. ⌜ verdictOf r ≡ totalVerdict k ⌝ }
+fn check_total(cells: &[u64; 61], totals: &[u64; 3]) -> Answer
+    requires { ⌜ BalancesWithin (now cells) × (now totals ≡ columnSums (now cells) .totals) ⌝ }
+    ensures { λ r. ⌜ verdictOf r ≡ totalVerdict (now (cells .entry)) ⌝ }
 {
-    if total_differs(k) {
-        Answer::TotalDiffers(645)
-    } else {
+    if cell_value(cells, 645) == totals[0] + totals[1] + totals[2] {
         Answer::Accepted
-    }
-}
-
-// A position has a balance, and its remaining months lie outside its row.
-fn months_outside(k: Contents, i: usize) -> bool
-    requires { ⌜ i < 9 ⌝ }
-    ensures { λ r. ⌜ r ≡ monthsOutside k (positionAt i) ⌝ }
-{
-    let p = position_cells(i);
-    if cell_value(k, p.balance) == 0 {
-        return false;
-    }
-    let months = cell_value(k, p.months);
-    if months < p.least {
-        return true;
-    }
-    p.most < months
-}
-
-// A cell is above the sum of a column's balances.
-fn above_column(k: Contents, column: usize, n: usize) -> bool
-    requires { ⌜ (601 ≤ n) × (n ≤ 661) ⌝ }
-    ensures { λ r. ⌜ r ≡ aboveColumn k column n ⌝ }
-{
-    match left_after(k, cell_value(k, n), column) {
-        Left::Amount(left) => 0 < left,
-        Left::Short => false,
-    }
-}
-
-// Cell 645 is not the sum of the nine balances.
-fn total_differs(k: Contents) -> bool
-    ensures { λ r. ⌜ r ≡ totalDiffers k ⌝ }
-{
-    let Left::Amount(a) = left_after(k, cell_value(k, 645), 1) else {
-        return true;
-    };
-    let Left::Amount(b) = left_after(k, a, 2) else {
-        return true;
-    };
-    let Left::Amount(c) = left_after(k, b, 3) else {
-        return true;
-    };
-    c != 0
-}
-
-// What is left of an amount once a column's balances are taken off it, one by one: no sum can wrap.
-fn left_after(k: Contents, amount: u64, column: usize) -> Left
-    ensures { λ r. ⌜ r ≡ leftAfter amount (sum (columnBalances k column)) ⌝ }
-{
-    let mut left = amount;
-    let mut i = 0;
-    while i < 9 {
-        let p = position_cells(i);
-        if p.column == column {
-            let balance = cell_value(k, p.balance);
-            if left < balance {
-                return Left::Short;
-            }
-            left -= balance;
-        }
-        i += 1;
-    }
-    Left::Amount(left)
-}
-
-// The positions, by ascending balance cell.
-fn position_cells(i: usize) -> PositionCells
-    requires { ⌜ i < 9 ⌝ }
-    ensures { λ r. ⌜ r ≡ positionCells (positionAt i) ⌝ }
-{
-    PositionCells {
-        balance: balance_cell(i),
-        months: months_cell(i),
-        column: column_of(i),
-        least: least_months(i),
-        most: most_months(i),
+    } else {
+        Answer::TotalDiffers(645)
     }
 }

@@ -3,15 +3,21 @@
 pub mod cells;
 mod conditions;
 mod decode;
+pub mod sums;
 
-use crate::conditions::check_contents;
-use crate::decode::contents_at;
+use crate::conditions::check_cells;
+use crate::conditions::check_sheets;
+use crate::decode::contents_of;
 use answers::Answer;
 use answers::number;
+use records::items::Noted;
 use records::scan::scan;
 ghost use mathlib.Core.Path.{_≡_};
+ghost use lib.ListN.{length};
 ghost use Rattle.answers.specs.Answers.{verdictOf};
-ghost use Rattle.filing.specs.Verdict.{filingVerdict};
+ghost use Rattle.records.specs.RecordVerdicts.{recordsVerdict};
+ghost use Rattle.records.specs.Inner.Notes.{notedBefore};
+ghost use Rattle.filing.specs.Verdict.{sheetVerdict, filingVerdict};
 ghost use Rattle.filing.specs.Readings.{readContents, emptyContents};
 
 // The answer on a filing, and what the filing says: on a refusal all numbers are 0.
@@ -31,32 +37,35 @@ pub fn read(filing: &[u8]) -> Reading
         return refusal(records);
     }
     let noted = scanned.noted;
-    if filing.len() <= noted.sheets[2] {
-        return refusal(Answer::SheetMissing(filing.len()));
+    let sheets = check_sheets(filing, &noted.sheets);
+    if number(sheets) != 0 {
+        return refusal(sheets);
     }
-    if filing.len() <= noted.sheets[3] {
-        return refusal(Answer::SheetMissing(filing.len()));
-    }
-    let contents = contents_at(filing, noted);
-    let answer = check_contents(contents);
+    read_contents(filing, noted)
+}
+
+// Reads what a filing says whose records are sound and whose sheets are there.
+fn read_contents(filing: &[u8], noted: Noted) -> Reading
+    requires { ⌜ (recordsVerdict (now filing) .number ≡ 0) × (sheetVerdict (now filing) .number ≡ 0) ⌝ }
+    requires { ⌜ noted ≡ notedBefore (now filing) (length (now filing)) ⌝ }
+    ensures { λ r. ⌜ (verdictOf (r .answer) ≡ filingVerdict (now (filing .entry))) × (r .contents ≡ readContents (now (filing .entry))) ⌝ }
+{
+    let contents = contents_of(filing, noted);
+    let answer = check_cells(&contents.cells);
     if number(answer) != 0 {
         return refusal(answer);
     }
     Reading { answer, contents }
 }
 
-// The reading of a refused filing.
+// The reading of a refused filing: its contents are those of an empty one.
 fn refusal(answer: Answer) -> Reading
     ensures { λ r. ⌜ (r .answer ≡ answer) × (r .contents ≡ emptyContents) ⌝ }
 {
-    Reading {
-        answer,
-        contents: Contents {
-            cells: [0; 61],
-            yields: [0; 120],
-            rates: [0; 3],
-        },
-    }
+    let empty = b"";
+    let scanned = scan(empty);
+    let contents = contents_of(empty, scanned.noted);
+    Reading { answer, contents }
 }
 
 // What an accepted filing says: the values of cells 601 to 661, the CD yields of months 1 to 120 and the retail rates of columns 1 to 3.
@@ -65,4 +74,10 @@ pub struct Contents {
     pub cells: [u64; 61],
     pub yields: [u16; 120],
     pub rates: [u16; 3],
+}
+
+// The sums of columns 1 to 3, and of the rows above each of the nine positions in its column, in thousands of dollars.
+pub struct ColumnSums {
+    pub totals: [u64; 3],
+    pub above: [u64; 9],
 }

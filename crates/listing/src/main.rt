@@ -1,20 +1,13 @@
-// Reads a filing of up to 65,536 bytes from standard input and prints a line for each scenario: its shift, then short lower, short upper, long
-// lower and long upper total in dollars. A refusal prints its number and place.
+// Reads a filing from standard input and prints its listing: a line for each scenario, the line of a refusal, or `too long`. One byte more than the
+// 65,536 of a filing is read, so that a longer input shows.
 use libc::STDIN_FILENO;
+use libc::STDOUT_FILENO;
+use listing_text::write_listing;
 
 fn main() {
     let mut input = [0u8; 65537];
     let n = io::read_full(STDIN_FILENO, &mut input);
-    if 65536 < n {
-        output::text(b"too long\n");
-        return;
-    }
-    let mut numbers = [0u64; 568];
-    let answer = valuation::value(&input[..n], &mut numbers);
-    let refused = answers::number(answer);
-    if refused == 0 {
-        output::scenario_lines(b"", &numbers);
-    } else {
-        output::refusal(refused, answers::place(answer) as u64);
-    }
+    let mut text = [0u8; 623];
+    let size = write_listing(&input[..n], &mut text);
+    io::write_all(STDOUT_FILENO, &text[..size]);
 }

@@ -1,5 +1,6 @@
 pub mod EachLaws
 pub mod FillLaws
+pub mod RunLaws
 pub mod SumLaws
 pub mod TableLaws
 pub mod TestLaws

@@ -3,11 +3,13 @@ use Prim.Native.Nat.{ℕ, zero, suc, _+_, _*_, _≤_, _<_}
 use mathlib.Core.Path.{_≡_, refl}
 use mathlib.Core.Bool.{Bool, true, false, cond, not}
 use mathlib.Core.List.{List, [], _∷_}
-use native.Mathlib.Nat.{suc-add, lt-suc-self, lt-trans}
+use native.Mathlib.Nat.{add-zero, add-suc, suc-add, lt-suc-self, lt-trans}
+use native.Mathlib.Numerals.{add-one}
 use native.Mathlib.Omega.{arith}
 use lib.ListN.{getD, take}
 use lib.Seq.{take-nil}
 use Rattle.lists.specs.Sums.{sum, sumWhere, everywhere}
+use Rattle.lists.specs.Tables.{tableFrom}
 
 -- an element is at most the sum
 pub sum-getD-le : (xs : List ℕ) (i : ℕ) → getD xs i 0 ≤ sum xs
@@ -29,6 +31,15 @@ unfolding sum
 sum-take-le [] i = rw take-nil (omega arith)
 sum-take-le (x ∷ xs) zero = omega arith
 sum-take-le (x ∷ xs) (suc i) = omega (arith, sum-take-le xs i)
+
+sum-table : (s n : ℕ) (f : ℕ → ℕ) → sum (tableFrom s (suc n) f) ≡ sum (tableFrom s n f) + f (s + n)
+unfolding sum tableFrom
+sum-table s zero f = let e : s + 0 ≡ s = add-zero s in rw e (omega arith)
+sum-table s (suc n) f = rw (add-suc, ← suc-add) (omega (arith, sum-table (suc s) n f))
+
+-- the sum of a table of one entry more
+pub sum-table-suc : (s n : ℕ) (f : ℕ → ℕ) → sum (tableFrom s (n + 1) f) ≡ sum (tableFrom s n f) + f (s + n)
+sum-table-suc s n f = rw add-one (sum-table s n f)
 
 -- functions that agree have the same sum
 pub sumWhere-ext : (test : ℕ → Bool) (f g : ℕ → ℕ) (n : ℕ) → ((i : ℕ) → i < n → f i ≡ g i) → sumWhere test f n ≡ sumWhere test g n

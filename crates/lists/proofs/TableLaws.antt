@@ -1,7 +1,7 @@
 -- Laws of tables and of lists joined one after the other: their lengths, and what stands at a place. Assumes nothing.
 use Prim.Native.Nat.{ℕ, zero, suc, _+_, _*_, _≤_, _<_}
 use mathlib.Core.Path.{_≡_, refl, ap, sym, _∙_}
-use mathlib.Core.List.{List, [], _∷_, _++_}
+use mathlib.Core.List.{List, [], _∷_, _++_, append-assoc, append-nil}
 use native.Mathlib.Nat.{not-suc-le-zero, le-of-suc-le-suc, add-zero, zero-add, add-suc, suc-add, mul-zero, mul-suc}
 use native.Mathlib.Numerals.{add-one}
 use native.Mathlib.Omega.{arith}
@@ -72,9 +72,35 @@ module _ {ℓ} {A : Type ℓ} where
       → getD (joined (table n f)) (m * i + r) d ≡ getD (f i) r d
   joined-getD m n f h i r d hi hr = joinedFrom-getD m 0 n f h i r d hi hr ∙ ap (λ (j : ℕ). getD (f j) r d) (zero-add i)
 
+module _ {ℓ} {A : Type ℓ} where
+  joined-append : (ls ms : List (List A)) → joined (ls ++ ms) ≡ joined ls ++ joined ms
+  unfolding joined
+  joined-append [] ms = refl
+  joined-append (l ∷ ls) ms = rw (joined-append ls ms, append-assoc)
+
+  -- the lists of a table joined, with one more behind them
+  pub joined-suc : (n : ℕ) (f : ℕ → List A) → joined (table (n + 1) f) ≡ joined (table n f) ++ f n
+  unfolding joined
+  joined-suc n f = rw (add-one, tableFrom-suc 0 n f, joined-append, zero-add, append-nil)
+
 -- what bounds each value of the function bounds each read, also one past the end, which gives 0
 pub table-le : (s n : ℕ) (f : ℕ → ℕ) (limit : ℕ) → ((j : ℕ) → s ≤ j → j < s + n → f j ≤ limit) → (i : ℕ) → getD (tableFrom s n f) i 0 ≤ limit
 unfolding tableFrom
 table-le s zero f limit h i = omega arith
 table-le s (suc n) f limit h zero = h s (omega arith) (omega arith)
 table-le s (suc n) f limit h (suc i) = table-le (suc s) n f limit (λ j l u. h j (omega arith) (omega arith)) i
+
+-- what bounds each read of two lists bounds each read of them together
+append-le : (xs ys : List ℕ) (limit : ℕ) → ((i : ℕ) → getD xs i 0 ≤ limit) → ((i : ℕ) → getD ys i 0 ≤ limit) → (i : ℕ) → getD (xs ++ ys) i 0 ≤ limit
+append-le [] ys limit hx hy i = hy i
+append-le (x ∷ xs) ys limit hx hy zero = hx 0
+append-le (x ∷ xs) ys limit hx hy (suc i) = append-le xs ys limit (λ j. hx (suc j)) hy i
+
+-- and so of all lists of a table, joined
+pub joined-le : (s n : ℕ) (f : ℕ → List ℕ) (limit : ℕ) → ((j i : ℕ) → s ≤ j → j < s + n → getD (f j) i 0 ≤ limit)
+    → (i : ℕ) → getD (joined (tableFrom s n f)) i 0 ≤ limit
+unfolding tableFrom joined
+joined-le s zero f limit h i = omega arith
+joined-le s (suc n) f limit h i =
+    append-le (f s) (joined (tableFrom (suc s) n f)) limit (λ j. h s j (omega arith) (omega arith))
+    (joined-le (suc s) n f limit (λ j k l u. h j k (omega arith) (omega arith))) i

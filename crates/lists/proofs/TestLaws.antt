@@ -1,8 +1,9 @@
--- A test over a range of numbers, or over all entries of a list, is computed once and carried to each of them. Assumes nothing.
+-- A test over a range of numbers, or over all entries of a list, is computed once and carried to each of them; what is chosen by a test.
+-- Assumes nothing.
 use Prim.Native.Nat.{ℕ, zero, suc, _+_, _-_, _≤_, _<_, zero-le}
 use mathlib.Core.Path.{_≡_, refl, sym, subst, _∙_}
 use mathlib.Core.Logic.{⊎-elim}
-use mathlib.Core.Bool.{Bool, true, false, _&&_, _||_, true≢false}
+use mathlib.Core.Bool.{Bool, true, false, cond, _&&_, _||_, true≢false}
 use mathlib.Core.List.{List, [], _∷_}
 use native.Mathlib.Nat.{add-zero, suc-add, add-suc, le-of-suc-le-suc, not-suc-le-zero, eq-or-lt-of-le}
 use native.Mathlib.Numerals.{add-one}
@@ -15,6 +16,11 @@ use Rattle.lists.specs.Tables.{anyBelow}
 pub both : (a b : Bool) → T (a && b) → T a × T b
 both true b t = (tt, t)
 both false b t = absurd t
+
+-- what holds of both holds of either
+pub either {ℓ} : {A : Type ℓ} (P : A → Type 0) (b : Bool) {x y : A} → P x → P y → P (cond b x y)
+either P true hx hy = hx
+either P false hx hy = hy
 
 -- the test passes at i, i + 1, .., n of them
 unfoldable pub allFrom : ℕ → ℕ → (ℕ → Bool) → Bool

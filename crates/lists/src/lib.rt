@@ -1,1 +1,17 @@
-// Sums, tables and tests over lists. Definitions and laws only: nothing runs here.
+// Sums and tables of lists as definitions and laws; a run of numbers written into a list.
+ghost use mathlib.Core.Path.{_≡_};
+ghost use Prim.Native.Nat.{_+_, _≤_};
+ghost use lib.ListN.{length};
+ghost use Rattle.lists.specs.Runs.{written};
+
+// Writes the numbers of `run` into `list` from place `at` on. The rest of the list is left as it was.
+pub fn write(list: &mut [u64], at: usize, run: &[u64])
+    requires { ⌜ at + length (now run) ≤ length (now list) ⌝ }
+    ensures { λ _. ⌜ now (list .exit) ≡ written (now (list .entry)) at (now (run .entry)) ⌝ }
+{
+    let mut i: usize = 0;
+    while i < run.len() {
+        list[at + i] = run[i];
+        i += 1;
+    }
+}

@@ -7,7 +7,7 @@ pub fn text(s: &[u8]) {
 }
 
 // A number in decimal.
-pub fn number(n: u64) {
+fn number(n: u64) {
     io::print_decimal(STDOUT_FILENO, n);
 }
 
@@ -26,7 +26,7 @@ pub fn refusal(refused: u64, place: u64) {
 }
 
 // The shift of a scenario, 0 to 6, in hundredths of a percent.
-pub fn shift(scenario: u64) {
+fn shift(scenario: u64) {
     if scenario < 3 {
         text(b"-");
         number(100 * (3 - scenario));

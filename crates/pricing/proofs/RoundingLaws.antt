@@ -1,7 +1,7 @@
 -- Laws of the rounded quotient. Assumes nothing.
 use Prim.Native.Nat.{ℕ, _+_, _*_, _-_, _≤_, _<_}
 use mathlib.Core.Path.{_≡_}
-use native.Mathlib.Nat.{le-trans, le-of-suc-le-suc, le-of-mul-le-mul-right, lt-of-mul-lt-mul-right, div-mul-le-self, lt-div-mul-add, zero-mul, zero-div}
+use native.Mathlib.Nat.{le-trans, le-of-suc-le-suc, le-of-mul-le-mul-right, lt-of-mul-lt-mul-right, div-mul-le-self, lt-div-mul-add}
 use native.Mathlib.Omega.{arith}
 use Rattle.pricing.specs.Rounding.{Rounding, down, up, quotient}
 
@@ -22,10 +22,6 @@ ceiling-ge n d pos = omega (arith, lt-div-mul-add {a = n + (d - 1)} pos)
 pub ceiling-lt : (n d : ℕ) → 0 < d → quotient up n d * d < n + d
 unfolding quotient
 ceiling-lt n d pos = omega (arith, div-mul-le-self (n + (d - 1)) d)
-
-pub floor-zero : (m d : ℕ) → quotient down (0 * m) d ≡ 0
-unfolding quotient
-floor-zero m d = rw (zero-mul, zero-div)
 
 -- a quotient of at most d × m is at most m, at either rounding
 pub quotient-le : (ρ : Rounding) (n d m : ℕ) → 0 < d → n ≤ m * d → quotient ρ n d ≤ m

@@ -1,8 +1,9 @@
 -- The run as a state: where it begins, one month on, and that each month of a deposit within the limits fits 64 bits. Assumes nothing.
-use Prim.Native.Nat.{ℕ, zero, suc, _^_, _≤_, _<_}
+use Prim.Native.Nat.{ℕ, zero, suc, _≤_, _<_}
 use mathlib.Core.Path.{_≡_, refl}
 use lib.Dec.{eqb}
 use native.Mathlib.Nat.{le-of-lt, le-trans, lt-trans, lt-suc-self}
+use Rattle.pricing.specs.Scales.{par}
 use Rattle.pricing.specs.Terms.{Terms}
 use Rattle.pricing.specs.Bounded.{Bounded}
 use Rattle.pricing.specs.Rounding.{Rounding}
@@ -25,8 +26,8 @@ run-ext ρ k df df′ zero h = refl
 run-ext ρ k df df′ (suc n) h =
     rw (run-ext ρ k df df′ n (λ t l. h t (lt-trans l (lt-suc-self n))), h n (lt-suc-self n))
 
--- the sizes of a month, with discount factors of at most 10^9
-pub run-small : (ρ : Rounding) (k : Terms) (df : ℕ → ℕ) → Bounded k → ((t : ℕ) → df t ≤ 10 ^ 9) → (t : ℕ) → t < k .months
+-- the sizes of a month, with discount factors of at most par
+pub run-small : (ρ : Rounding) (k : Terms) (df : ℕ → ℕ) → Bounded k → ((t : ℕ) → df t ≤ par) → (t : ℕ) → t < k .months
     → Small (runBy ρ k df t) (k .growth) (k .servicing) (k .survival (suc t)) (df (suc t))
 unfolding runBy
 run-small ρ k df b hd t h =

@@ -1,3 +1,4 @@
+pub mod Scales
 pub mod Terms
 pub mod Exact
 pub mod Rounding

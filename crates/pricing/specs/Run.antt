@@ -1,19 +1,20 @@
 -- The whole-number run of a deposit (01:60), once over the rounding: down gives the lower figures, up the upper ones. Definitions only.
 -- Balances, flows, discount factors and the price are in billionths. z t is the shifted CD yield of month t (01:49), hundredths of a percent a year.
-use Prim.Native.Nat.{ℕ, zero, suc, _+_, _*_, _-_, _^_}
+use Prim.Native.Nat.{ℕ, zero, suc, _+_, _*_, _-_}
 use mathlib.Core.Bool.{cond}
 use lib.Dec.{eqb}
+use Rattle.pricing.specs.Scales.{par, rateScale, valueScale}
 use Rattle.pricing.specs.Terms.{Terms}
 use Rattle.pricing.specs.Rounding.{Rounding, quotient}
 
 -- B_t, rounded once a month
 unfoldable pub balanceBy : Rounding → Terms → ℕ → ℕ
-balanceBy ρ k zero = 10 ^ 9
-balanceBy ρ k (suc t) = quotient ρ (balanceBy ρ k t * (k .growth + 3 * k .survival (suc t))) (3 * 10 ^ 9)
+balanceBy ρ k zero = par
+balanceBy ρ k (suc t) = quotient ρ (balanceBy ρ k t * (k .growth + 3 * k .survival (suc t))) (3 * par)
 
 -- servicing and early withdrawals of month t + 1, rounded once
 unfoldable pub outflowBy : Rounding → Terms → ℕ → ℕ
-outflowBy ρ k t = quotient ρ (balanceBy ρ k t * (k .servicing + 10 ^ 9 - k .survival (suc t))) (10 ^ 9)
+outflowBy ρ k t = quotient ρ (balanceBy ρ k t * (k .servicing + par - k .survival (suc t))) par
 
 -- flow of month t + 1: in month T the balance, already rounded, is added
 unfoldable pub flowBy : Rounding → Terms → ℕ → ℕ
@@ -21,8 +22,8 @@ flowBy ρ k t = outflowBy ρ k t + cond (eqb (suc t) (k .months)) (balanceBy ρ 
 
 -- a discount factor after n factors of the same yield, rounded after each
 unfoldable pub discountBy : Rounding → ℕ → ℕ → ℕ
-discountBy ρ z zero = 10 ^ 9
-discountBy ρ z (suc n) = quotient ρ (discountBy ρ z n * 120000) (120000 + z)
+discountBy ρ z zero = par
+discountBy ρ z (suc n) = quotient ρ (discountBy ρ z n * rateScale) (rateScale + z)
 
 -- df of month t: month t's own yield in all of its t factors
 unfoldable pub discountFactorBy : Rounding → (ℕ → ℕ) → ℕ → ℕ
@@ -31,7 +32,7 @@ discountFactorBy ρ z t = discountBy ρ (z t) t
 -- the sum over months 1 to t of flow × df / 10^9, each product rounded
 unfoldable pub discountedBy : Rounding → Terms → (ℕ → ℕ) → ℕ → ℕ
 discountedBy ρ k df zero = 0
-discountedBy ρ k df (suc t) = discountedBy ρ k df t + quotient ρ (flowBy ρ k t * df (suc t)) (10 ^ 9)
+discountedBy ρ k df (suc t) = discountedBy ρ k df t + quotient ρ (flowBy ρ k t * df (suc t)) par
 
 -- the price: all T months, by their discount factors
 unfoldable pub priceBy : Rounding → Terms → (ℕ → ℕ) → ℕ
@@ -39,4 +40,4 @@ priceBy ρ k z = discountedBy ρ k (discountFactorBy ρ z) (k .months)
 
 -- value in dollars of a balance in thousands of dollars, rounded at the end
 unfoldable pub valueBy : Rounding → ℕ → Terms → (ℕ → ℕ) → ℕ
-valueBy ρ balance k z = quotient ρ (balance * priceBy ρ k z) (10 ^ 6)
+valueBy ρ balance k z = quotient ρ (balance * priceBy ρ k z) valueScale

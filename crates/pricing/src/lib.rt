@@ -1,7 +1,10 @@
 // Prices of certificate deposits by the monthly run, at either rounding.
 pub mod discounting;
 pub mod months;
-pub mod rounding;
+mod rounding;
+
+// The opening balance, and the scale of balances, flows, survivals, discount factors and prices: billionths.
+pub const PAR: u64 = 1_000_000_000;
 
 // The run after some months, in billionths of the opening balance: what is left, and the discounted flows so far.
 pub struct Run {

@@ -80,17 +80,12 @@ module _ (s : List ℕ) (at : ℕ) where
   unfolding recordVerdict firstOf
   verdict-rows = rw (last-row (unsoundTiers s at) 10 at) (simp first-assoc)
 
-  -- 1 does not hold: the record lies within the bytes, with room for its kind
-  pub record Within : Type 0 where
-    pub begins : at + 2 ≤ length s
-    pub ends : nextRecord s at ≤ length s
-
-  pub complete-within : incomplete s at ≡ false → Within
+  -- 1 does not hold: the record ends within the bytes
+  pub complete-ends : incomplete s at ≡ false → nextRecord s at ≤ length s
   unfolding incomplete
-  complete-within h =
-      let h1 = neither (ltb (length s) (at + 2)) (ltb (recordLength s at) 2 || ltb (length s) (nextRecord s at)) h in
-      let h2 = neither (ltb (recordLength s at) 2) (ltb (length s) (nextRecord s at)) (h1 .1) in
-      record { begins = ltb-false (length s) (at + 2) (h1 .0); ends = ltb-false (length s) (nextRecord s at) (h2 .1) }
+  complete-ends h =
+      let rest = neither (ltb (length s) (at + 2)) (ltb (recordLength s at) 2 || ltb (length s) (nextRecord s at)) h .1 in
+      ltb-false (length s) (nextRecord s at) (neither (ltb (recordLength s at) 2) (ltb (length s) (nextRecord s at)) rest .1)
 
   -- 2 does not hold: the length is the kind's
   shaped-length : misshapen s at ≡ false → recordLength s at ≡ dueLength s at
@@ -163,7 +158,7 @@ module _ (s : List ℕ) (at : ℕ) where
   faultless-sound h =
       let f = faultless h in
       record {
-        complete = complete-within (f .complete) .ends;
+        complete = complete-ends (f .complete);
         shaped = shaped-length (f .shaped);
         value-limit = value-within (f .limited);
         number-limit = numbers-within (f .limited);

@@ -1,6 +1,6 @@
 -- What a record is one of: which records are of a cell and which of a sheet, and when two items are the same.
 -- Assumes nothing.
-use Prim.Native.Nat.{ℕ, _≤_, _<_}
+use Prim.Native.Nat.{ℕ, _+_, _≤_, _<_}
 use native.Mathlib.Omega.{arith}
 use mathlib.Core.Path.{_≡_, refl, sym, ap}
 use mathlib.Core.Bool.{Bool, true, false, cond, true≢false}
@@ -15,6 +15,7 @@ use Rattle.records.specs.declared.items.Item.the-variants.{Cell, Sheet, 
 use Rattle.records.specs.Records.{recordKind, recordCell}
 use Rattle.records.specs.Kinds.{kindCount, sheetOf, sheetKinds, sheetKind, sheetLength, tiersKind, dueLength}
 use Rattle.records.specs.Items.{sameItem, recordItem, firstWith}
+use Rattle.records.specs.Inner.Notes.{firstCell, cellCount}
 use Rattle.records.proofs.RecordLaws.{first-passes}
 
 -- the same item is the one item
@@ -63,8 +64,8 @@ kind-known s at h = by (ltb (recordKind s at) kindCount) refl
 pub record OfCell (s : List ℕ) (at cell : ℕ) : Type 0 where
   pub kind-is : recordKind s at ≡ 1
   pub cell-is : recordCell s at ≡ cell
-  pub from-601 : 601 ≤ cell
-  pub to-661 : cell ≤ 661
+  pub from-first : firstCell ≤ cell
+  pub to-last : cell < firstCell + cellCount
 
 -- a record of a sheet: it is of that kind, which is one of the kinds
 pub record OfSheet (s : List ℕ) (at kind : ℕ) : Type 0 where
@@ -83,7 +84,7 @@ module _ (s : List ℕ) (at : ℕ) where
   of-cell cell true false none a b e =
       let is : recordCell s at ≡ cell = cc in
       let listed = class-listed (recordCell s at) (eqb-false (cellClass (recordCell s at)) 0 b) in
-      record { kind-is = eqb-true (recordKind s at) 1 a; cell-is = is; from-601 = omega (arith, listed .0); to-661 = omega (arith, listed .1) }
+      record { kind-is = eqb-true (recordKind s at) 1 a; cell-is = is; from-first = omega (arith, listed .0); to-last = omega (arith, listed .1) }
   of-cell cell false off true a b e = let z : _≡_ {A = ℕ} 0 1 = cc in absurd (omega arith)
   of-cell cell false off false a b e = let z : _≡_ {A = ℕ} 0 1 = cc in absurd (omega arith)
 

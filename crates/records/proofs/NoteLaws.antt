@@ -79,7 +79,7 @@ module _ (s : List ℕ) where
       → ltb (getD (notedBefore s at .cells) (cell - firstCell) 0) (length s) ≡ repeated s at
   cell-repeated at cell l is =
       let r = record-of-cell s at cell is in
-      rw (noted-cell at cell (omega (arith, r .from-601)) (omega (arith, r .to-661))) (offset-repeated at (Cell cell) l is)
+      rw (noted-cell at cell (r .from-first) (r .to-last)) (offset-repeated at (Cell cell) l is)
 
   pub sheet-repeated : (at kind : ℕ) → at ≤ length s → recordItem s at ≡ Sheet kind
       → ltb (getD (notedBefore s at .sheets) kind 0) (length s) ≡ repeated s at
@@ -136,9 +136,9 @@ module _ (s : List ℕ) (at : ℕ) (reached : Reached s 0 at) where
       by : (item : Item) → recordItem s at ≡ item → noteItem (notedBefore s at) item at ≡ notedBefore s (nextRecord s at)
       by (Cell cell) e =
           let r = record-of-cell s at cell e in
-          let i : firstCell + (cell - firstCell) ≡ cell = omega (arith, r .from-601) in
+          let i : firstCell + (cell - firstCell) ≡ cell = omega (arith, r .from-first) in
           noted-eq (table-same 0 kindCount _ _ (λ k l u. noted-stays (Sheet k) (rw e)))
-          (table-set firstCell cellCount _ _ (cell - firstCell) at (omega (arith, r .from-601, r .to-661))
+          (table-set firstCell cellCount _ _ (cell - firstCell) at (omega (arith, r .from-first, r .to-last))
           (rw i (noted-here (Cell cell) e (eq-eqb cell cell refl) single))
           (λ n q. noted-stays (Cell n) (rw e (ne-eqb cell n (λ p. q (i ∙ p))))))
       by (Sheet kind) e =

@@ -6,27 +6,27 @@ use native.Mathlib.Omega.{arith}
 use mathlib.Core.Path.{_≡_, refl, sym, _∙_}
 use mathlib.Core.Bool.{Bool, true, false, cond, not, _&&_, true≢false}
 use mathlib.Core.List.{List}
-use borrow.Author.Tests.{lt-ltb, le-ltb, ltb-true, ltb-false, eqb-true, eqb-false, eq-eqb, ne-eqb, not-true, leb-true, leb-false}
-use lib.Dec.{ltb, eqb, leb}
+use borrow.Author.Tests.{ltb-true, ltb-false, lt-ltb, le-ltb, leb-true, leb-false, eqb-true, eqb-false, eq-eqb, ne-eqb, not-true}
+use lib.Dec.{leb, ltb, eqb}
 use lib.ListN.{length}
 use Rattle.answers.specs.declared.Answer.{Answer}
 use Rattle.answers.specs.declared.Answer.the-variants.{Accepted}
 use Rattle.answers.specs.Verdict.{Verdict, accepted}
 use Rattle.answers.specs.Answers.{verdictOf}
+use Rattle.records.specs.declared.Step.{Step}
+use Rattle.records.specs.declared.Step.the-variants.{Record, End}
 use Rattle.records.specs.declared.items.Noted.{Noted}
 use Rattle.records.specs.declared.scan.Progress.{Progress}
 use Rattle.records.specs.Records.{nextRecord}
 use Rattle.records.specs.Items.{recordItem}
 use Rattle.records.specs.RecordVerdicts.{firstFaulty, recordVerdict, recordsVerdict}
+use Rattle.records.specs.Inner.Steps.{stepAt}
 use Rattle.records.specs.Inner.Notes.{notedBefore, nothingNoted, noteItem}
 use Rattle.records.specs.Inner.Scans.{scanStart, soundAt, Visited}
-use Rattle.records.proofs.FaultLaws.{faultless, complete-within}
+use Rattle.records.proofs.FaultLaws.{faultless, complete-ends}
 use Rattle.records.proofs.RecordLaws.{first-le, first-passes}
 use Rattle.records.proofs.ScanLaws.{Reached, here, reached-next, next-lt, Ahead, ahead-start, ahead-here, ahead-next, ahead-done}
 use Rattle.records.proofs.NoteLaws.{noted-start, noted-next}
-use Rattle.records.specs.declared.Step.{Step}
-use Rattle.records.specs.declared.Step.the-variants.{Record, End}
-use Rattle.records.specs.Inner.Steps.{stepAt}
 
 -- what a step says of the bytes at its offset
 abbrev pub Says : List ℕ → ℕ → Step → Type 0
@@ -72,7 +72,7 @@ module _ (s : List ℕ) (noted : Noted) (at : ℕ) (state : Scanning s noted at)
   scanning-next l n =
       let f = faultless s at n in
       record {
-        within = complete-within s at (f .complete) .ends;
+        within = complete-ends s at (f .complete);
         reached = reached-next s (state .reached);
         ahead = ahead-next s (faulty s) (length s) at (state .ahead) l (simp (eq-eqb (recordVerdict s at .number) 0 n));
         noted-is = rw (state .noted-is) (noted-next s at (state .reached) (f .single));

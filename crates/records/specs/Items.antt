@@ -19,7 +19,7 @@ sameItem (Sheet m) (Sheet n) = eqb m n
 sameItem (Sheet m) Nothing = false
 sameItem Nothing item = false
 
--- what a record is one of: kind 1 of its cell, where that is listed; another kind that is known of its kind
+-- the item of a record: kind 1 of its cell, another of its kind. A cell that is not listed and an unknown kind are none that may stand once
 unfoldable pub recordItem : List ℕ → ℕ → Item
 recordItem s at =
     cond (eqb (recordKind s at) 1) (cond (eqb (cellClass (recordCell s at)) 0) Nothing (Cell (recordCell s at)))

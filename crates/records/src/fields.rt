@@ -12,6 +12,7 @@ pub(crate) fn record_length(s: &[u8], at: usize) -> usize
     number_at(s, at, 2) as usize
 }
 
+// The kind of a record.
 pub(crate) fn record_kind(s: &[u8], at: usize) -> usize
     ensures { λ r. ⌜ r ≡ recordKind (now (s .entry)) at ⌝ }
 {

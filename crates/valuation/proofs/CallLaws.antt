@@ -10,6 +10,7 @@ use Rattle.answers.specs.declared.Answer.the-variants.{ListTooShort}
 use Rattle.answers.specs.Answers.{numberOf, verdictOf}
 use Rattle.answers.specs.Verdict.{Verdict, accepted, refused}
 use Rattle.answers.proofs.VerdictLaws.{list-short, list-long}
+use Rattle.filing.specs.declared.Contents.{Contents}
 use Rattle.filing.specs.Contents.{contentsOf}
 use Rattle.filing.specs.Readings.{readContents}
 use Rattle.filing.specs.Valid.{Valid}
@@ -19,9 +20,8 @@ use Rattle.valuation.specs.Numbers.{numbers, numberCount}
 use Rattle.valuation.specs.Promise.{verdictOn, listAfter, Valued}
 use Rattle.valuation.proofs.PromiseLaws.{enclosed}
 
--- the numbers of equal verdicts are equal
-number-of : {a b : Verdict} → a ≡ b → a .number ≡ b .number
-number-of e = ap (λ (v : Verdict). v .number) e
+abbrev number : Verdict → ℕ
+number v = v .number
 
 -- a list under 568 numbers
 module _ (s before : List ℕ) (short : length before < 568) where
@@ -34,8 +34,8 @@ module _ (s before : List ℕ) (short : length before < 568) where
   short-list =
       record {
         answer-is = short-verdict;
-        list-is = rw (ne-eqb (verdictOn s before .number) 0 (λ e. never (number-of short-verdict ∙ e)));
-        enclosed = λ e. absurd (never (number-of e));
+        list-is = rw (ne-eqb (verdictOn s before .number) 0 (λ e. never (ap number short-verdict ∙ e)));
+        enclosed = λ e. absurd (never (ap number e));
       }
     where
       never : _≡_ {A = ℕ} 10 0 → ⊥
@@ -49,7 +49,7 @@ module _ (s before : List ℕ) (long : 568 ≤ length before) (answer : Answer) 
 
   number-is : numberOf answer ≡ verdictOn s before .number
   unfolding verdictOf
-  number-is = number-of (read ∙ verdict-is)
+  number-is = ap number (read ∙ verdict-is)
 
   -- a refused filing
   pub refused-filing : (numberOf answer ≡ 0 → ⊥) → Valued s before answer before
@@ -58,23 +58,18 @@ module _ (s before : List ℕ) (long : 568 ≤ length before) (answer : Answer) 
       record {
         answer-is = read ∙ verdict-is;
         list-is = rw (ne-eqb (verdictOn s before .number) 0 (λ e. h (number-is ∙ e)));
-        enclosed = λ e. absurd (h (number-of e));
+        enclosed = λ e. absurd (h (ap number e));
       }
 
   -- an accepted filing: what was read is what the bytes say, and it is valid
-  module _ (zero : numberOf answer ≡ 0) where
-    reading : (readContents s ≡ contentsOf s) × Valid (readContents s)
-    reading = reading-accepted s answer (readContents s) read refl zero
-
-    pub read-valid : Valid (readContents s)
-    read-valid = reading .1
-
-    pub valued-filing : (after : List ℕ) → after ≡ numbers (readContents s) ++ drop numberCount before → Valued s before answer after
-    unfolding listAfter
-    valued-filing after e =
-        let held : after ≡ numbers (contentsOf s) ++ drop numberCount before = rw (reading .0) at e in
-        record {
-          answer-is = read ∙ verdict-is;
-          list-is = held ∙ rw (eq-eqb (verdictOn s before .number) 0 (sym number-is ∙ zero));
-          enclosed = λ _. rw held (enclosed s (drop numberCount before) (rw (reading .0) at (reading .1)));
-        }
+  pub valued-filing : numberOf answer ≡ 0 → (k : Contents) → k ≡ readContents s → (after : List ℕ)
+      → after ≡ numbers k ++ drop numberCount before → Valued s before answer after
+  unfolding listAfter
+  valued-filing zero k said after e =
+      let reading = reading-accepted s answer k read said zero in
+      let held : after ≡ numbers (contentsOf s) ++ drop numberCount before = rw (reading .0) at e in
+      record {
+        answer-is = read ∙ verdict-is;
+        list-is = held ∙ rw (eq-eqb (verdictOn s before .number) 0 (sym number-is ∙ zero));
+        enclosed = λ _. rw held (enclosed s (drop numberCount before) (rw (reading .0) at (reading .1)));
+      }

@@ -1,8 +1,7 @@
 pub mod PlaceTermsLaws
-pub mod PlaceValueLaws
+pub mod RowLaws
+pub mod NumberLaws
+pub mod TotalLaws
 pub mod ValueLaws
 pub mod PromiseLaws
-pub mod TotalLaws
-pub mod ListLaws
-pub mod NumberLaws
 pub mod CallLaws

@@ -2,14 +2,14 @@
 use Prim.Native.Nat.{ℕ, _+_, _*_, _/_, _%_, _≤_, _<_}
 use mathlib.Core.Path.{_≡_, refl, _∙_, ap}
 use mathlib.Core.List.{List, _++_}
-use native.Mathlib.Nat.{add-zero}
 use native.Mathlib.Omega.{arith}
 use lib.Dec.{lit<}
-use lib.ListN.{getD, List·getD-append}
+use lib.ListN.{getD}
 use Rattle.lists.specs.Sums.{sum, sumWhere, everywhere}
 use Rattle.lists.proofs.SumLaws.{sumWhere-ext}
 use Rattle.fraction.specs.Fraction.{Encloses}
-use Rattle.schedule.specs.Cells.{Position, positionAt, totalCell}
+use Rattle.schedule.specs.declared.Position.{Position}
+use Rattle.schedule.specs.Cells.{positionAt, totalCell}
 use Rattle.filing.specs.declared.Contents.{Contents}
 use Rattle.filing.specs.Contents.{contentsOf, cell}
 use Rattle.filing.specs.Valid.{Valid}
@@ -19,10 +19,10 @@ use Rattle.pricing.specs.Rounding.{down, up}
 use Rattle.valuation.specs.Rows.{isShort, isLong}
 use Rattle.valuation.specs.Exact.{exactValueAt, exactTotal}
 use Rattle.valuation.specs.Run.{valueAt, totalBy}
-use Rattle.valuation.specs.Numbers.{numbers}
+use Rattle.valuation.specs.Numbers.{scenarioTotals, numbers}
 use Rattle.valuation.specs.Promise.{balanceIn, lowerIn, upperIn, totalNumber, Enclosed}
 use Rattle.valuation.proofs.ValueLaws.{valueAt-encloses, valueAt-width, totalBy-encloses, all-width}
-use Rattle.valuation.proofs.NumberLaws.{numbers-length, balance-read, lower-read, upper-read, short-lower-read, short-upper-read, long-lower-read, long-upper-read}
+use Rattle.valuation.proofs.NumberLaws.{totals, numbers-split, balance-read, lower-read, upper-read, total-read}
 
 -- one of a position's four places
 four-place : (k : Contents) (i r : ℕ) → r < 4 → balanceAt k (4 * i + r) ≡ getD (fourOf k (positionAt i)) r 0
@@ -52,22 +52,23 @@ four-places k i =
       four-is k (positionAt i),
     )
 
--- the first 568 of a longer list
+-- a list that begins with the 568 numbers
 module _ (k : Contents) (rest : List ℕ) where
-  front : (i : ℕ) → i < 568 → getD (numbers k ++ rest) i 0 ≡ getD (numbers k) i 0
-  front i h = List·getD-append (numbers k) rest 0 i (rw (numbers-length k) h)
-
   balance-in : (place : ℕ) → place < 36 → balanceIn (numbers k ++ rest) place ≡ balanceAt k place
   unfolding balanceIn
-  balance-in place h = front (15 * place) (omega arith) ∙ balance-read k place h
+  balance-in place h = rw (numbers-split k rest) (balance-read k (totals k ++ rest) place h)
 
   lower-in : (scenario place : ℕ) → scenario < 7 → place < 36 → lowerIn (numbers k ++ rest) scenario place ≡ valueAt down k scenario place
   unfolding lowerIn
-  lower-in scenario place hs hp = front (15 * place + 2 * scenario + 1) (omega arith) ∙ lower-read k scenario place hs hp
+  lower-in scenario place hs hp = rw (numbers-split k rest) (lower-read k (totals k ++ rest) _ scenario place (omega arith) hs hp)
 
   upper-in : (scenario place : ℕ) → scenario < 7 → place < 36 → upperIn (numbers k ++ rest) scenario place ≡ valueAt up k scenario place
   unfolding upperIn
-  upper-in scenario place hs hp = front (15 * place + 2 * scenario + 2) (omega arith) ∙ upper-read k scenario place hs hp
+  upper-in scenario place hs hp = rw (numbers-split k rest) (upper-read k (totals k ++ rest) _ scenario place (omega arith) hs hp)
+
+  total-in : (scenario r : ℕ) → scenario < 7 → r < 4 → totalNumber (numbers k ++ rest) scenario r ≡ getD (scenarioTotals k scenario) r 0
+  unfolding totalNumber
+  total-in scenario r hs hr = rw (numbers-split k rest) (total-read k rest scenario r hs hr)
 
   value-in : (scenario place : ℕ) → scenario < 7 → place < 36
       → Encloses (lowerIn (numbers k ++ rest) scenario place) (exactValueAt k scenario place) (upperIn (numbers k ++ rest) scenario place)
@@ -75,17 +76,13 @@ module _ (k : Contents) (rest : List ℕ) where
 
   short-in : (scenario : ℕ) → scenario < 7
       → Encloses (totalNumber (numbers k ++ rest) scenario 0) (exactTotal isShort k scenario) (totalNumber (numbers k ++ rest) scenario 1)
-  unfolding totalNumber
-  short-in scenario h =
-      rw (front (540 + 4 * scenario + 0) (omega arith), add-zero, short-lower-read k scenario h)
-      (rw (front (540 + 4 * scenario + 1) (omega arith), short-upper-read k scenario h) (totalBy-encloses isShort k scenario))
+  unfolding scenarioTotals
+  short-in scenario h = rw (total-in scenario 0 h (lit< tt), total-in scenario 1 h (lit< tt)) (totalBy-encloses isShort k scenario)
 
   long-in : (scenario : ℕ) → scenario < 7
       → Encloses (totalNumber (numbers k ++ rest) scenario 2) (exactTotal isLong k scenario) (totalNumber (numbers k ++ rest) scenario 3)
-  unfolding totalNumber
-  long-in scenario h =
-      rw (front (540 + 4 * scenario + 2) (omega arith), long-lower-read k scenario h)
-      (rw (front (540 + 4 * scenario + 3) (omega arith), long-upper-read k scenario h) (totalBy-encloses isLong k scenario))
+  unfolding scenarioTotals
+  long-in scenario h = rw (total-in scenario 2 h (lit< tt), total-in scenario 3 h (lit< tt)) (totalBy-encloses isLong k scenario)
 
   -- of a filing that is valid: widths and shares
   module _ (v : Valid k) where

@@ -1,46 +1,81 @@
--- The places of the short and the long total, and a total of one place more. Assumes nothing.
-use Prim.Native.Nat.{ℕ, _+_, _*_, _<_, zero-le}
-use mathlib.Core.Path.{_≡_, refl}
-use mathlib.Core.Bool.{Bool, true, false, not, cond, Bool·beq}
-use mathlib.Core.List.{List}
-use native.Mathlib.Numerals.{add-one}
-use lib.Dec.{T, ltb}
-use lib.ListN.{getD}
-use Rattle.lists.specs.Sums.{sumWhere}
-use Rattle.lists.proofs.TestLaws.{allFrom, all-at}
+-- The totals that are taken from the rows of the places are those of the definitions, and the 568 numbers stand in the list. Assumes nothing.
+use Prim.Native.Nat.{ℕ, _+_, _*_, _^_, _≤_, _<_}
+use mathlib.Core.Path.{_≡_, refl, ap, _∙_}
+use mathlib.Core.Bool.{Bool}
+use mathlib.Core.List.{List, _++_}
+use native.Mathlib.Omega.{arith}
+use lib.ListN.{length, getD, drop, List·getD-append}
+use Rattle.lists.specs.Runs.{written}
+use Rattle.lists.specs.Sums.{sum, sumWhere}
+use Rattle.lists.specs.Tables.{tableFrom, table, joined}
+use Rattle.lists.proofs.RunLaws.{Overwritten, overwritten-is, overwritten-more}
+use Rattle.lists.proofs.SumLaws.{sumWhere-ext}
+use Rattle.lists.proofs.TableLaws.{table-ext, joined-le}
 use Rattle.schedule.specs.Cells.{positions, position, positionAt}
+use Rattle.filing.specs.declared.Contents.{Contents}
+use Rattle.filing.specs.Valid.{Valid}
 use Rattle.shares.specs.SubBalances.{positionOf}
+use Rattle.pricing.specs.Rounding.{down, up}
 use Rattle.valuation.specs.Rows.{isShort, isLong}
-use Rattle.valuation.specs.Inner.Listed.{valueIn, inTotal}
+use Rattle.valuation.specs.Run.{valueAt, totalBy}
+use Rattle.valuation.specs.Numbers.{placeNumbers, scenarioTotals, numbers}
+use Rattle.valuation.specs.Inner.RowTotals.{valueLimit, WithinRows, numberAt, rowTotals}
+use Rattle.valuation.proofs.NumberLaws.{rows, totals, rows-length, totals-length, lower-read, upper-read}
+use Rattle.valuation.proofs.RowLaws.{row-le}
 
-beq-eq : (a b : Bool) → T (Bool·beq a b) → a ≡ b
-beq-eq true true t = refl
-beq-eq true false t = absurd t
-beq-eq false true t = absurd t
-beq-eq false false t = refl
+-- rows 1 and 2 are places 0 to 23, rows 3 and 4 places 24 to 35
+short-sum : (f : ℕ → ℕ) → sum (tableFrom 0 24 f) ≡ sumWhere isShort f 36
+unfolding sum tableFrom sumWhere isShort positionOf positions positionAt position
+short-sum f = omega arith
 
--- tested at each of the thirty-six places
-short-tested : T (allFrom 0 36 (λ (place : ℕ). Bool·beq (isShort place) (ltb place 24)))
-unfolding allFrom isShort positionOf positions positionAt position
-short-tested = tt
+long-sum : (f : ℕ → ℕ) → sum (tableFrom 24 12 f) ≡ sumWhere isLong f 36
+unfolding sum tableFrom sumWhere isLong isShort positionOf positions positionAt position
+long-sum f = omega arith
 
--- rows 1 and 2 are places 0 to 23
-pub short-places : (place : ℕ) → place < 36 → isShort place ≡ ltb place 24
-short-places place h =
-    beq-eq (isShort place) (ltb place 24) (all-at 0 36 (λ (p : ℕ). Bool·beq (isShort p) (ltb p 24)) short-tested place zero-le h)
+-- a scenario has four totals
+pub rowTotals-length : (list : List ℕ) (scenario : ℕ) → length (rowTotals list scenario) ≡ 4
+unfolding rowTotals
+rowTotals-length list scenario = refl
 
--- and rows 3 and 4 the others
-pub long-places : (place : ℕ) → place < 36 → isLong place ≡ not (ltb place 24)
-unfolding isLong
-long-places place h = rw (short-places place h)
+-- a list that begins with the rows of the places
+module _ (k : Contents) (rest : List ℕ) where
+  module _ (scenario : ℕ) (h : scenario < 7) (test : ℕ → Bool) where
+    lowers : sumWhere test (numberAt (rows k ++ rest) (2 * scenario + 1)) 36 ≡ sumWhere test (valueAt down k scenario) 36
+    unfolding numberAt
+    lowers = sumWhere-ext test _ (valueAt down k scenario) 36 (λ place p. lower-read k rest _ scenario place refl h p)
 
--- a total before any place, and of one place more
-pub total-zero : (test : ℕ → Bool) (f : ℕ → ℕ) → 0 ≡ sumWhere test f 0
-unfolding sumWhere
-total-zero test f = refl
+    uppers : sumWhere test (numberAt (rows k ++ rest) (2 * scenario + 2)) 36 ≡ sumWhere test (valueAt up k scenario) 36
+    unfolding numberAt
+    uppers = sumWhere-ext test _ (valueAt up k scenario) 36 (λ place p. upper-read k rest _ scenario place refl h p)
 
-pub total-suc : (values : List ℕ) (scenario place : ℕ) (long : Bool) {counted : Bool} → counted ≡ inTotal long place
-    → sumWhere (inTotal long) (valueIn values scenario) (place + 1)
-    ≡ sumWhere (inTotal long) (valueIn values scenario) place + cond counted (getD values (36 * scenario + place) 0) 0
-unfolding sumWhere valueIn
-total-suc values scenario place long e = rw (e, add-one)
+  -- the totals from the rows
+  pub totals-are : (scenario : ℕ) → scenario < 7 → rowTotals (rows k ++ rest) scenario ≡ scenarioTotals k scenario
+  unfolding rowTotals scenarioTotals totalBy
+  totals-are scenario h =
+      let low = numberAt (rows k ++ rest) (2 * scenario + 1) in
+      let high = numberAt (rows k ++ rest) (2 * scenario + 2) in
+      rw (short-sum low, short-sum high, long-sum low, long-sum high)
+      (rw (lowers scenario h isShort, uppers scenario h isShort, lowers scenario h isLong, uppers scenario h isLong))
+
+-- a list whose first 540 places are overwritten by the rows
+module _ (k : Contents) (before after : List ℕ) (long : 568 ≤ length before) (written-rows : after ≡ rows k ++ drop 540 before) where
+  rows-in : Overwritten (rows k) 540 before after
+  rows-in = overwritten-is (rows k) 540 before after (rows-length k) (omega arith) written-rows
+
+  -- no number of the rows is above the limit of a value
+  pub rows-within : Valid k → WithinRows after
+  rows-within v =
+      record {
+        long = rw (rows-in .as-long) (omega arith);
+        within = λ i h. rw (written-rows, List·getD-append (rows k) (drop 540 before) 0 i (rw (rows-length k) h))
+            (joined-le 0 36 (placeNumbers k) valueLimit (λ place j b p. row-le k v place (omega arith) j) i);
+      }
+
+  -- the totals written behind the rows make the 568 numbers
+  pub numbers-written : (run : List ℕ) → run ≡ joined (table 7 (rowTotals after)) → written after 540 run ≡ numbers k ++ drop 568 before
+  unfolding numbers
+  numbers-written run e =
+      rw made (overwritten-more (rows k) (totals k) 540 568 before after rows-in (rw (totals-length k)) long .is)
+    where
+      made : run ≡ totals k
+      made = e ∙ rw written-rows (ap joined (table-ext 7 _ _ (totals-are k (drop 540 before))))

@@ -39,7 +39,7 @@ totalBy-encloses test k scenario =
 pub valueAt-width : (k : Contents) → Valid k → (scenario place : ℕ) → place < 36
     → 250 * valueAt up k scenario place ≤ 250 * valueAt down k scenario place + (balanceAt k place + 500)
 unfolding valueAt
-valueAt-width k v scenario place h = value-width (balanceAt k place) (termsAt k scenario place) (monthYield k scenario) (terms-bounded k v scenario place h)
+valueAt-width k v scenario place h = value-width (balanceAt k place) (termsAt k scenario place) (monthYield k scenario) (terms-bounded k v place h scenario)
 
 -- c at each of n places
 constant-sum : (c n : ℕ) → sumWhere everywhere (λ _. c) n ≡ c * n

@@ -1,12 +1,15 @@
--- The deposit at each place of a filing in each scenario, with its terms (01:48-55, 01:59), from what the filing says. Definitions only.
+-- The deposit at each place of a filing, with its terms in each scenario (01:48-56), from what the filing says. Definitions only.
 use Prim.Native.Nat.{ℕ, _%_}
 use mathlib.Core.Bool.{Bool, cond}
+use mathlib.Core.List.{List}
 use lib.Dec.{leb, eqb}
 use Rattle.schedule.specs.Cells.{penaltyMonthsCell}
 use Rattle.schedule.specs.Shift.{shiftedRate}
 use Rattle.filing.specs.declared.Contents.{Contents}
-use Rattle.filing.specs.Contents.{cell, cdYield, retailRate}
-use Rattle.shares.specs.SubBalances.{positionOf, couponAt, monthsAt}
+use Rattle.filing.specs.Contents.{cellIn, cdYield, retailRate}
+use Rattle.shares.specs.declared.SubBalance.{SubBalance}
+use Rattle.shares.specs.SubBalances.{positionOf}
+use Rattle.shares.specs.Places.{placeAt}
 use Rattle.withdrawal.specs.Tiers.{TierTable, houseTiers}
 use Rattle.pricing.specs.Terms.{Terms}
 use Rattle.deposits.specs.DepositTerms.{termsOf}
@@ -17,30 +20,30 @@ unfoldable pub isBrokered : ℕ → Bool
 isBrokered place = leb 2 (place % 4)
 
 -- the penalty of a place, hundredths of a month: its column's, or 0 where the place is without penalty (01:49)
-unfoldable pub penaltyAt : Contents → ℕ → ℕ
-penaltyAt k place = cond (eqb (place % 2) 0) (cell k (penaltyMonthsCell (positionOf place .column))) 0
+unfoldable pub penaltyAt : List ℕ → ℕ → ℕ
+penaltyAt cells place = cond (eqb (place % 2) 0) (cellIn cells (penaltyMonthsCell (positionOf place .column))) 0
+
+-- the deposit at a place, 0 to 35, from the filing's cells and what the place holds
+unfoldable pub depositAt : List ℕ → ℕ → SubBalance → Deposit
+depositAt cells place held =
+    record {
+      brokered = isBrokered place;
+      coupon = held .coupon;
+      penalty = penaltyAt cells place;
+      months = held .«remaining_months»;
+    }
 
 -- the shifted retail rate of a place's column, hundredths of a percent a year
 unfoldable pub rateAt : Contents → ℕ → ℕ → ℕ
 rateAt k scenario place = shiftedRate scenario (retailRate k (positionOf place .column))
 
--- the deposit at a place, 0 to 35, in a scenario, 0 to 6
-unfoldable pub depositAt : Contents → ℕ → ℕ → Deposit
-depositAt k scenario place =
-    record {
-      brokered = isBrokered place;
-      coupon = couponAt k place;
-      penalty = penaltyAt k place;
-      rate = rateAt k scenario place;
-      months = monthsAt k place;
-    }
-
 -- the tiers of a filing: the house's
 unfoldable pub filingTiers : Contents → TierTable
 filingTiers k = houseTiers
 
+-- the terms of the deposit at a place in a scenario, 0 to 6
 unfoldable pub termsAt : Contents → ℕ → ℕ → Terms
-termsAt k scenario place = termsOf (filingTiers k) (depositAt k scenario place)
+termsAt k scenario place = termsOf (filingTiers k) (depositAt (k .cells) place (placeAt k place)) (rateAt k scenario place)
 
 -- the CD yield of a month in a scenario, hundredths of a percent a year
 unfoldable pub monthYield : Contents → ℕ → ℕ → ℕ

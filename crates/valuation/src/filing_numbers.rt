@@ -1,41 +1,54 @@
-// The 568 numbers of what an accepted filing says, left in a list.
-use crate::list::write_numbers;
-use crate::place_values::values_of;
+// The 568 numbers of what an accepted filing says, written into a list.
+use crate::longest_term::longest_term;
+use crate::place_row::row_of;
+use crate::totals::totals_of;
+use deposits::factors::factor_table;
 use filing::Contents;
-use shares::SubBalance;
+use lists::write;
 use shares::places::places_of;
 use withdrawal::tiers::house;
 ghost use mathlib.Core.Path.{_≡_};
 ghost use mathlib.Core.List.{_++_};
 ghost use Prim.Native.Nat.{_≤_};
 ghost use lib.ListN.{length, drop};
+ghost use Rattle.lists.specs.Tables.{table, joined};
 ghost use Rattle.filing.specs.Valid.{Valid};
-ghost use Rattle.valuation.specs.Numbers.{numbers, numberCount};
-ghost use Rattle.valuation.specs.Inner.PlaceValues.{balancesIn};
+ghost use Rattle.shares.specs.SubBalances.{subBalanceCount};
+ghost use Rattle.valuation.specs.Numbers.{placeNumbers, numbers, numberCount};
 
-// The rest of the list is left as it was.
-pub fn value_contents(k: Contents, list: &mut [u64])
+// The rows of the places, and then the totals, which are taken from the rows. The rest of the list is left as it was.
+pub(crate) fn write_numbers(k: Contents, list: &mut [u64])
     requires { ⌜ Valid k × (numberCount ≤ length (now list)) ⌝ }
     ensures { λ _. ⌜ now (list .exit) ≡ numbers k ++ drop numberCount (now (list .entry)) ⌝ }
 {
-    let places = places_of(k);
-    let values = values_of(k, places, house());
-    let balances = balances_of(places);
-    let lower = values.lower;
-    let upper = values.upper;
-    write_numbers(&balances, &lower, &upper, list);
+    write_rows(k, list);
+    let totals = totals_of(list);
+    write(list, 540, &totals);
 }
 
-// The balances of the places.
-fn balances_of(places: [SubBalance; 36]) -> [u64; 36]
-    ensures { λ r. ⌜ r ≡ balancesIn places ⌝ }
+// The fifteen numbers of each place, one place after the other.
+fn write_rows(k: Contents, list: &mut [u64])
+    requires { ⌜ Valid k × (540 ≤ length (now list)) ⌝ }
+    ensures { λ _. ⌜ now (list .exit) ≡ joined (table subBalanceCount (placeNumbers k)) ++ drop 540 (now (list .entry)) ⌝ }
 {
-    let mut balances = [0u64; 36];
-    let mut i: usize = 0;
-    while i < 36 {
-        let place = places[i];
-        balances[i] = place.balance;
-        i += 1;
+    let cells = k.cells;
+    let tiers = house();
+    let places = places_of(k);
+    let longest = longest_term(places);
+    let lower = factor_table(&k.yields, longest, false);
+    let upper = factor_table(&k.yields, longest, true);
+    let mut place: usize = 0;
+    while place < 36 {
+        let row = row_of(
+            places[place],
+            place,
+            &cells,
+            &k.rates,
+            tiers,
+            &lower,
+            &upper,
+        );
+        write(list, 15 * place, &row);
+        place += 1;
     }
-    balances
 }

@@ -1,10 +1,10 @@
 // Certificate deposits under seven rate scenarios: from a filing's bytes to its 568 numbers.
-pub mod filing_numbers;
-pub mod list;
-pub mod place_values;
-pub mod totals;
+mod filing_numbers;
+mod longest_term;
+mod place_row;
+mod totals;
 
-use crate::filing_numbers::value_contents;
+use crate::filing_numbers::write_numbers;
 use answers::Answer;
 use answers::number;
 use filing::read;
@@ -23,12 +23,6 @@ pub fn value(filing: &[u8], numbers: &mut [u64]) -> Answer
     if number(answer) != 0 {
         return answer;
     }
-    value_contents(reading.contents, numbers);
+    write_numbers(reading.contents, numbers);
     answer
-}
-
-// Lower and upper values in dollars: place p of scenario s stands at 36 s + p.
-pub struct Values {
-    pub lower: [u64; 252],
-    pub upper: [u64; 252],
 }

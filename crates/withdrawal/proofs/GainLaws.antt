@@ -8,7 +8,7 @@ use lib.Dec.{leb, ltb}
 use lib.IntN.{pos, negsuc, negℤ, one, _-ℤ_, _*ℤ_, *ℤ-comm, *ℤ-one}
 use borrow.Author.Tests.{leb-true, leb-false, ltb-true, ltb-false, le-leb, lt-leb, le-ltb, lt-ltb}
 use Rattle.withdrawal.specs.declared.Incentive.{Incentive}
-use Rattle.withdrawal.specs.Gain.{gain, atMost}
+use Rattle.withdrawal.specs.Gain.{atMost}
 use Rattle.withdrawal.specs.Tiers.{reached}
 use Rattle.withdrawal.specs.Inner.Incentives.{gainOf}
 
@@ -21,7 +21,7 @@ leb-iff a b c d f g = by (leb a b) refl
     by false e = sym (lt-leb c d (lt-of-not-le (λ l. not-le-of-lt (leb-false a b e) (g l))))
 
 -- a difference of whole numbers that is not negative
-difference-pos : (a b : ℕ) → b ≤ a → pos a -ℤ pos b ≡ pos (a - b)
+pub difference-pos : (a b : ℕ) → b ≤ a → pos a -ℤ pos b ≡ pos (a - b)
 difference-pos a zero h = ap pos (omega arith)
 difference-pos a (suc b) h = rw (le-ltb a (suc b) h)
 
@@ -36,22 +36,22 @@ unfolding atMost
 at-most-negative m zero h = absurd (not-suc-le-zero h)
 at-most-negative m (suc n) h = refl
 
--- m ≤ k × (a - b) exactly where m + k × b ≤ k × a
-at-most-scaled : (m k a b : ℕ) → 0 < k → atMost m (pos k *ℤ (pos a -ℤ pos b)) ≡ leb (m + k * b) (k * a)
+-- m ≤ s × (a - b) exactly where m + s × b ≤ s × a
+at-most-scaled : (m s a b : ℕ) → 0 < s → atMost m (pos s *ℤ (pos a -ℤ pos b)) ≡ leb (m + s * b) (s * a)
 unfolding atMost
-at-most-scaled m k a b h = by (ltb a b) refl
+at-most-scaled m s a b h = by (ltb a b) refl
   where
-    by : (t : Bool) → ltb a b ≡ t → atMost m (pos k *ℤ (pos a -ℤ pos b)) ≡ leb (m + k * b) (k * a)
+    by : (t : Bool) → ltb a b ≡ t → atMost m (pos s *ℤ (pos a -ℤ pos b)) ≡ leb (m + s * b) (s * a)
     by true e =
         let l : a < b = ltb-true a b e in
         rw (difference-neg a b l)
-        (at-most-negative m (k * suc (b - suc a)) (mul-pos h (zero-lt-suc _))
-        ∙ sym (lt-leb (m + k * b) (k * a) (omega (arith, mul-lt-mul-of-pos-left l h))))
+        (at-most-negative m (s * suc (b - suc a)) (mul-pos h (zero-lt-suc _))
+        ∙ sym (lt-leb (m + s * b) (s * a) (omega (arith, mul-lt-mul-of-pos-left l h))))
     by false e =
         let l : b ≤ a = ltb-false a b e in
         rw (difference-pos a b l)
-        (leb-iff m (k * (a - b)) (m + k * b) (k * a)
-        (λ u. omega (arith, mul-sub k a b, mul-le-mul-left k l)) (λ u. omega (arith, mul-sub k a b, mul-le-mul-left k l)))
+        (leb-iff m (s * (a - b)) (m + s * b) (s * a)
+        (λ u. omega (arith, mul-sub s a b, mul-le-mul-left s l)) (λ u. omega (arith, mul-sub s a b, mul-le-mul-left s l)))
 
 -- m ≤ a - b exactly where m + b ≤ a
 at-most-difference : (m a b : ℕ) → atMost m (pos a -ℤ pos b) ≡ leb (m + b) a
@@ -71,8 +71,3 @@ unfolding gainOf
 gain-above-cost-iff x =
     at-most-difference (suc (x .cost)) (x .earned) (x .forfeited)
     ∙ ap (λ (m : ℕ). leb m (x .earned)) (suc-add (x .cost) (x .forfeited))
-
--- the gain as a difference of whole numbers, where c × p is at most 12,000,000
-pub gain-difference : (c p r n : ℕ) → c * p ≤ 12000000 → pos ((12000000 - c * p) * (r * n)) -ℤ pos (120000 * c * p) ≡ gain c p r n
-unfolding gain
-gain-difference c p r n h = rw (difference-pos 12000000 (c * p) h)

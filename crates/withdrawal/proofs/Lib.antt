@@ -1,4 +1,7 @@
 pub mod SurvivalLaws
 pub mod GainLaws
+pub mod IncentiveLaws
 pub mod TierLaws
+pub mod UnreachedLaws
+pub mod HeldLaws
 pub mod MonthSurvivalLaws

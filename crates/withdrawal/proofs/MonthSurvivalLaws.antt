@@ -1,25 +1,26 @@
 -- What survives a month is at most the whole. Assumes nothing.
-use Prim.Native.Nat.{ℕ, suc, _-_, _^_, _≤_, zero-le}
-use mathlib.Core.Bool.{Bool, true, false, cond}
+use Prim.Native.Nat.{ℕ, suc, _-_, _≤_, zero-le}
 use native.Mathlib.Nat.{le-refl}
 use lib.Dec.{ltb}
 use lib.IntN.{ℤ}
-use Rattle.withdrawal.specs.Gain.{gain, cost, atMost}
+use Rattle.withdrawal.specs.Gain as of
+use Rattle.withdrawal.specs.Gain.{atMost}
 use Rattle.withdrawal.specs.Tiers.{TierTable, annualWithdrawal}
+use Rattle.withdrawal.specs.Survival.{fullSurvival}
 use Rattle.withdrawal.specs.MonthSurvival.{Account, retail, brokered, earlySurvival, monthSurvival}
-use Rattle.withdrawal.proofs.SurvivalLaws.{survival-le}
+use Rattle.withdrawal.proofs.SurvivalLaws.{cond-cases, survival-le}
 
-either-le : (b : Bool) {x y n : ℕ} → x ≤ n → y ≤ n → cond b x y ≤ n
-either-le true hx hy = hx
-either-le false hx hy = hy
-
-early-le : (table : TierTable) (account : Account) (g : ℤ) (k : ℕ) → earlySurvival table account g k ≤ 10 ^ 9
+early-le : (table : TierTable) (account : Account) (gain : ℤ) (cost : ℕ) → earlySurvival table account gain cost ≤ fullSurvival
 unfolding earlySurvival
-early-le table retail g k = survival-le (annualWithdrawal table g k)
-early-le table brokered g k = either-le (atMost (suc k) g) zero-le (le-refl (10 ^ 9))
+early-le table retail gain cost = survival-le (annualWithdrawal table gain cost)
+early-le table brokered gain cost = cond-cases (λ q. q ≤ fullSurvival) (atMost (suc cost) gain) 0 fullSurvival (λ t. zero-le) (λ t. le-refl fullSurvival)
 
 -- for any tiers, account and terms
-pub monthSurvival-le : (table : TierTable) (account : Account) (c p r T t : ℕ) → monthSurvival table account c p r T t ≤ 10 ^ 9
+pub monthSurvival-le : (table : TierTable) (account : Account) (c p r T t : ℕ) → monthSurvival table account c p r T t ≤ fullSurvival
 unfolding monthSurvival
 monthSurvival-le table account c p r T t =
-    either-le (ltb t T) (early-le table account (gain c p r (T - t)) (cost c (T - t))) (le-refl (10 ^ 9))
+    cond-cases (λ q. q ≤ fullSurvival) (ltb t T) early fullSurvival
+    (λ b. early-le table account (of.gain c p r (T - t)) (of.cost c (T - t))) (λ b. le-refl fullSurvival)
+  where
+    early : ℕ
+    early = earlySurvival table account (of.gain c p r (T - t)) (of.cost c (T - t))

@@ -8,7 +8,7 @@ use native.Mathlib.Omega.{arith}
 use lib.Dec.{T, T-not, leb→le, le→leb, lit<}
 use lib.ListN.{length, getD}
 use Rattle.lists.proofs.TestLaws.{both, everyEntry, entry-passes}
-use Rattle.withdrawal.specs.Survival.{survives, withBits, survival}
+use Rattle.withdrawal.specs.Survival.{fullSurvival, survives, withBits, survival}
 
 -- r is the largest number that passes the test
 pub record Largest (test : ℕ → Bool) (r : ℕ) : Type 0 where
@@ -16,7 +16,7 @@ pub record Largest (test : ℕ → Bool) (r : ℕ) : Type 0 where
   pub above : (x : ℕ) → T (test x) → x ≤ r
 
 -- what holds of both arms, each where its side of the test holds, holds of the choice
-cond-cases : (P : ℕ → Type 0) (b : Bool) (x y : ℕ) → (T b → P x) → (T (not b) → P y) → P (cond b x y)
+pub cond-cases : (P : ℕ → Type 0) (b : Bool) (x y : ℕ) → (T b → P x) → (T (not b) → P y) → P (cond b x y)
 cond-cases P true x y f g = f tt
 cond-cases P false x y f g = g tt
 
@@ -48,12 +48,12 @@ unfolding survives survival
 survival-is-largest w =
     with-bits-largest (survives w) (survives-down w) 30 0 (le→leb 0 ((1000 - w) * 10 ^ 108) zero-le) (λ x p. survives-lt w x (2 ^ 30) (lit< tt) p)
 
--- survival is at most 10^9
-pub survival-le : (w : ℕ) → survival w ≤ 10 ^ 9
-survival-le w = le-of-suc-le-suc (survives-lt w (survival w) (10 ^ 9 + 1) (lit< tt) (survival-is-largest w .passes))
+-- survival is at most the whole
+pub survival-le : (w : ℕ) → survival w ≤ fullSurvival
+survival-le w = le-of-suc-le-suc (survives-lt w (survival w) (fullSurvival + 1) (lit< tt) (survival-is-largest w .passes))
 
 -- nothing withdrawn: all survives (01:70)
-pub survival-of-zero : survival 0 ≡ 10 ^ 9
+pub survival-of-zero : survival 0 ≡ fullSurvival
 unfolding survives withBits survival
 survival-of-zero = refl
 
@@ -62,7 +62,7 @@ unfoldable pub isSurvival : ℕ → ℕ → Bool
 isSurvival w q = survives w q && not (survives w (suc q))
 
 -- such a q is the survival of w
-pub survival-of-rule : (w q : ℕ) → T (isSurvival w q) → q ≡ survival w
+survival-of-rule : (w q : ℕ) → T (isSurvival w q) → q ≡ survival w
 unfolding isSurvival
 survival-of-rule w q t =
     le-antisymm (survival-is-largest w .above q (rule .0))

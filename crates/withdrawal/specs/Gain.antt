@@ -5,15 +5,27 @@ use mathlib.Core.Bool.{Bool, false}
 use lib.Dec.{leb}
 use lib.IntN.{ℤ, pos, negsuc, _-ℤ_, _*ℤ_}
 
+-- the scale of the gain: a balance without interest, against which c × p is set
+abbrev pub gainScale : ℕ
+gainScale = 12000000
+
+-- what a penalty of one hundredth of a month costs at a coupon of one
+abbrev pub penaltyScale : ℕ
+penaltyScale = 120000
+
+-- what a month at a coupon of one is worth
+abbrev pub costScale : ℕ
+costScale = 12000000
+
 -- (12,000,000 - c × p) × r × n - 120,000 × c × p, which may be negative
 unfoldable pub gain : ℕ → ℕ → ℕ → ℕ → ℤ
-gain c p r n = (pos 12000000 -ℤ pos (c * p)) *ℤ pos (r * n) -ℤ pos (120000 * c * p)
+gain c p r n = (pos gainScale -ℤ pos (c * p)) *ℤ pos (r * n) -ℤ pos (penaltyScale * c * p)
 
 -- 12,000,000 × c × n
 unfoldable pub cost : ℕ → ℕ → ℕ
-cost c n = 12000000 * c * n
+cost c n = costScale * c * n
 
 -- the whole number m is at most the integer
 unfoldable pub atMost : ℕ → ℤ → Bool
-atMost m (pos k) = leb m k
-atMost m (negsuc k) = false
+atMost m (pos n) = leb m n
+atMost m (negsuc n) = false

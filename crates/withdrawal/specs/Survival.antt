@@ -3,6 +3,10 @@ use Prim.Native.Nat.{ℕ, zero, suc, _+_, _*_, _-_, _^_}
 use mathlib.Core.Bool.{Bool, cond}
 use lib.Dec.{leb}
 
+-- nothing is withdrawn: all survives, billionths
+abbrev pub fullSurvival : ℕ
+fullSurvival = 10 ^ 9
+
 -- the power rule, q in billionths and w in thousandths: q^12 × 1,000 ≤ (1,000 - w) × 10^108
 unfoldable pub survives : ℕ → ℕ → Bool
 survives w q = leb (q ^ 12 * 1000) ((1000 - w) * 10 ^ 108)

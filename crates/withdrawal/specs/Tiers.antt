@@ -1,11 +1,12 @@
 -- Annual withdrawals of retail deposits by the ratio of gain to cost (01:50; the paper's "ladder" and "rungs"). Definitions only.
+-- Edges are in hundredths, annual withdrawals in thousandths.
 use Prim.Native.Nat.{ℕ, _*_}
 use mathlib.Core.Bool.{Bool, cond}
 use mathlib.Core.List.{List, [], _∷_}
 use lib.IntN.{ℤ, pos, _*ℤ_}
 use Rattle.withdrawal.specs.Gain.{atMost}
 
--- an edge in hundredths, and the annual withdrawal from there on, in thousandths
+-- an edge, and the annual withdrawal from there on
 pub record WithdrawalTier : Type 0 where
   pub edge : ℕ
   pub withdrawal : ℕ
@@ -16,7 +17,7 @@ pub record TierTable : Type 0 where
   pub otherwise : ℕ
 
 unfoldable pub tier : ℕ → ℕ → WithdrawalTier
-tier k w = record { edge = k; withdrawal = w }
+tier edge withdrawal = record { edge = edge; withdrawal = withdrawal }
 
 unfoldable pub houseTiers : TierTable
 houseTiers =
@@ -27,13 +28,13 @@ houseTiers =
 
 -- an edge is reached: 100 × gain ≥ edge × cost
 unfoldable pub reached : ℤ → ℕ → ℕ → Bool
-reached g k edge = atMost (edge * k) (pos 100 *ℤ g)
+reached gain cost edge = atMost (edge * cost) (pos 100 *ℤ gain)
 
 -- the withdrawal of the first tier that is reached
 unfoldable pub firstReached : ℤ → ℕ → ℕ → List WithdrawalTier → ℕ
-firstReached g k otherwise [] = otherwise
-firstReached g k otherwise (x ∷ xs) = cond (reached g k (x .edge)) (x .withdrawal) (firstReached g k otherwise xs)
+firstReached gain cost otherwise [] = otherwise
+firstReached gain cost otherwise (x ∷ xs) = cond (reached gain cost (x .edge)) (x .withdrawal) (firstReached gain cost otherwise xs)
 
--- the annual withdrawal, thousandths, for a gain and a cost
+-- the annual withdrawal for a gain and a cost
 unfoldable pub annualWithdrawal : TierTable → ℤ → ℕ → ℕ
-annualWithdrawal table g k = firstReached g k (table .otherwise) (table .tiers)
+annualWithdrawal table gain cost = firstReached gain cost (table .otherwise) (table .tiers)

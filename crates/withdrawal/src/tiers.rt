@@ -1,18 +1,19 @@
 // Tiers of annual withdrawal, tried from the highest edge.
 use crate::Incentive;
+use crate::TIER_LIMIT;
 use crate::WithdrawalTiers;
 ghost use mathlib.Core.Path.{_≡_};
 ghost use Prim.Native.Nat.{_≤_};
-ghost use Rattle.withdrawal.specs.Tiers.{reached, annualWithdrawal, houseTiers};
-ghost use Rattle.withdrawal.specs.Survival.{survival};
-ghost use Rattle.withdrawal.specs.Inner.TierArrays.{tierTable, tierTableOf, tierSurvival, TiersFit, Usable, NoneBefore};
+ghost use Rattle.schedule.specs.Limits.{edgeLimit};
+ghost use Rattle.withdrawal.specs.Tiers.{reached, houseTiers};
+ghost use Rattle.withdrawal.specs.Inner.TierArrays.{tierTable, withSurvivals, tierSurvival, placeReached, TiersFit, Usable, NoneBefore};
 ghost use Rattle.withdrawal.specs.Inner.Incentives.{gainOf, Small};
 
 // The place of the first tier whose edge is reached, or their count where none is. No tier before `from` is reached.
-pub fn first_reached(tiers: WithdrawalTiers, incentive: Incentive, from: usize) -> usize
+pub(crate) fn first_reached(tiers: WithdrawalTiers, incentive: Incentive, from: usize) -> usize
     requires { ⌜ Usable tiers × Small incentive × (from ≤ tiers .count) ⌝ }
     requires { ⌜ NoneBefore tiers (gainOf incentive) (incentive .cost) from ⌝ }
-    ensures { λ r. ⌜ (r ≤ tiers .count) × NoneBefore tiers (gainOf incentive) (incentive .cost) r × (tierSurvival tiers r ≡ survival (annualWithdrawal (tierTable tiers) (gainOf incentive) (incentive .cost))) ⌝ }
+    ensures { λ r. ⌜ r ≡ placeReached (gainOf incentive) (incentive .cost) (tierTable tiers .tiers) ⌝ }
 {
     let count = tiers.count;
     let mut i = from;
@@ -26,7 +27,7 @@ pub fn first_reached(tiers: WithdrawalTiers, incentive: Incentive, from: usize) 
 }
 
 // The survival of the tier at a place in billionths, or of the withdrawal where no edge is reached.
-pub fn tier_survival(tiers: WithdrawalTiers, i: usize) -> u64
+pub(crate) fn tier_survival(tiers: WithdrawalTiers, i: usize) -> u64
     requires { ⌜ Usable tiers ⌝ }
     ensures { λ r. ⌜ r ≡ tierSurvival tiers i ⌝ }
 {
@@ -40,7 +41,7 @@ pub fn tier_survival(tiers: WithdrawalTiers, i: usize) -> u64
 
 // An edge in hundredths is reached: 100 times the gain is at least the edge times the cost.
 fn reaches(incentive: Incentive, edge: u64) -> bool
-    requires { ⌜ Small incentive × (edge ≤ 65535) ⌝ }
+    requires { ⌜ Small incentive × (edge ≤ edgeLimit) ⌝ }
     ensures { λ r. ⌜ r ≡ reached (gainOf incentive) (incentive .cost) edge ⌝ }
 {
     edge * incentive.cost + 100 * incentive.forfeited <= 100 * incentive.earned
@@ -56,16 +57,16 @@ pub fn house() -> WithdrawalTiers
 }
 
 // Tiers with the survival of each withdrawal beside it: the table of survivals is read once for each tier, not once for each month.
-pub fn with_survivals(
+pub(crate) fn with_survivals(
     count: usize,
-    edges: [u64; 16],
-    withdrawals: [u64; 16],
+    edges: [u64; TIER_LIMIT],
+    withdrawals: [u64; TIER_LIMIT],
     otherwise: u64,
 ) -> WithdrawalTiers
     requires { ⌜ TiersFit count edges withdrawals otherwise ⌝ }
-    ensures { λ r. ⌜ (tierTable r ≡ tierTableOf count edges withdrawals otherwise) × Usable r ⌝ }
+    ensures { λ r. ⌜ r ≡ withSurvivals count edges withdrawals otherwise ⌝ }
 {
-    let mut survivals = [0u64; 16];
+    let mut survivals = [0u64; TIER_LIMIT];
     let mut i: usize = 0;
     while i < count {
         survivals[i] = crate::survival(withdrawals[i]);

@@ -4,29 +4,35 @@ use Prim.Native.Nat.{ℕ, _+_, _*_, _^_, _≤_}
 use mathlib.Core.List.{List}
 use lib.ListN.{getD}
 use Rattle.lists.specs.Tables.{table}
+use Rattle.schedule.specs.Shift.{scenarioCount}
+use Rattle.pricing.specs.Scales.{rateScale}
 use Rattle.pricing.specs.Rounding.{Rounding, down, up, quotient}
 use Rattle.pricing.specs.Run.{discountBy}
 
+-- the scale of multipliers
+abbrev pub multiplierScale : ℕ
+multiplierScale = 2 ^ 47
+
 -- 120,000 / (120,000 + z) in units of 1 / 2^47: rounded up for the lower factors, down for the upper ones
 unfoldable pub multiplierBy : Rounding → ℕ → ℕ
-multiplierBy down z = quotient up (120000 * 2 ^ 47) (120000 + z)
-multiplierBy up z = quotient down (120000 * 2 ^ 47) (120000 + z)
+multiplierBy down z = quotient up (rateScale * multiplierScale) (rateScale + z)
+multiplierBy up z = quotient down (rateScale * multiplierScale) (rateScale + z)
 
 -- a factor times a multiplier
 unfoldable pub scaledBy : Rounding → ℕ → ℕ → ℕ
-scaledBy ρ x m = quotient ρ (x * m) (2 ^ 47)
+scaledBy ρ x m = quotient ρ (x * m) multiplierScale
 
 -- the multipliers of seven rates
 unfoldable pub multipliersBy : Rounding → List ℕ → List ℕ
-multipliersBy ρ rates = table 7 (λ (i : ℕ). multiplierBy ρ (getD rates i 0))
+multipliersBy ρ rates = table scenarioCount (λ (i : ℕ). multiplierBy ρ (getD rates i 0))
 
 -- seven factors, each times its multiplier
 unfoldable pub scaledAllBy : Rounding → List ℕ → List ℕ → List ℕ
-scaledAllBy ρ xs ms = table 7 (λ (i : ℕ). scaledBy ρ (getD xs i 0) (getD ms i 0))
+scaledAllBy ρ xs ms = table scenarioCount (λ (i : ℕ). scaledBy ρ (getD xs i 0) (getD ms i 0))
 
 -- the discount factors of seven rates after n factors each
 unfoldable pub discountsBy : Rounding → List ℕ → ℕ → List ℕ
-discountsBy ρ rates n = table 7 (λ (i : ℕ). discountBy ρ (getD rates i 0) n)
+discountsBy ρ rates n = table scenarioCount (λ (i : ℕ). discountBy ρ (getD rates i 0) n)
 
 -- no element of a list is above a limit
 abbrev pub AtMost : ℕ → List ℕ → Type 0

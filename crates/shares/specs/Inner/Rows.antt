@@ -1,28 +1,43 @@
 -- A row's four sub-balances (01:44-45) from its column's figures, thousands of dollars: what the list of a column's shares has at that row.
 -- Definitions only.
-use Prim.Native.Nat.{ℕ, _+_, _-_}
+use Prim.Native.Nat.{ℕ, _+_, _-_, _≤_}
 use mathlib.Core.List.{List, [], _∷_}
-use lib.Dec.{eqb}
-use Rattle.lists.specs.Sums.{sumWhere}
-use Rattle.schedule.specs.Cells.{positionAt}
-use Rattle.filing.specs.declared.Contents.{Contents}
-use Rattle.filing.specs.Contents.{cell}
+use Rattle.schedule.specs.Cells.{positionAt, brokeredCell, penaltyBalanceCell}
+use Rattle.schedule.specs.Limits.{columnLimit}
+use Rattle.filing.specs.Contents.{cellIn}
+use Rattle.filing.specs.Inner.Sums.{columnSum}
+use Rattle.shares.specs.declared.Row.{Row}
 use Rattle.shares.specs.Apportion.{shareBehind}
 
--- the sum of a column's balances at the positions before `end`, 0 to 9
-unfoldable pub columnSum : Contents → ℕ → ℕ → ℕ
-columnSum k column end = sumWhere (λ (i : ℕ). eqb (positionAt i .column) column) (λ (i : ℕ). cell k (positionAt i .balance)) end
+-- the row of the i-th position, 0 to 8, among the cells of a filing
+unfoldable pub rowAt : List ℕ → ℕ → Row
+rowAt cells i =
+    record {
+      total = columnSum cells (positionAt i .column) 9;
+      above = columnSum cells (positionAt i .column) i;
+      balance = cellIn cells (positionAt i .balance);
+      brokered = cellIn cells (brokeredCell (positionAt i .column));
+      penalized = cellIn cells (penaltyBalanceCell (positionAt i .column));
+      coupon = cellIn cells (positionAt i .coupon);
+      «remaining_months» = cellIn cells (positionAt i .months);
+    }
 
--- retail with penalty, retail without, brokered with, brokered without, of a row with a balance, of which `held` is brokered
-unfoldable pub accountShares : ℕ → ℕ → ℕ → ℕ → ℕ → List ℕ
-accountShares total before balance held penalized =
-    shareBehind penalized total before (balance - held)
-    ∷ (balance - held - shareBehind penalized total before (balance - held))
-    ∷ shareBehind penalized total (before + (balance - held)) held
-    ∷ (held - shareBehind penalized total (before + (balance - held)) held)
+-- a row lies within its column, the column within its limit, and the column's brokered and penalty balances within the column
+pub record RowWithin (row : Row) : Type 0 where
+  pub in-column : row .above + row .balance ≤ row .total
+  pub column-limit : row .total ≤ columnLimit
+  pub brokered-within : row .brokered ≤ row .total
+  pub penalized-within : row .penalized ≤ row .total
+
+-- retail with penalty, retail without, brokered with, brokered without, of a row of whose balance `held` is brokered
+unfoldable pub accountShares : Row → ℕ → List ℕ
+accountShares row held =
+    shareBehind (row .penalized) (row .total) (row .above) (row .balance - held)
+    ∷ (row .balance - held - shareBehind (row .penalized) (row .total) (row .above) (row .balance - held))
+    ∷ shareBehind (row .penalized) (row .total) (row .above + (row .balance - held)) held
+    ∷ (held - shareBehind (row .penalized) (row .total) (row .above + (row .balance - held)) held)
     ∷ []
 
--- the same, from the column's sum, the sum of the rows above, the row's balance, and the column's brokered and penalty balances
-unfoldable pub rowShares : ℕ → ℕ → ℕ → ℕ → ℕ → List ℕ
-rowShares total before balance brokered penalized =
-    accountShares total before balance (shareBehind brokered total before balance) penalized
+-- the four sub-balances of a row
+unfoldable pub rowShares : Row → List ℕ
+rowShares row = accountShares row (shareBehind (row .brokered) (row .total) (row .above) (row .balance))

@@ -1,12 +1,15 @@
--- `month_factors` meets its contract. Assumes nothing.
+-- `deposits::factors::month_factors` meets its contract. Assumes nothing.
 use native.Mathlib.Numerals.{add-one}
-use Rattle.deposits.proofs.FactorLaws.{shifted-rates-at-most, month-past, month-within}
 use borrow.Author.Needs.{needs}
+use borrow.Author.Tests.{lt-ltb, le-ltb}
+use Rattle.schedule.proofs.ShiftLaws.{shifted-rates-le}
+use Rattle.deposits.specs.Inner.Factors.{monthFactors}
 use Rattle.deposits.proofs.factors.month_factors.Statement.{statement}
 use Rattle.deposits.proofs.factors.month_factors.Tie as tie
 
 returns : tie.Need-returns
-returns c = month-past _ _ _ _ (c .if1 .taken)
+unfolding monthFactors
+returns c = rw (le-ltb _ _ (c .if1 .taken))
 
 mul-shifted-rates : tie.Need-mul-shifted-rates
 mul-shifted-rates c = search needs
@@ -21,11 +24,12 @@ add-discount-factors : tie.Need-add-discount-factors
 add-discount-factors c = search needs
 
 discount-factors-requires : tie.Need-discount-factors-requires
-discount-factors-requires c κs = rw (c .before .shifted-rates .ensures) (shifted-rates-at-most _ (c .before .before .before .before .pre .0 _))
+discount-factors-requires c κs = rw (c .before .shifted-rates .ensures) (shifted-rates-le _ (c .before .before .before .before .pre .0 _))
 
 returns-2 : tie.Need-returns-2
+unfolding monthFactors
 returns-2 c =
-    rw (c .discount-factors .ensures, c .before .before .shifted-rates .ensures, add-one) (month-within _ _ _ _ (c .before .before .before .before .if1 .left))
+    rw (c .discount-factors .ensures, c .before .before .shifted-rates .ensures, add-one, lt-ltb _ _ (c .before .before .before .before .if1 .left))
 
 pub month-factors-spec : {M : Type 1} → statement M
 month-factors-spec =

@@ -1,15 +1,16 @@
 -- `pricing::discounting::multiplier` meets its contract. Assumes nothing.
-use borrow.Author.Needs.{needs}
+use Prim.Native.Nat.{ℕ, _+_, _*_}
 use mathlib.Core.Path.{_≡_, refl, _∙_}
 use mathlib.Core.Bool.{Bool, true, false, not}
-use Prim.Native.Nat.{ℕ, _+_}
+use borrow.Author.Needs.{needs}
+use Rattle.pricing.specs.Scales.{rateScale}
 use Rattle.pricing.specs.Rounding.{quotient, roundingOf}
-use Rattle.pricing.specs.Inner.Multipliers.{multiplierBy}
+use Rattle.pricing.specs.Inner.Multipliers.{multiplierScale, multiplierBy}
 use Rattle.pricing.proofs.discounting.multiplier.Statement.{statement}
 use Rattle.pricing.proofs.discounting.multiplier.Tie as tie
 
 -- the multiplier is rounded to the other side
-other-side : (up : Bool) (rate : ℕ) → quotient (roundingOf (not up)) 16888498602639360000 (120000 + rate) ≡ multiplierBy (roundingOf up) rate
+other-side : (up : Bool) (rate : ℕ) → quotient (roundingOf (not up)) (rateScale * multiplierScale) (rateScale + rate) ≡ multiplierBy (roundingOf up) rate
 unfolding multiplierBy roundingOf
 other-side true rate = refl
 other-side false rate = refl

@@ -1,19 +1,20 @@
 -- `pricing::discounting::next_factor` meets its contract: the products by the upper and the lower bits make the whole. Assumes nothing.
-use Prim.Native.Nat.{_*_, _/_, _%_, _≤_}
+use Prim.Native.Nat.{_*_, _-_, _/_, _%_, _≤_}
 use mathlib.Core.Logic.{⊎-elim}
 use native.Mathlib.Nat.{mul-le-mul, add-zero}
 use native.Mathlib.Omega.{arith}
+use Rattle.pricing.specs.Scales.{par}
 use Rattle.pricing.specs.Rounding.{quotient, roundingOf}
-use Rattle.pricing.specs.Inner.Multipliers.{scaledBy}
-use Rattle.pricing.proofs.MultiplierLaws.{bits-apart}
+use Rattle.pricing.specs.Inner.Multipliers.{multiplierScale, scaledBy}
+use Rattle.pricing.proofs.MultiplierLaws.{lowScale, highScale, bits-apart}
 use Rattle.pricing.proofs.discounting.next_factor.Statement.{statement}
 use Rattle.pricing.proofs.discounting.next_factor.Tie as tie
 
-high-le : (c : tie.Start) → c .args .factor * (c .args .multiplier / 16777216) ≤ 1000000000 * 8388608
-high-le c = let h : c .args .multiplier / 16777216 ≤ 8388608 = omega (arith, c .pre .1) in mul-le-mul (c .pre .0) h
+high-le : (c : tie.Start) → c .args .factor * (c .args .multiplier / lowScale) ≤ par * highScale
+high-le c = let h : c .args .multiplier / lowScale ≤ highScale = omega (arith, c .pre .1) in mul-le-mul (c .pre .0) h
 
-low-le : (c : tie.Start) → c .args .factor * (c .args .multiplier % 16777216) ≤ 1000000000 * 16777215
-low-le c = let h : c .args .multiplier % 16777216 ≤ 16777215 = omega arith in mul-le-mul (c .pre .0) h
+low-le : (c : tie.Start) → c .args .factor * (c .args .multiplier % lowScale) ≤ par * lowScale
+low-le c = let h : c .args .multiplier % lowScale ≤ lowScale = omega arith in mul-le-mul (c .pre .0) h
 
 mul-high : tie.Need-mul-high
 mul-high c = omega (arith, high-le c)
@@ -33,7 +34,7 @@ returns : tie.Need-returns
 unfolding scaledBy quotient roundingOf
 returns c =
     let a = c .before .before .args in
-    ⊎-elim (λ w. rw (w .1, w .0 .taken) (bits-apart (a .factor) (a .multiplier) 140737488355327))
+    ⊎-elim (λ w. rw (w .1, w .0 .taken) (bits-apart (a .factor) (a .multiplier) (multiplierScale - 1)))
     (λ w. rw (w .1, w .0 .left) (simp add-zero at (bits-apart (a .factor) (a .multiplier) 0)))
     (c .before .if1 .came)
 

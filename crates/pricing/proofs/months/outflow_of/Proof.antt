@@ -4,16 +4,18 @@ use native.Mathlib.Nat.{mul-le-mul}
 use native.Mathlib.Omega.{arith}
 use lib.Dec.{lit<}
 use borrow.Author.Needs.{needs}
+use Rattle.pricing.specs.Scales.{par, servicingLimit, amountLimit}
 use Rattle.pricing.specs.Rounding.{roundingOf}
+use Rattle.pricing.specs.Inner.Month.{figureLimit}
 use Rattle.pricing.proofs.RoundingLaws.{quotient-le}
 use Rattle.pricing.proofs.months.outflow_of.Statement.{statement}
 use Rattle.pricing.proofs.months.outflow_of.Tie as tie
 
--- the product is at most 4534054666735550000
-product-le : (c : tie.Start) → c .args .balance * (c .args .servicing + 1000000000 - c .args .survival) ≤ 4534054666735550000
+-- the product at its largest
+product-le : (c : tie.Start) → c .args .balance * (c .args .servicing + par - c .args .survival) ≤ amountLimit * (servicingLimit + par)
 product-le c =
-    let h : c .args .servicing + 1000000000 - c .args .survival ≤ 1000175000 = omega arith in
-    omega (arith, mul-le-mul (c .pre .0) h)
+    let h : c .args .servicing + par - c .args .survival ≤ servicingLimit + par = omega arith in
+    mul-le-mul (c .pre .0) h
 
 add-quotient : tie.Need-add-quotient
 add-quotient c = search needs
@@ -31,8 +33,7 @@ returns : tie.Need-returns
 returns c = (
   c .quotient .ensures,
   rw (c .quotient .ensures)
-      (quotient-le (roundingOf (c .before .args .up)) (c .before .args .balance *
-      (c .before .args .servicing + 1000000000 - c .before .args .survival)) 1000000000 4600000000 (lit< tt) (omega (arith, product-le (c .before)))),
+      (quotient-le (roundingOf (c .before .args .up)) _ par figureLimit (lit< tt) (omega (arith, product-le (c .before)))),
 )
 
 pub outflow-of-spec : {M : Type 1} → statement M

@@ -24,13 +24,13 @@ of-sheet : (c : tie.After-kind)
 of-sheet c = record-of-sheet _ _ _ (sym (c .before .before .record-item .ensures) ∙ c .kind .given .1)
 
 sub-i : tie.Need-sub-i
-sub-i c = of-cell (c .before) .from-601
+sub-i c = of-cell (c .before) .from-first
 
 mul-result : tie.Need-mul-result
-mul-result c = omega (arith, of-cell (c .before) .to-661)
+mul-result c = omega (arith, of-cell (c .before) .to-last)
 
 element-copy-out-result : tie.Need-element-copy-out-result
-element-copy-out-result c = omega (arith, of-cell (c .before) .to-661)
+element-copy-out-result c = omega (arith, of-cell (c .before) .to-last)
 
 enum-known-kind : tie.Need-enum-known-kind
 enum-known-kind c = search needs

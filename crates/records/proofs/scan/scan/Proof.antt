@@ -32,12 +32,11 @@ use denote.Ref.{RefT}
 use denote.Signature.{plain}
 use denote.Slice.{ShrSlice, slice-vals, shr-slice-tells, shr-slice-lawful}
 use denote.Steps.{nothing, owned}
-use denote.Triple.Statement.{Triple}
 use denote.Triple.Call.{calls-at}
 use denote.Triple.Entry.{onEntry}
 use denote.Triple.Spec.{Meets, tripleOf}
 use denote.Triple.Table.{entered, cited}
-use denote.Triple.Walked.{goes-none-slice, Walks, walked, walk-meets}
+use denote.Triple.Walked.{goes-none-slice, walked, walk-meets}
 use denote.Exit.{yes}
 use Rattle.records.specs.Inner.Scans.{scanStart}
 use Rattle.records.proofs.WalkLaws.{returned, value-is, is-value}
@@ -65,16 +64,8 @@ use Rattle.records.proofs.scan.scan.Key.{name as #scan}
 use Rattle.records.proofs.scan.scan as scan
 use Rattle.records.proofs.scan.scan.Statement as stated
 use Rattle.records.proofs.scan.scan.Code as code
-use Rattle.records.proofs.scan.scan.Proof.State.{progress-typed, Opened, started, NewC, StartC, StepC, VisitC, MovedC, to-new, to-start, asked-new, asked-start}
+use Rattle.records.proofs.scan.scan.Proof.State.{Known, progress-typed, Opened, started, NewC, StartC, StepC, VisitC, MovedC, to-new, to-start, asked-new, asked-start}
 use Rattle.records.proofs.scan.scan.Proof.Turn.{Progress-type, Reader-type, stayed, Post, looped}
-
--- that each callee meets its contract
-record Known {M : Type 1} (𝓤 : URA M) (H : Heap 𝓤) (A : Atoms 𝓤) (mem : Memory → SProp 𝓤) (run : Routine → Fun 𝓤) (𝓣 : Tables 𝓤 H) : Type 2 where
-  new : Triple 𝓤 (𝓣 .C #new) (NewC 𝓤 H A mem run)
-  start : Triple 𝓤 (𝓣 .C #start) (StartC 𝓤 H A mem run)
-  step : Triple 𝓤 (𝓣 .C #step) (StepC 𝓤 H A mem run)
-  visit : Triple 𝓤 (𝓣 .C #visit) (VisitC 𝓤 H A mem run)
-  moved : Triple 𝓤 (𝓣 .C #moved) (MovedC 𝓤 H A mem run)
 
 module _ {M : Type 1} (𝓤 : URA M) (H : Heap 𝓤) (A : Atoms 𝓤) (W : Given 𝓤 H A) (mem : Memory → SProp 𝓤) (run : Routine → Fun 𝓤) (𝓣 : Tables 𝓤 H) (known : Known 𝓤 H A mem run 𝓣) where
   -- the way to the loop, on the bytes s
@@ -106,18 +97,15 @@ module _ {M : Type 1} (𝓤 : URA M) (H : Heap 𝓤) (A : Atoms 𝓤) (W : Given
       rewrite ! 15 (λ (x : Val). ‵ (fat fullShare Progress-type l₃ 0 x)) (value-is P.the-type P′.the-laws p u′ is′) refl $
       forget ! 11 refl $ move ! (1 ∷ 0 ∷ 17 ∷ 15 ∷ 19 ∷ 9 ∷ 7 ∷ 13 ∷ 5 ∷ 2 ∷ 4 ∷ 3 ∷ 21 ∷ 11 ∷ 22 ∷ 20 ∷ 18 ∷ 16 ∷ 14 ∷ 12 ∷ 10 ∷ 8 ∷ 6 ∷ []) $ drop ! $ drop ! $
       -- the loop
-      first ! $ blocks ! $ by ! (looped 𝓤 H A W mem run κ q s 𝓣 fm (known .step) (known .visit) (known .moved) l₀ l₁ l₂ l₃ l₄ l₅ l₆ l₇ l₈
+      first ! $ blocks ! $ by ! (looped 𝓤 H A W mem run κ q s 𝓣 known l₀ l₁ l₂ l₃ l₄ l₅ l₆ l₇ l₈
       (started κ s r p (is-value (the-struct κ) (the-laws κ) r u is) (is-value P.the-type P′.the-laws p u′ is′) opened e)))))))))))))))
-
-  scan-walks : Walks 𝓤 H A scan.ended stayed (WpFn 𝓤 H (𝓣 .C) (𝓣 .Λ) code.function) (scan.clauses 𝓤 H A mem run)
-  scan-walks =
-      walked 𝓤 H A scan.ended stayed (scan.clauses 𝓤 H A mem run) (WpFn 𝓤 H (𝓣 .C) (𝓣 .Λ) code.function) (λ κs. (slice-vals, tt)) (λ κs. (shr-slice-tells (named 0) (κs .0) u8, tt))
-      (λ κs qs bounds a g are. via 𝓤 _ (fst∗ 𝓤 _ (emp 𝓤)) (walk (κs .0) (qs .0) (a .0) (are .0)))
 
   scan-meets : Meets 𝓤 H A scan.signature (WpFn 𝓤 H (𝓣 .C) (𝓣 .Λ) code.function) (scan.spec 𝓤 H A mem run)
   scan-meets =
       walk-meets 𝓤 H A scan.ended stayed W (goes-none-slice 𝓤 H A W 1 (0 ∷ []) tt (plain (λ _. u8)) yes, tt) (scan.clauses 𝓤 H A mem run)
-      (WpFn 𝓤 H (𝓣 .C) (𝓣 .Λ) code.function) (WpFn-mono 𝓤 H (W .laws) 𝓣 code.function) scan-walks
+      (WpFn 𝓤 H (𝓣 .C) (𝓣 .Λ) code.function) (WpFn-mono 𝓤 H (W .laws) 𝓣 code.function)
+      (walked 𝓤 H A scan.ended stayed (scan.clauses 𝓤 H A mem run) (WpFn 𝓤 H (𝓣 .C) (𝓣 .Λ) code.function) (λ κs. (slice-vals, tt)) (λ κs. (shr-slice-tells (named 0) (κs .0) u8, tt))
+      (λ κs qs bounds a g are. via 𝓤 _ (fst∗ 𝓤 _ (emp 𝓤)) (walk (κs .0) (qs .0) (a .0) (are .0))))
 
 pub scan-spec : {M : Type 1} → stated.statement M
 unfolding code.routine tablesOf

@@ -19,11 +19,11 @@ add-share-behind c = search needs
 share-behind-requires-3 : tie.Need-share-behind-requires-3
 share-behind-requires-3 c κs = search needs
 
-sub-t10 : tie.Need-sub-t10
-sub-t10 c = search needs
+sub-t6 : tie.Need-sub-t6
+sub-t6 c = search needs
 
-sub-t11 : tie.Need-sub-t11
-sub-t11 c = search needs
+sub-t7 : tie.Need-sub-t7
+sub-t7 c = search needs
 
 returns : tie.Need-returns
 unfolding rowShares accountShares
@@ -38,6 +38,6 @@ row-shares-spec =
     share-behind-requires-2
     add-share-behind
     share-behind-requires-3
-    sub-t10
-    sub-t11
+    sub-t6
+    sub-t7
     returns)

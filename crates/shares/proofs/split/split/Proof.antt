@@ -126,7 +126,7 @@ module _ {M : Type 1} (𝓤 : URA M) (H : Heap 𝓤) (A : Atoms 𝓤) (W : Given
     answer-is = LL.owed O.the-type O′.the-laws r _ is .0
 
     places-are : Is Places (r .places) (places-val r ∷ [])
-    places-are = places-of-field (r .places) _ (LL.owed O.the-type O′.the-laws r _ is .1 .0)
+    places-are = places-of-field 36 (r .places) _ (LL.owed O.the-type O′.the-laws r _ is .1 .0)
 
     count-fits : r .count < 2 ^ 64
     count-fits = LL.owed O.the-type O′.the-laws r _ is .1 .1 .0 .1
@@ -140,7 +140,7 @@ module _ {M : Type 1} (𝓤 : URA M) (H : Heap 𝓤) (A : Atoms 𝓤) (W : Given
   goes-fill r u is asked =
       qed W ((‵ (flft κ₁ q₁) ⊛ ‵ ftrue) ∷ ‵ (MutSlice (named 1) κ₁ Place .own x (s ∷ [])) ∷ []) ∵ says ! asked $ frame ! $
       nothing ! $ owned ! usize (Is usize) (uint-makes 𝓤 H A W w64) (r .count) _ (refl, count-fits r u is) $ fjoin ! $
-      owned ! Places (Is Places) (places-makes 𝓤 H A W) (r .places) _ (places-are r u is) $ fjoin ! $ move ! (1 ∷ 0 ∷ []) $ fjoin ! $ done !
+      owned ! Places (Is Places) (places-makes 𝓤 H A W 36) (r .places) _ (places-are r u is) $ fjoin ! $ move ! (1 ∷ 0 ∷ []) $ fjoin ! $ done !
 
   -- the list that `fill` leaves
   abbrev written : Outcome → List SubBalance

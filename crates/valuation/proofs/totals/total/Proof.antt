@@ -1,29 +1,23 @@
--- `valuation::totals::total` meets its contract: the sum is the total of the places before, each at most the limit. Assumes nothing.
-use Prim.Native.Nat.{_+_, _*_, _-_, _^_, _≤_}
-use mathlib.Core.Path.{_≡_, sym, _∙_}
-use mathlib.Core.Logic.{⊎-elim}
+-- `valuation::totals::total` meets its contract: the sum is that of the places before, each at most the limit. Assumes nothing.
+use Prim.Native.Nat.{_+_, _*_, _-_, _≤_}
+use mathlib.Core.Path.{_≡_, refl, _∙_}
 use native.Mathlib.Omega.{arith}
-use Rattle.lists.specs.Sums.{sumWhere}
-use Rattle.valuation.specs.Inner.Listed.{valueIn, inTotal, totalIn}
-use Rattle.valuation.proofs.TotalLaws.{total-zero, total-suc}
+use Rattle.lists.specs.Sums.{sum}
+use Rattle.lists.specs.Tables.{tableFrom}
+use Rattle.lists.proofs.SumLaws.{sum-table-suc}
+use Rattle.valuation.specs.Inner.RowTotals.{valueLimit, numberAt}
 use Rattle.valuation.proofs.totals.total.Statement.{statement}
 use Rattle.valuation.proofs.totals.total.Tie as tie
 
 abbrev Inv-loop : tie.InvT-loop
-Inv-loop values scenario long first sum₀ place₀ sum place = (place ≤ 36) × (sum ≤ 5 * 10 ^ 12 * place)
-    × (sum ≡ sumWhere (inTotal long) (valueIn values scenario) place)
+Inv-loop list r first count sum₀ i₀ total i = (i ≤ count) × (total ≤ valueLimit * i) × (total ≡ sum (tableFrom first i (numberAt list r)))
 
 abbrev μ-loop : tie.MeasureT-loop
-μ-loop values scenario long first sum₀ place₀ sum place = 36 - place
-
-mul-first : tie.Need-mul-first Inv-loop μ-loop
-mul-first c = omega arith
+μ-loop list r first count sum₀ i₀ total i = count - i
 
 loop-holds : tie.Need-loop-holds Inv-loop μ-loop
-loop-holds c = (omega arith, omega arith, total-zero _ _)
-
-in-total-requires : tie.Need-in-total-requires Inv-loop μ-loop
-in-total-requires c κs = omega arith
+unfolding sum tableFrom
+loop-holds c = (omega arith, omega arith, refl)
 
 add-sum : tie.Need-add-sum Inv-loop μ-loop
 add-sum c = omega arith
@@ -31,42 +25,39 @@ add-sum c = omega arith
 mul-sum : tie.Need-mul-sum Inv-loop μ-loop
 mul-sum c = omega arith
 
-element-copy-out-sum : tie.Need-element-copy-out-sum Inv-loop μ-loop
-element-copy-out-sum c = omega arith
-
 add-sum-2 : tie.Need-add-sum-2 Inv-loop μ-loop
-add-sum-2 c = omega (
-  arith,
-  c .before .before .before .before .before .pre .1
-      (36 * c .before .before .before .before .before .args .scenario + c .before .before .before .before .loop .place),
-)
+add-sum-2 c = omega arith
 
-add-place : tie.Need-add-place Inv-loop μ-loop
-add-place c = omega arith
+mul-sum-2 : tie.Need-mul-sum-2 Inv-loop μ-loop
+mul-sum-2 c = omega arith
+
+shared-slice-read-sum : tie.Need-shared-slice-read-sum Inv-loop μ-loop
+shared-slice-read-sum c = omega arith
+
+add-sum-3 : tie.Need-add-sum-3 Inv-loop μ-loop
+add-sum-3 c =
+    let start = c .before .before .before in
+    let a = start .args in
+    omega (arith, start .pre .0 .within (15 * (a .first + c .before .before .loop .i) + a .r) (omega arith))
+
+add-i : tie.Need-add-i Inv-loop μ-loop
+add-i c = omega arith
 
 loop-less : tie.Need-loop-less Inv-loop μ-loop
 loop-less c = omega arith
 
 loop-again : tie.Need-loop-again Inv-loop μ-loop
+unfolding numberAt
 loop-again c =
-    let a = c .before .before .before .before .args in
-    let state = c .before .before .before .loop in
-    ⊎-elim
-    (λ w. omega (
-      arith,
-      total-suc (a .values .now) (a .scenario) (state .place) (a .long) (sym (w .0 .taken) ∙ c .before .in-total .ensures),
-      c .before .before .before .before .pre .1 (36 * a .scenario + state .place),
-    ))
-    (λ w. omega (
-      arith,
-      total-suc (a .values .now) (a .scenario) (state .place) (a .long) (sym (w .0 .left) ∙ c .before .in-total .ensures),
-    ))
-    (c .if1 .came)
+    let start = c .before .before .before in
+    let a = start .args in
+    let i = c .before .before .loop .i in
+    let limit = start .pre .0 .within (15 * (a .first + i) + a .r) (omega arith) in
+    (omega arith, omega arith, omega (arith, sum-table-suc (a .first) i (numberAt (a .list .now) (a .r))))
 
 returns : tie.Need-returns Inv-loop μ-loop
-unfolding totalIn
 returns c =
-    let e : c .before .loop .place ≡ 36 = omega arith in
+    let e : c .before .loop .i ≡ c .before .before .args .count = omega arith in
     c .before .loop .inv .2 ∙ rw e
 
 pub total-spec : {M : Type 1} → statement M
@@ -75,14 +66,14 @@ total-spec =
     (tie.spec
     Inv-loop
     μ-loop
-    mul-first
     loop-holds
-    in-total-requires
     add-sum
     mul-sum
-    element-copy-out-sum
     add-sum-2
-    add-place
+    mul-sum-2
+    shared-slice-read-sum
+    add-sum-3
+    add-i
     loop-less
     loop-again
     returns)

@@ -1,21 +1,22 @@
 -- `withdrawal::gain::gain_and_cost` meets its contract. Assumes nothing.
 use Prim.Native.Nat.{_*_, _-_, _≤_}
 use mathlib.Core.Path.{refl}
-use native.Mathlib.Nat.{mul-le-mul, sub-le}
+use native.Mathlib.Nat.{mul-le-mul}
 use native.Mathlib.Omega.{arith}
 use borrow.Author.Needs.{needs}
-use Rattle.withdrawal.specs.Gain.{cost}
-use Rattle.withdrawal.specs.Inner.Incentives.{gainOf}
-use Rattle.withdrawal.proofs.GainLaws.{gain-difference}
+use Rattle.schedule.specs.Limits.{monthsLimit}
+use Rattle.schedule.specs.Shift.{shiftedLimit}
+use Rattle.withdrawal.specs.Gain.{gainScale, cost}
+use Rattle.withdrawal.specs.Inner.Incentives.{incentiveOf}
+use Rattle.withdrawal.proofs.IncentiveLaws as sizes
 use Rattle.withdrawal.proofs.gain.gain_and_cost.Statement.{statement}
 use Rattle.withdrawal.proofs.gain.gain_and_cost.Tie as tie
 
--- the penalty and what is earned at their largest
-penalty-le : (c : tie.Start) → c .args .coupon * c .args .penalty ≤ 1500 * 3600
-penalty-le c = mul-le-mul (c .pre .0) (c .pre .1)
+penalty-le : (c : tie.Start) → c .args .coupon * c .args .penalty ≤ gainScale
+penalty-le c = sizes.penalty-le (c .pre .0) (c .pre .1) (c .pre .2) (c .pre .3)
 
-earned-le : (c : tie.Start) → (12000000 - c .args .coupon * c .args .penalty) * (c .args .rate * c .args .left) ≤ 12000000 * (2800 * 120)
-earned-le c = mul-le-mul (sub-le 12000000 (c .args .coupon * c .args .penalty)) (mul-le-mul (c .pre .2) (c .pre .3))
+earned-le : (c : tie.Start) → (gainScale - c .args .coupon * c .args .penalty) * (c .args .rate * c .args .left) ≤ gainScale * (shiftedLimit * monthsLimit)
+earned-le c = sizes.earned-le (c .pre .0) (c .pre .1) (c .pre .2) (c .pre .3)
 
 mul-t5 : tie.Need-mul-t5
 mul-t5 c = omega (arith, penalty-le c)
@@ -42,17 +43,8 @@ mul-t12 : tie.Need-mul-t12
 mul-t12 c = omega (arith, mul-le-mul (c .pre .0) (c .pre .3))
 
 returns : tie.Need-returns
-unfolding gainOf cost
-returns c =
-    record {
-      gain-is = gain-difference _ _ _ _ (sub-t6 c);
-      cost-is = refl;
-      small = record {
-        earned-le = omega (arith, earned-le c);
-        forfeited-le = omega (arith, penalty-le c);
-        cost-le = omega (arith, mul-le-mul (c .pre .0) (c .pre .3));
-      };
-    }
+unfolding incentiveOf cost
+returns c = refl
 
 pub gain-and-cost-spec : {M : Type 1} → statement M
 gain-and-cost-spec =

@@ -1,22 +1,24 @@
--- `withdrawal::tiers::first_reached` meets its contract: no tier before i is reached. Assumes nothing.
-use Prim.Native.Nat.{_-_, _≤_, _<_}
-use mathlib.Core.Path.{sym, _∙_}
-use borrow.Author.Count.{below-more}
+-- `withdrawal::tiers::first_reached` meets its contract: going on from place i, the search ends where it would from the first. Assumes nothing.
+use Prim.Native.Nat.{_-_, _≤_}
+use mathlib.Core.Path.{_≡_, sym, _∙_}
 use borrow.Author.Needs.{needs}
-use Rattle.withdrawal.specs.Inner.TierArrays.{NoneBefore}
+use Rattle.withdrawal.specs.Inner.TierArrays.{placeReached, tierTable}
 use Rattle.withdrawal.specs.Inner.Incentives.{gainOf}
-use Rattle.withdrawal.proofs.TierLaws.{tier-survival-reached, tier-survival-none}
+use Rattle.withdrawal.proofs.TierLaws.{placeFrom, place-from-reached, place-from-suc, place-from-end}
+use Rattle.withdrawal.proofs.UnreachedLaws.{place-from-none}
 use Rattle.withdrawal.proofs.tiers.first_reached.Statement.{statement}
 use Rattle.withdrawal.proofs.tiers.first_reached.Tie as tie
 
 abbrev Inv-loop : tie.InvT-loop
-Inv-loop incentive from tiers count i₀ i = (i ≤ tiers .count) × NoneBefore tiers (gainOf incentive) (incentive .cost) i
+Inv-loop incentive from tiers count i₀ i =
+    (i ≤ tiers .count)
+    × (placeFrom tiers (gainOf incentive) (incentive .cost) i ≡ placeReached (gainOf incentive) (incentive .cost) (tierTable tiers .tiers))
 
 abbrev μ-loop : tie.MeasureT-loop
 μ-loop incentive from tiers count i₀ i = tiers .count - i
 
 loop-holds : tie.Need-loop-holds Inv-loop μ-loop
-loop-holds c = (search needs, c .pre .1)
+loop-holds c = (search needs, place-from-none _ _ _ _ (c .pre .0 .2) (c .pre .1))
 
 mul-reaches : tie.Need-mul-reaches Inv-loop μ-loop
 mul-reaches c = search needs
@@ -29,14 +31,8 @@ reaches-requires c κs = (c .before .before .before .pre .0 .1, c .before .befor
 
 returns : tie.Need-returns Inv-loop μ-loop
 returns c =
-    let s = c .before .before .before .before .before in
     let l = c .before .before .before .before .loop in
-    let h : l .i < s .args .t1 .count = search needs in (
-      l .inv .0,
-      l .inv .1,
-      tier-survival-reached (s .args .t1) (gainOf (s .args .incentive)) (s .args .incentive .cost) (s .pre .0 .0) (l .i) h
-          (l .inv .1) (sym (c .before .reaches .ensures) ∙ c .if1 .taken),
-    )
+    sym (place-from-reached _ _ _ (l .i) (search needs) (sym (c .before .reaches .ensures) ∙ c .if1 .taken)) ∙ l .inv .1
 
 add-i : tie.Need-add-i Inv-loop μ-loop
 add-i c = search needs
@@ -47,17 +43,12 @@ loop-less c = search needs
 loop-again : tie.Need-loop-again Inv-loop μ-loop
 loop-again c =
     let l = c .before .before .before .before .loop in
-    (search needs, below-more _ _ (l .inv .1) (sym (c .before .reaches .ensures) ∙ c .if1 .left))
+    (search needs, sym (place-from-suc _ _ _ (l .i) (search needs) (sym (c .before .reaches .ensures) ∙ c .if1 .left)) ∙ l .inv .1)
 
 returns-2 : tie.Need-returns-2 Inv-loop μ-loop
 returns-2 c =
-    let s = c .before .before in
-    let l = c .before .loop in (
-      l .inv .0,
-      l .inv .1,
-      tier-survival-none (s .args .t1) (gainOf (s .args .incentive)) (s .args .incentive .cost) (s .pre .0 .0) (l .i)
-          (c .loop-test .left) (l .inv .0) (l .inv .1),
-    )
+    let l = c .before .loop in
+    sym (place-from-end _ _ _ (l .i) (c .loop-test .left)) ∙ l .inv .1
 
 pub first-reached-spec : {M : Type 1} → statement M
 first-reached-spec =

@@ -1,8 +1,9 @@
 -- `withdrawal::tiers::house` meets its contract: the arrays hold the tiers of the definition. Assumes nothing.
+use mathlib.Core.Path.{refl}
 use Rattle.lists.specs.Tables.{tableFrom}
 use Rattle.withdrawal.specs.Tiers.{tier, houseTiers}
-use Rattle.withdrawal.specs.Inner.TierArrays.{tierTableOf}
-use Rattle.withdrawal.proofs.TierLaws.{tiers-fit-of-tests}
+use Rattle.withdrawal.specs.Inner.TierArrays.{tierTable, tierTableOf, withSurvivals, inPlaces, held}
+use Rattle.withdrawal.proofs.HeldLaws.{tiers-fit-of-tests, fit-usable}
 use Rattle.withdrawal.proofs.tiers.house.Statement.{statement}
 use Rattle.withdrawal.proofs.tiers.house.Tie as tie
 
@@ -10,8 +11,8 @@ with-survivals-requires : tie.Need-with-survivals-requires
 with-survivals-requires c κs = tiers-fit-of-tests _ _ _ _ tt tt tt tt
 
 returns : tie.Need-returns
-unfolding houseTiers tier tierTableOf tableFrom
-returns c = (c .with-survivals .ensures .0, c .with-survivals .ensures .1)
+unfolding houseTiers tier tierTable tierTableOf withSurvivals inPlaces held tableFrom
+returns c = rw (c .with-survivals .ensures) (refl, fit-usable _ _ _ _ (tiers-fit-of-tests _ _ _ _ tt tt tt tt) refl)
 
 pub house-spec : {M : Type 1} → statement M
 house-spec = tie.close (tie.spec with-survivals-requires returns)

@@ -31,7 +31,7 @@ use denote.Struct.Rest.{own-put}
 use denote.Triple.Entry.{Vals, onEntry}
 use denote.Triple.Spec.{Meets, tripleOf}
 use denote.Triple.Table.{entered}
-use denote.Triple.Walked.{says, Stays, stay-none, walkOf, goes-none, Walks, ends-at, walked, walk-meets}
+use denote.Triple.Walked.{says, Stays, stay-none, walkOf, goes-none, ends-at, walked, walk-meets}
 use denote.Exit.{yes}
 use Rattle.records.specs.declared.reader.Reader.{Reader}
 use Rattle.records.proofs.ReaderLaws.{TheReader, the-struct, the-laws, reader-value, OwnReader, token, reader-twice}
@@ -78,19 +78,15 @@ module _ {M : Type 1} (𝓤 : URA M) (H : Heap 𝓤) (A : Atoms 𝓤) (W : Given
         returns ! (look ! 6 refl) $ forget ! 0 refl $ forget ! 2 refl $ forget ! 4 refl $ forget ! 6 refl $
         move ! (6 ∷ 7 ∷ []) $ free1 ! $ move ! (4 ∷ 5 ∷ []) $ free1 ! $ move ! (2 ∷ 3 ∷ []) $ free1 ! $ free1 ! $ free0 ! $ by ! exits))))
 
-module _ {M : Type 1} (𝓤 : URA M) (H : Heap 𝓤) (A : Atoms 𝓤) (W : Given 𝓤 H A) (mem : Memory → SProp 𝓤) (run : Routine → Fun 𝓤) where
-  moved-walks : (C : Calls 𝓤 H) (Λ : Loops 𝓤 H) → Walks 𝓤 H A moved.ended stayed (WpFn 𝓤 H C Λ code.function) (moved.clauses 𝓤 H A mem run)
-  moved-walks C Λ =
-      walked 𝓤 H A moved.ended stayed (moved.clauses 𝓤 H A mem run) (WpFn 𝓤 H C Λ code.function)
-      (λ κs. (LL.vals (the-struct (κs .0)) (the-laws (κs .0)), (uint-vals w64, tt))) (λ κs. (LL.tells (the-struct (κs .0)) (the-laws (κs .0)), (uint-tells w64, tt)))
-      (λ κs qs bounds a g are. via 𝓤 _ (fst∗ 𝓤 _ (emp 𝓤))
-      (walk 𝓤 H A W mem run (κs .0) (qs .0) (a .0) (a .1 .0) (are .1 .0 .1) C Λ (LL.lawful (the-struct (κs .0)) (the-laws (κs .0)) 𝓤 H A W .typed (a .0) _ (are .0) .0)))
-
 moved-meets : {M : Type 1} (𝓤 : URA M) (H : Heap 𝓤) (A : Atoms 𝓤) → Given 𝓤 H A → (mem : Memory → SProp 𝓤) (run : Routine → Fun 𝓤) (𝓣 : Tables 𝓤 H)
     → Meets 𝓤 H A moved.signature (WpFn 𝓤 H (𝓣 .C) (𝓣 .Λ) code.function) (moved.spec 𝓤 H A mem run)
 moved-meets 𝓤 H A W mem run 𝓣 =
     walk-meets 𝓤 H A moved.ended stayed W (goes-none 𝓤 H A W 1 TheReader yes (λ κs x f. refl), (goes-none 𝓤 H A W 1 (λ _. usize) yes (λ κs x f. refl), tt)) (moved.clauses 𝓤 H A mem run)
-    (WpFn 𝓤 H (𝓣 .C) (𝓣 .Λ) code.function) (WpFn-mono 𝓤 H (W .laws) 𝓣 code.function) (moved-walks 𝓤 H A W mem run (𝓣 .C) (𝓣 .Λ))
+    (WpFn 𝓤 H (𝓣 .C) (𝓣 .Λ) code.function) (WpFn-mono 𝓤 H (W .laws) 𝓣 code.function)
+    (walked 𝓤 H A moved.ended stayed (moved.clauses 𝓤 H A mem run) (WpFn 𝓤 H (𝓣 .C) (𝓣 .Λ) code.function)
+    (λ κs. (LL.vals (the-struct (κs .0)) (the-laws (κs .0)), (uint-vals w64, tt))) (λ κs. (LL.tells (the-struct (κs .0)) (the-laws (κs .0)), (uint-tells w64, tt)))
+    (λ κs qs bounds a g are. via 𝓤 _ (fst∗ 𝓤 _ (emp 𝓤))
+    (walk 𝓤 H A W mem run (κs .0) (qs .0) (a .0) (a .1 .0) (are .1 .0 .1) (𝓣 .C) (𝓣 .Λ) (LL.lawful (the-struct (κs .0)) (the-laws (κs .0)) 𝓤 H A W .typed (a .0) _ (are .0) .0))))
 
 pub moved-spec : {M : Type 1} → stated.statement M
 unfolding code.routine tablesOf

@@ -22,7 +22,7 @@ use types.Kit.{Given, Item, ‵, raw, _⊛_, ⋆, anyQ, atRet, _$_, _∵_, !, qe
 use types.Part.{whole, sub, look-in}
 use types.Run.{look, init, store, forget, stop, fld, from, load, of-opd, and-then, no-more, assigns, land, land-last, returns, free1, free0, stays, leaves-loop, exec, Below, again}
 use sound.Loop.{loop-rule}
-use sound.WpLaws.{FmC}
+use sound.WpLaws.{FmC, fmOf}
 use denote.Laws.{Is}
 use denote.Plain.{uint-makes}
 use denote.Builtin.{u8, usize}
@@ -31,7 +31,6 @@ use denote.Signature.{plain}
 use denote.Steps.{nothing, owned}
 use denote.Enum.Laws as EL
 use denote.Struct.Laws as LL
-use denote.Triple.Statement.{Triple}
 use denote.Triple.Call.{calls-at, calls-at-last}
 use denote.Triple.Walked.{says, Stays, stay-none-slice, walkOf, ends-at}
 use denote.Exit.{yes}
@@ -51,14 +50,11 @@ use Rattle.records.proofs.scan.Scanned.Laws as K′
 use Rattle.records.proofs.scan.Progress as P
 use Rattle.records.proofs.scan.Progress.Laws as P′
 use Rattle.records.proofs.reader.Reader.step as step
-use Rattle.records.proofs.reader.Reader.step.Symbol.{name as #step}
 use Rattle.records.proofs.reader.Reader.moved as moved
-use Rattle.records.proofs.reader.Reader.moved.Symbol.{name as #moved}
 use Rattle.records.proofs.scan.visit as visit
-use Rattle.records.proofs.scan.visit.Symbol.{name as #visit}
 use Rattle.records.proofs.scan.scan as scan
 use Rattle.records.proofs.scan.scan.Code as code
-use Rattle.records.proofs.scan.scan.Proof.State.{progress-value, IsProgress, progress-typed, at-fits, scanned-value, scanned-is, scanned-typed, Stepped, MovedTo, Ready, Made, State, Less, less-wf, visit-ready, moved-on, moved-less, StepC, VisitC, MovedC, to-step, to-visit, to-moved, asked-step, asked-visit, asked-moved}
+use Rattle.records.proofs.scan.scan.Proof.State.{Known, progress-value, IsProgress, progress-typed, at-fits, scanned-value, scanned-is, scanned-typed, Stepped, MovedTo, Ready, Made, State, Less, less-wf, visit-ready, moved-on, moved-less, StepC, VisitC, MovedC, to-step, to-visit, to-moved, asked-step, asked-visit, asked-moved}
 
 -- the types of the locals, as the function's own table spells them
 abbrev type-at : List Local → ℕ → Ty
@@ -108,8 +104,10 @@ module _ {M : Type 1} (𝓤 : URA M) (H : Heap 𝓤) (A : Atoms 𝓤) (W : Given
       suffices ! _ (ends-at 𝓤 H A scan.ended stayed (scan.clauses 𝓤 H A mem run) W (((κ, tt), (q, tt), tt, (s, tt), (bytes-value s ∷ [], tt)), tt) (scanned-value k) k (tt, tt) (tt, tt)) $ says ! e $
       frame ! $ nothing ! $ move ! (1 ∷ 0 ∷ []) $ fjoin ! $ owned ! K.the-row (Is K.the-row) (LL.makes K.the-type K′.the-plain 𝓤 H A) k _ is $ move ! (1 ∷ 0 ∷ []) $ frame ! $ done !
 
-  module _ (𝓣 : Tables 𝓤 H) (fm : FmC 𝓤 H (W .laws) (𝓣 .C)) (known-step : Triple 𝓤 (𝓣 .C #step) (StepC 𝓤 H A mem run)) (known-visit : Triple 𝓤 (𝓣 .C #visit) (VisitC 𝓤 H A mem run))
-      (known-moved : Triple 𝓤 (𝓣 .C #moved) (MovedC 𝓤 H A mem run)) (l₀ l₁ l₂ l₃ l₄ l₅ l₆ l₇ l₈ : ℕ) where
+  module _ (𝓣 : Tables 𝓤 H) (known : Known 𝓤 H A mem run 𝓣) (l₀ l₁ l₂ l₃ l₄ l₅ l₆ l₇ l₈ : ℕ) where
+    abbrev fm : FmC 𝓤 H (W .laws) (𝓣 .C)
+    fm = fmOf 𝓤 H (W .laws) 𝓣
+
     abbrev Locals : Env 𝓤 H
     Locals = (Scanned-type, l₀) ∷ (Bytes-type, l₁) ∷ (Reader-type, l₂) ∷ (Progress-type, l₃) ∷ (Step-type, l₄) ∷ (Size-type, l₅) ∷ (Bool-type, l₆) ∷ (Reader-type, l₇) ∷ (Reader-type, l₈) ∷ []
 
@@ -143,7 +141,7 @@ module _ {M : Type 1} (𝓤 : URA M) (H : Heap 𝓤) (A : Atoms 𝓤) (W : Given
         move ! (7 ∷ []) $ use1 W (‵ (OwnReader κ r (reader-value r)) ⊛ ‵ (OwnReader κ r (reader-value r))) (reader-twice 𝓤 H A W κ r (reader-value r)) $
         split ! $ nothing ! $ move ! (1 ∷ 0 ∷ []) $ fjoin ! $ move ! (10 ∷ 0 ∷ []) $
         use2 W (raw (StepC 𝓤 H A mem run .pre (to-step 𝓤 H A mem run κ q r))) (asked-step 𝓤 H A W mem run κ q r) $
-        calls-at ! fm (StepC 𝓤 H A mem run) known-step (to-step 𝓤 H A mem run κ q r) (and-then ! (load ! (from ! (stop !)) (look ! 6 refl)) (no-more !)) (λ u.
+        calls-at ! fm (StepC 𝓤 H A mem run) (known .step) (to-step 𝓤 H A mem run κ q r) (and-then ! (load ! (from ! (stop !)) (look ! 6 refl)) (no-more !)) (λ u.
         returned ! tt step.ended (step.clauses 𝓤 H A mem run) (κ, tt) (r, tt) tt (token 𝓤 κ q) (Stepped r) u (id⊢ 𝓤 _) (λ t ws. id⊢ 𝓤 _) (λ t stepped is.
         land ! (from ! (stop !)) (init ! 8 refl (EL.lawful S.the-type S′.the-laws 𝓤 H A W tt .typed t _ is .0)) $
         -- the visit: of the bytes a copy is kept, and the progress is given up for the one after the record
@@ -151,7 +149,7 @@ module _ {M : Type 1} (𝓤 : URA M) (H : Heap 𝓤) (A : Atoms 𝓤) (W : Given
         owned ! P.the-row (Is P.the-row) (LL.makes P.the-type P′.the-plain 𝓤 H A) p _ is-p $
         fjoin ! $ move ! (3 ∷ 0 ∷ []) $ fjoin ! $ move ! (1 ∷ 0 ∷ []) $ fjoin ! $ move ! (2 ∷ 0 ∷ []) $
         use2 W (raw (VisitC 𝓤 H A mem run .pre (to-visit 𝓤 H A mem run κ q s t u p))) (asked-visit 𝓤 H A W mem run κ q s t u p (ready t stepped)) $
-        calls-at ! fm (VisitC 𝓤 H A mem run) known-visit (to-visit 𝓤 H A mem run κ q s t u p) (and-then ! (load ! (from ! (stop !)) (look ! 5 refl)) (and-then ! (load ! (from ! (stop !)) (look ! 8 refl)) (and-then ! (load ! (from ! (stop !)) (look ! 4 refl)) (no-more !)))) (λ u′.
+        calls-at ! fm (VisitC 𝓤 H A mem run) (known .visit) (to-visit 𝓤 H A mem run κ q s t u p) (and-then ! (load ! (from ! (stop !)) (look ! 5 refl)) (and-then ! (load ! (from ! (stop !)) (look ! 8 refl)) (and-then ! (load ! (from ! (stop !)) (look ! 4 refl)) (no-more !)))) (λ u′.
         returned ! tt visit.ended (visit.clauses 𝓤 H A mem run) (κ, tt) (s, (t, (p, tt))) tt (token 𝓤 κ q) (Made s p) u′ (id⊢ 𝓤 _) (λ p′ ws. id⊢ 𝓤 _) (λ p′ made is′.
         drop ! $ land ! (from ! (stop !)) (store ! 4 refl (progress-typed 𝓤 H A W p′ u′ is′)) $
         rewrite ! 4 (λ (x : Val). ‵ (fat fullShare Progress-type l₃ 0 x)) (value-is P.the-type P′.the-laws p′ u′ is′) refl $
@@ -160,7 +158,7 @@ module _ {M : Type 1} (𝓤 : URA M) (H : Heap 𝓤) (A : Atoms 𝓤) (W : Given
         nothing ! $ owned ! usize (Is usize) (uint-makes 𝓤 H A W w64) (p′ .at) _ (refl, at-fits 𝓤 H A W p′ (is-value P.the-type P′.the-laws p′ u′ is′)) $ fjoin ! $
         move ! (3 ∷ 0 ∷ []) $ fjoin ! $ move ! (1 ∷ 0 ∷ []) $
         use2 W (raw (MovedC 𝓤 H A mem run .pre (to-moved 𝓤 H A mem run κ q r (p′ .at)))) (asked-moved 𝓤 H A W mem run κ q r (p′ .at)) $
-        calls-at-last ! fm (MovedC 𝓤 H A mem run) known-moved (to-moved 𝓤 H A mem run κ q r (p′ .at)) (and-then ! (load ! (from ! (stop !)) (look ! 8 refl)) (and-then ! (load ! (from ! (fld ! refl (stop !))) (look-in ! 3 (sub ! 1 refl (whole !)))) (no-more !))) (λ v.
+        calls-at-last ! fm (MovedC 𝓤 H A mem run) (known .moved) (to-moved 𝓤 H A mem run κ q r (p′ .at)) (and-then ! (load ! (from ! (stop !)) (look ! 8 refl)) (and-then ! (load ! (from ! (fld ! refl (stop !))) (look-in ! 3 (sub ! 1 refl (whole !)))) (no-more !))) (λ v.
         returned ! tt moved.ended (moved.clauses 𝓤 H A mem run) (κ, tt) (r, (p′ .at, tt)) tt (token 𝓤 κ q) (MovedTo r (p′ .at)) v (id⊢ 𝓤 _) (λ r′ ws. id⊢ 𝓤 _) (λ r′ to is″.
         land-last ! (from ! (stop !)) (store ! 3 refl (reader-typed 𝓤 H A W κ r′ v is″)) $
         rewrite ! 3 (λ (x : Val). ‵ (fat fullShare Reader-type l₂ 0 x)) (value-is (the-struct κ) (the-laws κ) r′ v is″) refl $

@@ -85,7 +85,7 @@ module _ {M : Type 1} (𝓤 : URA M) (H : Heap 𝓤) (A : Atoms 𝓤) (W : Given
       nothing ! $ move ! (3 ∷ 0 ∷ []) $ join ! $ frame ! $
       fjoin ! $ pureI ! (at-slice Place (x (mixed m)) (s ∷ [])) (tt, (tt, tt)) (ap (λ (n : ℕ). sliceVal (b, o) n ∷ []) (sym l), subst (Room Place) (sym l) room) $ fjoin ! $
       nothing ! $ owned ! usize (Is usize) (uint-makes 𝓤 H A W w64) m _ (refl, m-fits) $ fjoin ! $
-      owned ! Places (Is Places) (places-makes 𝓤 H A W) fs _ are $ fjoin ! $ move ! (1 ∷ 0 ∷ []) $ fjoin ! $
+      owned ! Places (Is Places) (places-makes 𝓤 H A W 36) fs _ are $ fjoin ! $ move ! (1 ∷ 0 ∷ []) $ fjoin ! $
       feqI ! (List Val) (vunit ∷ []) (vunit ∷ []) refl $ move ! (1 ∷ 0 ∷ []) $ done !
 
   module _ (𝓣 : Tables 𝓤 H) (long : length fs ≡ 36) (l₀ l₁ l₂ l₃ l₄ l₅ l₆ l₇ l₈ l₉ l₁₀ l₁₁ l₁₂ : ℕ) where
@@ -175,7 +175,7 @@ module _ {M : Type 1} (𝓤 : URA M) (H : Heap 𝓤) (A : Atoms 𝓤) (W : Given
         move ! (1 ∷ 2 ∷ 3 ∷ 4 ∷ []) $ closes-slice ! tt Place ys (mixed m) l b o $
         move ! (3 ∷ []) $ feqI ! ℕ (length fs) 36 long $ fjoin ! $ use1 W (‵ (partAt Places fullShare fs l₄ 0)) (array-whole 𝓤 H A W Place fullShare 36 fs l₄ 0) $
         fpick ! (λ vs. fsplit ! $ move ! (1 ∷ []) $ peeks ! Places (Is Places) (shows 𝓤 H A Places) fs vs (λ r. leave ! $
-        rewrite ! 0 (λ (us : List Val). ‵ (cellAt fullShare (Places .mir) us l₄ 0)) (places-tells fs vs r) refl $
+        rewrite ! 0 (λ (us : List Val). ‵ (cellAt fullShare (Places .mir) us l₄ 0)) (places-tells 36 fs vs r) refl $
         use1 W (‵ (fat fullShare (ty 4) l₄ 0 (only (placesVals fs)))) (W .laws .raw-at fullShare (ty 4) l₄ 0 (only (placesVals fs))) $
         -- [_4; obs; the borrow; the token; then the locals from _12 down, without _4]
         returns ! (look ! 27 refl) $ forget ! 0 refl $ forget ! 16 refl $ forget ! 18 refl $ forget ! 21 refl $ forget ! 23 refl $ forget ! 25 refl $

@@ -1,0 +1,74 @@
+-- A filing whose records are all sound: each cell is within the limit of its class, and so are the numbers of a sheet that is present.
+-- Assumes nothing.
+use Prim.Native.Nat.{ℕ, _-_, _+_, _≤_, _<_}
+use native.Mathlib.Omega.{arith}
+use mathlib.Core.Path.{_≡_, refl, ap, _∙_}
+use mathlib.Core.Bool.{Bool, true, false, cond, not}
+use mathlib.Core.List.{List}
+use borrow.Author.Tests.{le-leb, ltb-true, eqb-true, not-false}
+use lib.Dec.{ltb, eqb}
+use lib.ListN.{length}
+use Rattle.lists.proofs.TableLaws.{tableFrom-getD}
+use Rattle.schedule.specs.Cells.{positionAt}
+use Rattle.schedule.specs.Limits.{cellClass, classLimit}
+use Rattle.schedule.proofs.CellLaws.{CellOf, balance-cell}
+use Rattle.records.specs.declared.items.Item.{Item}
+use Rattle.records.specs.declared.items.Item.the-variants.{Cell, Sheet}
+use Rattle.records.specs.Records.{recordValue, sheetNumber}
+use Rattle.records.specs.Kinds.{sheetKind}
+use Rattle.records.specs.Items.{sameItem, recordItem, firstWith}
+use Rattle.records.specs.RecordVerdicts.{firstFaulty, recordVerdict}
+use Rattle.records.proofs.RecordLaws.{first-fails}
+use Rattle.records.proofs.ItemLaws.{with-passes, record-of-cell, record-of-sheet}
+use Rattle.records.proofs.FaultLaws.{Sound, faultless-sound}
+use Rattle.filing.specs.Contents.{cellOffset, cellValue, sheetOffset, contentsOf, cellIn, cell}
+use Rattle.filing.specs.Inner.Sums.{BalancesWithin}
+
+-- a cell of 601 to 661, as read from the contents
+cell-read : (s : List ℕ) (n : ℕ) → 601 ≤ n → n ≤ 661 → cell (contentsOf s) n ≡ cellValue s n
+unfolding cellIn contentsOf
+cell-read s n l u =
+    let e : 601 + (n - 601) ≡ n = omega arith in
+    simp (le-leb 601 n l, le-leb n 661 u) (tableFrom-getD 601 61 (cellValue s) (n - 601) 0 (omega arith) ∙ ap (cellValue s) e)
+
+module _ (s : List ℕ) (none : firstFaulty s ≡ length s) where
+  -- every record that a search for an item finds is without a fault
+  item-sound : (item : Item) → firstWith s item (length s) < length s → Sound s (firstWith s item (length s))
+  unfolding firstFaulty firstWith
+  item-sound item h =
+      let at = firstWith s item (length s) in
+      faultless-sound s at
+      (eqb-true (recordVerdict s at .number) 0
+      (not-false (eqb (recordVerdict s at .number) 0)
+      (first-fails s (λ (i : ℕ). not (eqb (recordVerdict s i .number) 0)) (λ (i : ℕ). sameItem (recordItem s i) item) (length s) (omega (arith, none)) h)))
+
+  present-cell-limit : (n : ℕ) → cellOffset s n < length s → recordValue s (cellOffset s n) ≤ classLimit (cellClass n)
+  unfolding cellOffset
+  present-cell-limit n h =
+      let is-cell = record-of-cell s (cellOffset s n) n (with-passes s (Cell n) (length s) h) in
+      rw (is-cell .cell-is) at (item-sound (Cell n) h .value-limit (is-cell .kind-is))
+
+  cell-limit : (n : ℕ) → cellValue s n ≤ classLimit (cellClass n)
+  unfolding cellValue
+  cell-limit n = by-presence (ltb (cellOffset s n) (length s)) refl
+    where
+      by-presence : (b : Bool) → ltb (cellOffset s n) (length s) ≡ b → cond b (recordValue s (cellOffset s n)) 0 ≤ classLimit (cellClass n)
+      by-presence true e = present-cell-limit n (ltb-true (cellOffset s n) (length s) e)
+      by-presence false e = omega arith
+
+  -- a cell is within the limit of its class
+  pub cell-within : (n class : ℕ) → CellOf n class → cell (contentsOf s) n ≤ classLimit class
+  cell-within n class c = rw (cell-read s n (c .from-601) (c .to-661), ← c .in-class) (cell-limit n)
+
+  -- so no sum of balances wraps
+  pub balances-within : BalancesWithin (contentsOf s .cells)
+  unfolding classLimit
+  balances-within i h = cell-within (positionAt i .balance) 1 (balance-cell i h)
+
+  -- each number of a sheet that is present is within the limit of its kind
+  pub sheet-limit : (kind : ℕ) → sheetOffset s kind < length s
+      → (i : ℕ) → 1 ≤ i → i ≤ sheetKind kind .numbers → sheetNumber s (sheetOffset s kind) i ≤ sheetKind kind .limit
+  unfolding sheetOffset
+  sheet-limit kind h i l u =
+      let is-sheet = record-of-sheet s (sheetOffset s kind) kind (with-passes s (Sheet kind) (length s) h) in
+      rw (is-sheet .kind-is) at (item-sound (Sheet kind) h .number-limit i l (rw (is-sheet .kind-is) u))

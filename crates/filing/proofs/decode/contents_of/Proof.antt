@@ -1,0 +1,66 @@
+-- `contents_of` meets its contract: each part is what its callee fills in.
+-- Assumes nothing.
+use Prim.Native.Nat.{ℕ, _<_}
+use mathlib.Core.Path.{_≡_, ap, _∙_}
+use lib.Dec.{lit<}
+use lib.ListN.{getD}
+use borrow.Author.Needs.{needs}
+use Rattle.lists.specs.Tables.{tableFrom}
+use Rattle.records.specs.declared.items.Noted.{Noted}
+use Rattle.records.specs.Records.{sheetNumber}
+use Rattle.records.specs.Kinds.{kindCount}
+use Rattle.filing.specs.Contents.{sheetOffset, contentsOf}
+use Rattle.filing.proofs.ContentsLaws.{sheet-noted}
+use Rattle.filing.proofs.decode.contents_of.Statement.{statement}
+use Rattle.filing.proofs.decode.contents_of.Tie as tie
+
+-- where a sheet stands
+sheet-is : (c : tie.Start) (kind : ℕ) → kind < kindCount → getD (c .args .t2 .sheets) kind 0 ≡ sheetOffset (c .args .s .now) kind
+sheet-is c kind h = ap (λ (noted : Noted). getD (noted .sheets) kind 0) (c .pre) ∙ sheet-noted _ kind h
+
+cell-values-requires : tie.Need-cell-values-requires
+cell-values-requires c κs = ap (λ (noted : Noted). noted .cells) (c .before .before .before .pre)
+
+element-copy-out-fill-numbers : tie.Need-element-copy-out-fill-numbers
+element-copy-out-fill-numbers c = search needs
+
+slice-aggregate-fill-numbers : tie.Need-slice-aggregate-fill-numbers
+slice-aggregate-fill-numbers c = search needs
+
+fill-numbers-requires : tie.Need-fill-numbers-requires
+fill-numbers-requires c κs = search needs
+
+element-copy-out-fill-numbers-2 : tie.Need-element-copy-out-fill-numbers-2
+element-copy-out-fill-numbers-2 c = search needs
+
+slice-aggregate-fill-numbers-2 : tie.Need-slice-aggregate-fill-numbers-2
+slice-aggregate-fill-numbers-2 c = search needs
+
+fill-numbers-requires-2 : tie.Need-fill-numbers-requires-2
+fill-numbers-requires-2 c κs = search needs
+
+returns : tie.Need-returns
+unfolding contentsOf
+returns c =
+    let cells = c .before .before .before .before .before .before .before .before in
+    let start = cells .before .before .before .before in
+    rw (
+      cells .cell-values .ensures,
+      c .before .before .before .before .before .fill-numbers .ensures,
+      c .before .fill-numbers2 .ensures,
+      sheet-is start 2 (lit< tt),
+      sheet-is start 3 (lit< tt),
+    )
+
+pub contents-of-spec : {M : Type 1} → statement M
+contents-of-spec =
+    tie.close
+    (tie.spec
+    cell-values-requires
+    element-copy-out-fill-numbers
+    slice-aggregate-fill-numbers
+    fill-numbers-requires
+    element-copy-out-fill-numbers-2
+    slice-aggregate-fill-numbers-2
+    fill-numbers-requires-2
+    returns)

@@ -1,0 +1,3 @@
+pub mod NumberLineLaws
+pub mod ListingLaws
+pub mod TextCases

@@ -1,0 +1,82 @@
+-- `listing_text::write_listing` meets its contract. Assumes nothing.
+use Prim.Native.Nat.{_≤_}
+use native.Mathlib.Omega.{arith}
+use lib.ListN.{length}
+use Rattle.text.specs.Lines.{refusalLine}
+use Rattle.text.proofs.LineLaws.{refusal-short}
+use Rattle.listing_text.specs.Listing.{tooLong}
+use Rattle.listing_text.proofs.ListingLaws.{text-too-long, text-refused, text-accepted, listed}
+use borrow.Author.Needs.{needs}
+use Rattle.listing_text.proofs.write_listing.Statement.{statement}
+use Rattle.listing_text.proofs.write_listing.Tie as tie
+
+slice-aggregate-append : tie.Need-slice-aggregate-append
+slice-aggregate-append c = search needs
+
+append-requires : tie.Need-append-requires
+append-requires c κs = search needs
+
+returns : tie.Need-returns
+unfolding tooLong
+returns c =
+    let s = c .before .before .before .before .before .args .filing .now in
+    listed _ _ _ _ _ (omega arith) (text-too-long s (omega arith)) (c .append .ensures)
+
+slice-aggregate-value : tie.Need-slice-aggregate-value
+slice-aggregate-value c = search needs
+
+value-requires : tie.Need-value-requires
+value-requires c κs = search needs
+
+number-requires : tie.Need-number-requires
+number-requires c κs = search needs
+
+place-requires : tie.Need-place-requires
+place-requires c κs = search needs
+
+short : (c : tie.After-place) → length (refusalLine (c .before .before .before .number .result) (c .place .result)) ≤ 50
+short c = refusal-short (c .before .before .before .number .result) (c .place .result) (omega arith) (omega arith)
+
+append-refusal-requires : tie.Need-append-refusal-requires
+append-refusal-requires c κs = omega (arith, short c)
+
+returns-2 : tie.Need-returns-2
+returns-2 c =
+    let p = c .before in
+    let n = c .before .before .before .before in
+    let v = n .before .before in
+    let s = v .before .before .before .before .args .filing .now in
+    let refusal =
+    text-refused s _ _ _ (omega arith) (omega arith) (v .value .ensures) _ _ (n .number .ensures) (p .place .ensures) (c .before .before .before .if2 .taken) in
+    listed _ _ _ _ _ (omega (arith, short p)) refusal (c .append-refusal .ensures)
+
+slice-aggregate-append-scenarios : tie.Need-slice-aggregate-append-scenarios
+slice-aggregate-append-scenarios c = search needs
+
+append-scenarios-requires : tie.Need-append-scenarios-requires
+append-scenarios-requires c κs = (omega arith, omega (arith, c .before .before .before .before .numbers2 .given))
+
+returns-3 : tie.Need-returns-3
+returns-3 c =
+    let n = c .before .before .before .before in
+    let v = n .before .before in
+    let s = v .before .before .before .before .args .filing .now in
+    let lines = text-accepted s _ _ _ (omega arith) (omega arith) (v .value .ensures) _ (n .number .ensures) (omega arith) in
+    listed _ _ _ _ _ (omega (arith, c .append-scenarios .ensures .0 .end-is)) lines (c .append-scenarios .ensures .0)
+
+pub write-listing-spec : {M : Type 1} → statement M
+write-listing-spec =
+    tie.close
+    (tie.spec
+    slice-aggregate-append
+    append-requires
+    returns
+    slice-aggregate-value
+    value-requires
+    number-requires
+    place-requires
+    append-refusal-requires
+    returns-2
+    slice-aggregate-append-scenarios
+    append-scenarios-requires
+    returns-3)

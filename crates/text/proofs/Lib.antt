@@ -1,0 +1,3 @@
+pub mod AppendLaws
+pub mod DecimalLaws
+pub mod LineLaws

@@ -1,0 +1,21 @@
+-- Lines of numbers as ASCII bytes, each ended by one line feed (01:73-84). Definitions only.
+use Prim.Native.Nat.{ℕ}
+use mathlib.Core.List.{List, [], _∷_, _++_}
+use Rattle.text.specs.Decimal.{decimal}
+
+-- the numbers, each behind a space
+unfoldable pub spaced : List ℕ → List ℕ
+spaced [] = []
+spaced (n ∷ ns) = (32 ∷ decimal n) ++ spaced ns
+
+-- the rest of a line: numbers, each behind a space, and the line feed
+unfoldable pub restOfLine : List ℕ → List ℕ
+restOfLine ns = spaced ns ++ (10 ∷ [])
+
+-- the word `refused`
+unfoldable pub refusedWord : List ℕ
+refusedWord = 114 ∷ 101 ∷ 102 ∷ 117 ∷ 115 ∷ 101 ∷ 100 ∷ []
+
+-- the line of a refusal: `refused`, number and place
+unfoldable pub refusalLine : ℕ → ℕ → List ℕ
+refusalLine number place = refusedWord ++ restOfLine (number ∷ place ∷ [])

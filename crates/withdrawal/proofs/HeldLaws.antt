@@ -1,0 +1,89 @@
+-- Tiers in arrays, with the survival of each withdrawal beside it. Assumes nothing.
+use Prim.Native.Nat.{ℕ, _+_, _<_}
+use mathlib.Core.Path.{_≡_, refl, sym, ap, _∙_}
+use mathlib.Core.Bool.{Bool, true, false, cond}
+use mathlib.Core.List.{List, map}
+use borrow.Author.Tests.{ltb-true}
+use native.Mathlib.Omega.{arith}
+use lib.Dec.{T, leb, ltb, leb→le}
+use lib.ListN.{length, getD, set, take, drop, replicate, length-set, length-map, take-append-drop, List·getD-append}
+use lib.Seq.{drop-set-lt, drop-drop}
+use lib.IntN.{ℤ}
+use Rattle.lists.specs.Tables.{tableFrom, table}
+use Rattle.lists.proofs.TableLaws.{table-length, table-stored}
+use Rattle.lists.proofs.TestLaws.{everyEntry, entries-le}
+use Rattle.withdrawal.specs.declared.WithdrawalTiers.{WithdrawalTiers}
+use Rattle.withdrawal.specs.Survival.{survival}
+use Rattle.schedule.specs.Limits.{tierLimit, edgeLimit, withdrawalLimit}
+use Rattle.withdrawal.specs.Tiers.{WithdrawalTier, TierTable, annualWithdrawal}
+use Rattle.withdrawal.specs.Inner.TierArrays.{tierTable, tierTableOf, withSurvivals, inPlaces, held, tierSurvival, placeReached, TiersFit, Usable}
+use Rattle.withdrawal.proofs.TierLaws.{place-withdrawal}
+
+-- an array of which the first i places hold f 0, f 1, .., f (i - 1) and the others 0
+pub record Stored (f : ℕ → ℕ) (i : ℕ) (l : List ℕ) : Type 0 where
+  pub long : length l ≡ tierLimit
+  pub first : take i l ≡ table i f
+  pub rest : drop i l ≡ drop i (replicate tierLimit 0)
+
+module _ (f : ℕ → ℕ) where
+  pub stored-none : Stored f 0 (replicate tierLimit 0)
+  unfolding tableFrom
+  stored-none = record { long = refl; first = refl; rest = refl }
+
+  pub stored-more : (i : ℕ) (l : List ℕ) (a : ℕ) → i < tierLimit → a ≡ f i → Stored f i l → Stored f (i + 1) (set l i a)
+  stored-more i l a h e s =
+      record {
+        long = length-set l i a ∙ s .long;
+        first = table-stored f l i (i + 1) a (s .first) (rw (s .long) h) refl e;
+        rest = drop-set-lt (i + 1) l i a (omega arith) ∙ (rw (drop-drop, drop-drop) at (ap (drop 1) (s .rest)));
+      }
+
+  pub stored-all : (n : ℕ) (l : List ℕ) → Stored f n l → l ≡ inPlaces (table n f)
+  unfolding inPlaces
+  stored-all n l s = sym (take-append-drop n l) ∙ rw (s .first, s .rest, table-length 0 n f)
+
+-- what is read at a place of the list, or something else past its end
+in-places-at : (xs : List ℕ) (i n otherwise : ℕ) → length xs ≡ n → cond (ltb i n) (getD (inPlaces xs) i 0) otherwise ≡ cond (ltb i n) (getD xs i 0) otherwise
+unfolding inPlaces
+in-places-at xs i n otherwise e = by (ltb i n) refl
+  where
+    by : (b : Bool) → ltb i n ≡ b → cond b (getD (inPlaces xs) i 0) otherwise ≡ cond b (getD xs i 0) otherwise
+    by true t = List·getD-append xs _ 0 i (rw e (ltb-true i n t))
+    by false t = refl
+
+-- the survival of the tier that is reached, or of the withdrawal where none is
+held-survival : (x : TierTable) (gain : ℤ) (cost : ℕ) → tierSurvival (held x) (placeReached gain cost (x .tiers)) ≡ survival (annualWithdrawal x gain cost)
+unfolding tierSurvival held annualWithdrawal
+held-survival x gain cost =
+    in-places-at (map (λ (y : WithdrawalTier). survival (y .withdrawal)) (x .tiers)) (placeReached gain cost (x .tiers)) (length (x .tiers))
+    (survival (x .otherwise)) (length-map (x .tiers) _)
+    ∙ place-withdrawal gain cost survival (x .otherwise) (x .tiers)
+
+pub place-survival : (t : WithdrawalTiers) (gain : ℤ) (cost : ℕ) → Usable t
+    → tierSurvival t (placeReached gain cost (tierTable t .tiers)) ≡ survival (annualWithdrawal (tierTable t) gain cost)
+place-survival t gain cost u =
+    ap (λ (x : WithdrawalTiers). tierSurvival x (placeReached gain cost (tierTable t .tiers))) (u .held-is)
+    ∙ held-survival (tierTable t) gain cost
+
+-- tiers that pass the tests of their count, edges and withdrawals fit
+pub tiers-fit-of-tests :
+    (count : ℕ) (edges withdrawals : List ℕ) (otherwise : ℕ)
+    → T (leb count tierLimit)
+    → T (everyEntry (λ i x. leb x edgeLimit) edges)
+    → T (everyEntry (λ i x. leb x withdrawalLimit) withdrawals)
+    → T (leb otherwise withdrawalLimit)
+    → TiersFit count edges withdrawals otherwise
+tiers-fit-of-tests count edges withdrawals otherwise n e w o =
+    record {
+      count-le = leb→le count tierLimit n;
+      edge-le = entries-le edges edgeLimit e;
+      withdrawal-le = entries-le withdrawals withdrawalLimit w;
+      otherwise-le = leb→le otherwise withdrawalLimit o;
+    }
+
+-- tiers that fit, with their survivals, are usable where the arrays hold nothing but them
+pub fit-usable : (count : ℕ) (edges withdrawals : List ℕ) (otherwise : ℕ) → TiersFit count edges withdrawals otherwise
+    → withSurvivals count edges withdrawals otherwise ≡ held (tierTableOf count edges withdrawals otherwise)
+    → Usable (withSurvivals count edges withdrawals otherwise)
+unfolding tierTable withSurvivals
+fit-usable count edges withdrawals otherwise fit e = record { count-le = fit .count-le; edge-le = fit .edge-le; held-is = e }

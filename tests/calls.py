@@ -1,0 +1,56 @@
+"""What the calls do with the lists lent, and the listing's text. Each entry has a name."""
+from accepted import paper_figures
+from records import LISTING, RISING, cell, cells, deposits, filing, flat, middle_month, record, shared, yields
+from refused import refusal_table
+
+# The numbers of the calls. UNKNOWN is of none.
+VALUE_AND_SPLIT = 0
+LISTING_TEXT = 1
+UNKNOWN = 4_294_967_295
+
+WHOLE = filing(shared(deposits(7_777, 525, middle_month), 35, 45, 300), RISING, (400, 500, 600))
+
+
+def lists_of_numbers():
+    for numbers in (0, 1, 567, 568, 569, 600):
+        yield f"list of {numbers} numbers", WHOLE, numbers
+        yield f"list of {numbers} numbers, a filing that is refused", cell(600, 0), numbers
+
+
+def lists_of_places():
+    for places in (0, 1, 35, 36, 37, 40):
+        yield f"list of {places} places", WHOLE, 568, places
+        yield f"list of {places} places, a filing that is refused", cell(600, 0), 568, places
+
+
+def both_lists():
+    for numbers, places in ((0, 0), (567, 35), (567, 36), (568, 35), (569, 37), (600, 40)):
+        yield f"lists of {numbers} numbers and {places} places", WHOLE, numbers, places
+        yield f"lists of {numbers} numbers and {places} places, empty input", b"", numbers, places
+        yield f"lists of {numbers} numbers and {places} places, 9 at 645", filing({601: 10, 608: 1}), numbers, places
+
+
+def listed():
+    yield "all positions, all four kinds", WHOLE
+    yield "sheets alone", filing({})
+    yield from paper_figures()
+
+
+def not_listed():
+    for name, data, *lists in refusal_table():
+        if not lists:
+            yield name, data
+    yield "no rates", cells(LISTING) + yields(flat(0))
+
+
+def long_inputs():
+    """A last record of an unknown kind that fills the input: it ends where the input of 65,536 bytes does."""
+    start = filing(LISTING)
+    whole = start + record(9, bytes(65_536 - len(start) - 4))
+    assert len(whole) == 65_536
+    yield "65,536 bytes", whole
+    yield "65,537 bytes", whole + b"\x00"
+
+
+FAMILIES = lists_of_numbers, lists_of_places, both_lists
+LISTINGS = listed, not_listed, long_inputs
