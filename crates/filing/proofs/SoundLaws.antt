@@ -1,27 +1,28 @@
--- A filing whose records are all sound: each cell is within the limit of its class, and so are the numbers of a sheet that is present.
+-- A filing whose records are all sound: each cell is within the limit of its class, so are the numbers of a sheet that is present, and tiers load.
 -- Assumes nothing.
-use Prim.Native.Nat.{ℕ, _-_, _+_, _≤_, _<_}
+use Prim.Native.Nat.{ℕ, _+_, _*_, _-_, _≤_, _<_}
 use native.Mathlib.Omega.{arith}
 use mathlib.Core.Path.{_≡_, refl, ap, _∙_}
 use mathlib.Core.Bool.{Bool, true, false, cond, not}
 use mathlib.Core.List.{List}
-use borrow.Author.Tests.{le-leb, ltb-true, eqb-true, not-false}
+use borrow.Author.Tests.{le-leb, ltb-true, ltb-false, eqb-true, not-false}
 use lib.Dec.{ltb, eqb}
-use lib.ListN.{length}
-use Rattle.lists.proofs.TableLaws.{tableFrom-getD}
+use lib.ListN.{length, getD}
+use Rattle.lists.proofs.TableLaws.{tableFrom-getD, table-le}
 use Rattle.schedule.specs.Cells.{positionAt}
-use Rattle.schedule.specs.Limits.{cellClass, classLimit}
+use Rattle.schedule.specs.Limits.{cellClass, classLimit, tierLimit, withdrawalLimit}
 use Rattle.schedule.proofs.CellLaws.{CellOf, balance-cell}
 use Rattle.records.specs.declared.items.Item.{Item}
 use Rattle.records.specs.declared.items.Item.the-variants.{Cell, Sheet}
-use Rattle.records.specs.Records.{recordValue, sheetNumber}
-use Rattle.records.specs.Kinds.{sheetKind}
+use Rattle.records.specs.Records.{recordValue, sheetNumber, tierCount}
+use Rattle.records.specs.Kinds.{sheetKind, tiersKind}
 use Rattle.records.specs.Items.{sameItem, recordItem, firstWith}
 use Rattle.records.specs.RecordVerdicts.{firstFaulty, recordVerdict}
+use Rattle.records.proofs.ByteLaws.{number-past}
 use Rattle.records.proofs.RecordLaws.{first-fails}
 use Rattle.records.proofs.ItemLaws.{with-passes, record-of-cell, record-of-sheet}
-use Rattle.records.proofs.FaultLaws.{Sound, faultless-sound}
-use Rattle.filing.specs.Contents.{cellOffset, cellValue, sheetOffset, contentsOf, cellIn, cell}
+use Rattle.records.proofs.FaultLaws.{Sound, SoundTiers, faultless-sound, tier-fits}
+use Rattle.filing.specs.Contents.{cellOffset, cellValue, sheetOffset, tierNumber, tiersAt, contentsOf, cellIn, cell}
 use Rattle.filing.specs.Inner.Sums.{BalancesWithin}
 
 -- a cell of 601 to 661, as read from the contents
@@ -72,3 +73,39 @@ module _ (s : List ℕ) (none : firstFaulty s ≡ length s) where
   sheet-limit kind h i l u =
       let is-sheet = record-of-sheet s (sheetOffset s kind) kind (with-passes s (Sheet kind) (length s) h) in
       rw (is-sheet .kind-is) at (item-sound (Sheet kind) h .number-limit i l (rw (is-sheet .kind-is) u))
+
+  -- tiers that are present load
+  tiers-sound : sheetOffset s tiersKind < length s → SoundTiers s (sheetOffset s tiersKind)
+  unfolding sheetOffset
+  tiers-sound h =
+      let is-sheet = record-of-sheet s (sheetOffset s tiersKind) tiersKind (with-passes s (Sheet tiersKind) (length s) h) in
+      item-sound (Sheet tiersKind) h .tiers (is-sheet .kind-is)
+
+  -- at most sixteen tiers, and none where there is no record of them
+  pub tier-count-within : contentsOf s .tiers .count ≤ tierLimit
+  unfolding contentsOf tiersAt
+  tier-count-within = by-presence (ltb at (length s)) refl
+    where
+      at : ℕ
+      at = sheetOffset s tiersKind
+
+      by-presence : (b : Bool) → ltb at (length s) ≡ b → tierCount s at ≤ tierLimit
+      by-presence true e = tiers-sound (ltb-true at (length s) e) .few
+      by-presence false e = omega (arith, number-past s (at + 2 + 2 * 1) 2 (omega (arith, ltb-false at (length s) e)))
+
+  -- each withdrawal is within its limit
+  pub tier-withdrawal-within : (i : ℕ) → getD (contentsOf s .tiers .withdrawals) i 0 ≤ withdrawalLimit
+  unfolding contentsOf tiersAt tierNumber
+  tier-withdrawal-within =
+      table-le 0 tierLimit (tierNumber s at (tierCount s at) 3) withdrawalLimit
+      (λ j l u. by-place j (ltb j (tierCount s at)) refl (ltb at (length s)) refl)
+    where
+      at : ℕ
+      at = sheetOffset s tiersKind
+
+      by-place : (j : ℕ) (b : Bool) → ltb j (tierCount s at) ≡ b → (p : Bool) → ltb at (length s) ≡ p
+          → cond b (sheetNumber s at (3 + 2 * j)) 0 ≤ withdrawalLimit
+      by-place j true e true h = tier-fits s at j (tiers-sound (ltb-true at (length s) h) .fits j (ltb-true j (tierCount s at) e))
+      by-place j true e false h =
+          absurd (omega (arith, ltb-true j (tierCount s at) e, number-past s (at + 2 + 2 * 1) 2 (omega (arith, ltb-false at (length s) h))))
+      by-place j false e p h = omega arith

@@ -1,14 +1,17 @@
--- What a filing says: its cells, its CD yields and its retail rates (01:6-11). Definitions only.
-use Prim.Native.Nat.{ℕ, _-_}
+-- What a filing says: its cells, its CD yields, its retail rates (01:6-11) and its tiers (02:CR 1). Definitions only.
+use Prim.Native.Nat.{ℕ, _+_, _*_, _-_}
 use mathlib.Core.Bool.{cond, _&&_}
 use mathlib.Core.List.{List}
 use lib.ListN.{length, getD}
 use lib.Dec.{leb, ltb}
-use Rattle.lists.specs.Tables.{tableFrom}
-use Rattle.records.specs.Records.{recordValue, sheetNumber}
+use Rattle.lists.specs.Tables.{table, tableFrom}
+use Rattle.schedule.specs.Limits.{tierLimit}
+use Rattle.records.specs.Records.{recordValue, sheetNumber, tierCount}
+use Rattle.records.specs.Kinds.{tiersKind}
 use Rattle.records.specs.declared.items.Item.the-variants.{Cell, Sheet}
 use Rattle.records.specs.Items.{firstWith}
 use Rattle.filing.specs.declared.Contents.{Contents}
+use Rattle.filing.specs.declared.FiledTiers.{FiledTiers}
 
 -- the offset of a cell's record, or the input's length where there is none
 unfoldable pub cellOffset : List ℕ → ℕ → ℕ
@@ -22,13 +25,28 @@ cellValue s n = cond (ltb (cellOffset s n) (length s)) (recordValue s (cellOffse
 unfoldable pub sheetOffset : List ℕ → ℕ → ℕ
 sheetOffset s kind = firstWith s (Sheet kind) (length s)
 
--- the cells from 601 on, the yields of kind 2 by month from 1 on, the retail rates of kind 3 by column from 1 on
+-- of a record of kind 4 with `count` tiers (02:CR 1): every second number from `first` on, one for the i-th tier, from 0; 0 past the last tier
+unfoldable pub tierNumber : List ℕ → ℕ → ℕ → ℕ → ℕ → ℕ
+tierNumber s at count first i = cond (ltb i count) (sheetNumber s at (first + 2 * i)) 0
+
+-- the tiers of a record of kind 4 (02:CR 1), lowest edge first: edges in hundredths, annual withdrawals in thousandths. At the input's length, where no
+-- record stands, there are none
+unfoldable pub tiersAt : List ℕ → ℕ → FiledTiers
+tiersAt s at =
+    record {
+      count = tierCount s at;
+      edges = table tierLimit (tierNumber s at (tierCount s at) 2);
+      withdrawals = table tierLimit (tierNumber s at (tierCount s at) 3);
+    }
+
+-- the cells from 601 on, the yields of kind 2 by month from 1 on, the retail rates of kind 3 by column from 1 on, the tiers of kind 4
 unfoldable pub contentsOf : List ℕ → Contents
 contentsOf s =
     record {
       cells = tableFrom 601 61 (cellValue s);
       yields = tableFrom 1 120 (sheetNumber s (sheetOffset s 2));
       rates = tableFrom 1 3 (sheetNumber s (sheetOffset s 3));
+      tiers = tiersAt s (sheetOffset s tiersKind);
     }
 
 -- the value of a cell, 601 to 661, among the cells from 601 on; another number has none, and is 0

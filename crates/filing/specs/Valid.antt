@@ -1,10 +1,11 @@
--- What holds of the contents of every accepted filing: each limit (01:24) and conditions 7 to 9 (01:37-39). Definitions only.
+-- What holds of the contents of every accepted filing: each limit (01:24; 02:CR 1) and conditions 7 to 9 (01:37-39). Definitions only.
 use Prim.Native.Nat.{ℕ, _≤_, _<_}
 use mathlib.Core.Path.{_≡_}
 use lib.Dec.{T}
+use lib.ListN.{getD}
 use Rattle.lists.specs.Sums.{sum}
 use Rattle.schedule.specs.Cells.{positionAt, withinRow, brokeredCell, penaltyBalanceCell, penaltyMonthsCell, totalCell}
-use Rattle.schedule.specs.Limits.{balanceLimit, couponLimit, monthsLimit, penaltyLimit, rateLimit}
+use Rattle.schedule.specs.Limits.{balanceLimit, couponLimit, monthsLimit, penaltyLimit, rateLimit, tierLimit, withdrawalLimit}
 use Rattle.filing.specs.declared.Contents.{Contents}
 use Rattle.filing.specs.Contents.{cell, cdYield, retailRate}
 use Rattle.filing.specs.Conditions.{columnBalances, balances}
@@ -21,3 +22,5 @@ pub record Valid (k : Contents) : Type 0 where
   pub total-is-sum : cell k totalCell ≡ sum (balances (k .cells))
   pub yield-limit : (t : ℕ) → cdYield k t ≤ rateLimit
   pub rate-limit : (j : ℕ) → retailRate k j ≤ rateLimit
+  pub tier-count-limit : k .tiers .count ≤ tierLimit
+  pub withdrawal-limit : (i : ℕ) → getD (k .tiers .withdrawals) i 0 ≤ withdrawalLimit

@@ -1,15 +1,19 @@
 // What a filing says, read from the noted offsets of its records.
 use crate::Contents;
+use crate::FiledTiers;
 use records::CELLS;
 use records::fields::record_value;
 use records::fields::sheet_number;
+use records::fields::tier_count;
 use records::items::Noted;
 ghost use mathlib.Core.Path.{_≡_};
+ghost use Prim.Native.Nat.{_≤_, _<_};
 ghost use lib.ListN.{length};
-ghost use Rattle.lists.specs.Tables.{tableFrom};
+ghost use Rattle.lists.specs.Tables.{table, tableFrom};
+ghost use Rattle.schedule.specs.Limits.{tierLimit};
 ghost use Rattle.records.specs.Records.{sheetNumber};
 ghost use Rattle.records.specs.Inner.Notes.{notedBefore};
-ghost use Rattle.filing.specs.Contents.{contentsOf};
+ghost use Rattle.filing.specs.Contents.{tierNumber, tiersAt, contentsOf};
 
 // What a filing says, from where all its records stand.
 pub(crate) fn contents_of(s: &[u8], noted: Noted) -> Contents
@@ -21,10 +25,12 @@ pub(crate) fn contents_of(s: &[u8], noted: Noted) -> Contents
     fill_numbers(s, noted.sheets[2], &mut yields);
     let mut rates = [0; 3];
     fill_numbers(s, noted.sheets[3], &mut rates);
+    let tiers = tiers_at(s, noted.sheets[4]);
     Contents {
         cells,
         yields,
         rates,
+        tiers,
     }
 }
 
@@ -50,5 +56,43 @@ fn fill_numbers(s: &[u8], at: usize, numbers: &mut [u16])
     while i < numbers.len() {
         numbers[i] = sheet_number(s, at, i + 1);
         i += 1;
+    }
+}
+
+// The tiers of the record at an offset.
+fn tiers_at(s: &[u8], at: usize) -> FiledTiers
+    ensures { λ r. ⌜ r ≡ tiersAt (now (s .entry)) at ⌝ }
+{
+    let count = tier_count(s, at) as usize;
+    FiledTiers {
+        count,
+        edges: tier_numbers(s, at, count, 2),
+        withdrawals: tier_numbers(s, at, count, 3),
+    }
+}
+
+// Every second number of a record of tiers from `first` on, one for each tier: the edges from the second number on, the withdrawals from the third.
+fn tier_numbers(s: &[u8], at: usize, count: usize, first: usize) -> [u16; 16]
+    requires { ⌜ first ≤ 3 ⌝ }
+    ensures { λ r. ⌜ r ≡ table tierLimit (tierNumber (now (s .entry)) at count first) ⌝ }
+{
+    let mut numbers = [0; 16];
+    let mut i = 0;
+    while i < 16 {
+        numbers[i] = tier_number(s, at, count, first, i);
+        i += 1;
+    }
+    numbers
+}
+
+// The number of the i-th tier, from 0; 0 past the last.
+fn tier_number(s: &[u8], at: usize, count: usize, first: usize, i: usize) -> u16
+    requires { ⌜ (first ≤ 3) × (i < tierLimit) ⌝ }
+    ensures { λ r. ⌜ r ≡ tierNumber (now (s .entry)) at count first i ⌝ }
+{
+    if i < count {
+        sheet_number(s, at, first + 2 * i)
+    } else {
+        0
     }
 }

@@ -68,12 +68,21 @@ fn refusal(answer: Answer) -> Reading
     Reading { answer, contents }
 }
 
-// What an accepted filing says: the values of cells 601 to 661, the CD yields of months 1 to 120 and the retail rates of columns 1 to 3.
-// Cells are in their own units, yields and rates in hundredths of a percent a year.
+// What an accepted filing says: the values of cells 601 to 661, the CD yields of months 1 to 120, the retail rates of columns 1 to 3, and its tiers of
+// annual withdrawal. Cells are in their own units, yields and rates in hundredths of a percent a year.
 pub struct Contents {
     pub cells: [u64; 61],
     pub yields: [u16; 120],
     pub rates: [u16; 3],
+    pub tiers: FiledTiers,
+}
+
+// The tiers that a filing carries, lowest edge first: edges in hundredths, annual withdrawals in thousandths. The places past the count are 0, and a
+// filing without tiers has count 0.
+pub struct FiledTiers {
+    pub count: usize,
+    pub edges: [u16; 16],
+    pub withdrawals: [u16; 16],
 }
 
 // The sums of columns 1 to 3, and of the rows above each of the nine positions in its column, in thousands of dollars.

@@ -10,10 +10,10 @@ use lib.Dec.{ltb, eqb}
 use lib.ListN.{length}
 use Rattle.lists.specs.Tables.{anyBelow}
 use Rattle.lists.proofs.TestLaws.{any-fails}
-use Rattle.schedule.specs.Limits.{cellClass, classLimit, tierLimit}
+use Rattle.schedule.specs.Limits.{cellClass, classLimit, tierLimit, withdrawalLimit}
 use Rattle.answers.specs.Verdict.{Verdict, accepted, refused, refusedIf, firstRefusal, firstOf}
 use Rattle.answers.proofs.VerdictLaws.{first-passed, first-refused, first-none, condition-fails}
-use Rattle.records.specs.Records.{recordLength, recordKind, recordCell, recordValue, sheetNumber, tierCount, nextRecord}
+use Rattle.records.specs.Records.{recordLength, recordKind, recordCell, recordValue, sheetNumber, tierCount, tierWithdrawal, nextRecord}
 use Rattle.records.specs.Kinds.{sheetOf, sheetKinds, sheetKind, sheetLength, tiersKind, dueLength}
 use Rattle.records.specs.Faults.{incomplete, misshapen, unlisted, repeated, numberOver, overLimit, unfitTier, unsoundTiers}
 use Rattle.records.specs.RecordVerdicts.{recordVerdict}
@@ -48,6 +48,11 @@ pub record Sound (s : List ℕ) (at : ℕ) : Type 0 where
   pub value-limit : recordKind s at ≡ 1 → recordValue s at ≤ classLimit (cellClass (recordCell s at))
   pub number-limit : (i : ℕ) → 1 ≤ i → i ≤ sheetKind (recordKind s at) .numbers → sheetNumber s at i ≤ sheetKind (recordKind s at) .limit
   pub tiers : recordKind s at ≡ tiersKind → SoundTiers s at
+
+-- a tier that fits withdraws at most 600 thousandths a year
+pub tier-fits : (s : List ℕ) (at i : ℕ) → unfitTier s at i ≡ false → tierWithdrawal s at i ≤ withdrawalLimit
+unfolding unfitTier
+tier-fits s at i h = ltb-false withdrawalLimit (tierWithdrawal s at i) (neither (ltb withdrawalLimit (tierWithdrawal s at i)) _ h .0)
 
 -- rows in turn: what the first two give, then the third
 first-assoc : (a b c : Verdict) → firstRefusal (firstRefusal a b) c ≡ firstRefusal a (firstRefusal b c)

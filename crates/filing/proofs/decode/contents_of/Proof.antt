@@ -8,7 +8,7 @@ use borrow.Author.Needs.{needs}
 use Rattle.lists.specs.Tables.{tableFrom}
 use Rattle.records.specs.declared.items.Noted.{Noted}
 use Rattle.records.specs.Records.{sheetNumber}
-use Rattle.records.specs.Kinds.{kindCount}
+use Rattle.records.specs.Kinds.{kindCount, tiersKind}
 use Rattle.filing.specs.Contents.{sheetOffset, contentsOf}
 use Rattle.filing.proofs.ContentsLaws.{sheet-noted}
 use Rattle.filing.proofs.decode.contents_of.Statement.{statement}
@@ -39,17 +39,26 @@ slice-aggregate-fill-numbers-2 c = search needs
 fill-numbers-requires-2 : tie.Need-fill-numbers-requires-2
 fill-numbers-requires-2 c κs = search needs
 
+element-copy-out-tiers-at : tie.Need-element-copy-out-tiers-at
+element-copy-out-tiers-at c = search needs
+
+tiers-at-requires : tie.Need-tiers-at-requires
+tiers-at-requires c κs = search needs
+
 returns : tie.Need-returns
 unfolding contentsOf
 returns c =
-    let cells = c .before .before .before .before .before .before .before .before in
+    let rates = c .before .before .before in
+    let cells = rates .before .before .before .before .before .before .before in
     let start = cells .before .before .before .before in
     rw (
       cells .cell-values .ensures,
-      c .before .before .before .before .before .fill-numbers .ensures,
-      c .before .fill-numbers2 .ensures,
+      rates .before .before .before .before .fill-numbers .ensures,
+      rates .fill-numbers2 .ensures,
+      c .tiers-at .ensures,
       sheet-is start 2 (lit< tt),
       sheet-is start 3 (lit< tt),
+      sheet-is start tiersKind (lit< tt),
     )
 
 pub contents-of-spec : {M : Type 1} → statement M
@@ -63,4 +72,6 @@ contents-of-spec =
     element-copy-out-fill-numbers-2
     slice-aggregate-fill-numbers-2
     fill-numbers-requires-2
+    element-copy-out-tiers-at
+    tiers-at-requires
     returns)
