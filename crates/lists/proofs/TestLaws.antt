@@ -9,7 +9,7 @@ use native.Mathlib.Nat.{add-zero, suc-add, add-suc, le-of-suc-le-suc, not-suc-le
 use native.Mathlib.Numerals.{add-one}
 use native.Mathlib.Omega.{arith}
 use lib.Dec.{T, leb, leb→le}
-use lib.ListN.{length, getD}
+use lib.ListN.{length, getD, set}
 use Rattle.lists.specs.Tables.{anyBelow}
 
 -- both sides of a conjunction that holds
@@ -86,3 +86,11 @@ module _ (test : ℕ → Bool) where
       by : (b : Bool) → test i ≡ b → b ≡ false
       by true e = absurd (true≢false (sym (any-here n i l e) ∙ h))
       by false e = refl
+
+-- numbers that are all at most b: so are they with one more stored
+pub stored-le : (xs : List ℕ) (i v b : ℕ) → ((k : ℕ) → getD xs k 0 ≤ b) → v ≤ b → (k : ℕ) → getD (set xs i v) k 0 ≤ b
+stored-le [] i v b h l k = h k
+stored-le (x ∷ xs) zero v b h l zero = l
+stored-le (x ∷ xs) zero v b h l (suc k) = h (suc k)
+stored-le (x ∷ xs) (suc i) v b h l zero = h 0
+stored-le (x ∷ xs) (suc i) v b h l (suc k) = stored-le xs i v b (λ j. h (suc j)) l k

@@ -2,3 +2,4 @@
 pub mod LongestTerm
 pub mod PlaceRows
 pub mod RowTotals
+pub mod FiledLimits

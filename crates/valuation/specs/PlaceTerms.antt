@@ -1,16 +1,19 @@
 -- The deposit at each place of a filing, with its terms in each scenario (01:48-56), from what the filing says. Definitions only.
-use Prim.Native.Nat.{ℕ, _%_}
+use Prim.Native.Nat.{ℕ, _-_, _%_}
 use mathlib.Core.Bool.{Bool, cond}
 use mathlib.Core.List.{List}
 use lib.Dec.{leb, eqb}
+use lib.ListN.{getD}
+use Rattle.lists.specs.Tables.{table}
 use Rattle.schedule.specs.Cells.{penaltyMonthsCell}
 use Rattle.schedule.specs.Shift.{shiftedRate}
 use Rattle.filing.specs.declared.Contents.{Contents}
+use Rattle.filing.specs.declared.FiledTiers.{FiledTiers}
 use Rattle.filing.specs.Contents.{cellIn, cdYield, retailRate}
 use Rattle.shares.specs.declared.SubBalance.{SubBalance}
 use Rattle.shares.specs.SubBalances.{positionOf}
 use Rattle.shares.specs.Places.{placeAt}
-use Rattle.withdrawal.specs.Tiers.{TierTable, houseTiers}
+use Rattle.withdrawal.specs.Tiers.{TierTable, tier, houseTiers}
 use Rattle.pricing.specs.Terms.{Terms}
 use Rattle.deposits.specs.DepositTerms.{termsOf}
 use Rattle.deposits.specs.declared.Deposit.{Deposit}
@@ -37,9 +40,21 @@ depositAt cells place held =
 unfoldable pub rateAt : Contents → ℕ → ℕ → ℕ
 rateAt k scenario place = shiftedRate scenario (retailRate k (positionOf place .column))
 
--- the tiers of a filing: the house's
-unfoldable pub filingTiers : Contents → TierTable
-filingTiers k = houseTiers
+-- a filing's own tiers (02:CR 1), highest edge first. The first edge, 0, covers every lower ratio too, so the first withdrawal holds also where no edge
+-- is reached
+unfoldable pub ownTiers : FiledTiers → TierTable
+ownTiers t =
+    record {
+      tiers = table (t .count) (λ (i : ℕ). tier (getD (t .edges) (t .count - 1 - i) 0) (getD (t .withdrawals) (t .count - 1 - i) 0));
+      otherwise = getD (t .withdrawals) 0 0;
+    }
+
+-- the tiers of what is filed: its own, or the house's where it has none
+unfoldable pub tiersOf : FiledTiers → TierTable
+tiersOf t = cond (eqb (t .count) 0) houseTiers (ownTiers t)
+
+abbrev pub filingTiers : Contents → TierTable
+filingTiers k = tiersOf (k .tiers)
 
 -- the terms of the deposit at a place in a scenario, 0 to 6
 unfoldable pub termsAt : Contents → ℕ → ℕ → Terms

@@ -1,4 +1,5 @@
 // The 568 numbers of what an accepted filing says, written into a list.
+use crate::filing_tiers::tiers_of;
 use crate::longest_term::longest_term;
 use crate::place_row::row_of;
 use crate::totals::totals_of;
@@ -6,7 +7,6 @@ use deposits::factors::factor_table;
 use filing::Contents;
 use lists::write;
 use shares::places::places_of;
-use withdrawal::tiers::house;
 ghost use mathlib.Core.Path.{_≡_};
 ghost use mathlib.Core.List.{_++_};
 ghost use Prim.Native.Nat.{_≤_};
@@ -32,7 +32,8 @@ fn write_rows(k: Contents, list: &mut [u64])
     ensures { λ _. ⌜ now (list .exit) ≡ joined (table subBalanceCount (placeNumbers k)) ++ drop 540 (now (list .entry)) ⌝ }
 {
     let cells = k.cells;
-    let tiers = house();
+    let filed = k.tiers;
+    let tiers = tiers_of(filed);
     let places = places_of(k);
     let longest = longest_term(places);
     let lower = factor_table(&k.yields, longest, false);

@@ -1,21 +1,21 @@
 -- Tiers in arrays, with the survival of each withdrawal beside it. Assumes nothing.
-use Prim.Native.Nat.{ℕ, _+_, _<_}
+use Prim.Native.Nat.{ℕ, zero, suc, _+_, _≤_, _<_}
 use mathlib.Core.Path.{_≡_, refl, sym, ap, _∙_}
 use mathlib.Core.Bool.{Bool, true, false, cond}
-use mathlib.Core.List.{List, map}
+use mathlib.Core.List.{List, [], _∷_, _++_, map}
 use borrow.Author.Tests.{ltb-true}
 use native.Mathlib.Omega.{arith}
 use lib.Dec.{T, leb, ltb, leb→le}
 use lib.ListN.{length, getD, set, take, drop, replicate, length-set, length-map, take-append-drop, List·getD-append}
-use lib.Seq.{drop-set-lt, drop-drop}
+use lib.Seq.{drop-set-lt, drop-drop, getD-drop}
 use lib.IntN.{ℤ}
 use Rattle.lists.specs.Tables.{tableFrom, table}
-use Rattle.lists.proofs.TableLaws.{table-length, table-stored}
+use Rattle.lists.proofs.TableLaws.{table-length, table-getD, table-ext, table-le, table-stored}
 use Rattle.lists.proofs.TestLaws.{everyEntry, entries-le}
 use Rattle.withdrawal.specs.declared.WithdrawalTiers.{WithdrawalTiers}
 use Rattle.withdrawal.specs.Survival.{survival}
 use Rattle.schedule.specs.Limits.{tierLimit, edgeLimit, withdrawalLimit}
-use Rattle.withdrawal.specs.Tiers.{WithdrawalTier, TierTable, annualWithdrawal}
+use Rattle.withdrawal.specs.Tiers.{WithdrawalTier, TierTable, tier, annualWithdrawal}
 use Rattle.withdrawal.specs.Inner.TierArrays.{tierTable, tierTableOf, withSurvivals, inPlaces, held, tierSurvival, placeReached, TiersFit, Usable}
 use Rattle.withdrawal.proofs.TierLaws.{place-withdrawal}
 
@@ -87,3 +87,59 @@ pub fit-usable : (count : ℕ) (edges withdrawals : List ℕ) (otherwise : ℕ) 
     → Usable (withSurvivals count edges withdrawals otherwise)
 unfolding tierTable withSurvivals
 fit-usable count edges withdrawals otherwise fit e = record { count-le = fit .count-le; edge-le = fit .edge-le; held-is = e }
+
+-- a function over a table is the table of what it makes
+map-table : {A B : Type 0} (f : A → B) (s n : ℕ) (g : ℕ → A) → map f (tableFrom s n g) ≡ tableFrom s n (λ (i : ℕ). f (g i))
+unfolding tableFrom
+map-table f s zero g = refl
+map-table f s (suc n) g = rw (map-table f (suc s) n g)
+
+-- what the places of a table hold
+places-hold : (n : ℕ) (f : ℕ → ℕ) (i : ℕ) → i < n → getD (inPlaces (table n f)) i 0 ≡ f i
+unfolding inPlaces
+places-hold n f i h = List·getD-append (table n f) _ 0 i (rw (table-length 0 n f) h) ∙ table-getD n f i 0 h
+
+append-le : (xs ys : List ℕ) (b : ℕ) → ((i : ℕ) → getD xs i 0 ≤ b) → ((i : ℕ) → getD ys i 0 ≤ b) → (i : ℕ) → getD (xs ++ ys) i 0 ≤ b
+append-le [] ys b h g i = g i
+append-le (x ∷ xs) ys b h g zero = h 0
+append-le (x ∷ xs) ys b h g (suc i) = append-le xs ys b (λ j. h (suc j)) g i
+
+-- what bounds a table bounds its places
+pub places-le : (n : ℕ) (f : ℕ → ℕ) (b : ℕ) → ((i : ℕ) → f i ≤ b) → (i : ℕ) → getD (inPlaces (table n f)) i 0 ≤ b
+unfolding inPlaces
+places-le n f b h =
+    append-le (table n f) (drop (length (table n f)) (replicate tierLimit 0)) b (table-le 0 n f b (λ j l u. h j))
+    (λ i. rw getD-drop (zeros (length (table n f) + i)))
+  where
+    zeros : (i : ℕ) → getD (replicate tierLimit 0) i 0 ≤ b
+    zeros i = omega (arith, entries-le (replicate tierLimit 0) 0 tt i)
+
+-- tiers whose edges and withdrawals stand in the first `count` places and 0s in the others: the table that they make, and that they are usable
+module _ (count otherwise : ℕ) (edge withdrawal : ℕ → ℕ) where
+  abbrev edges : List ℕ
+  edges = inPlaces (table count edge)
+
+  abbrev withdrawals : List ℕ
+  withdrawals = inPlaces (table count withdrawal)
+
+  pub placed-table : tierTable (withSurvivals count edges withdrawals otherwise)
+      ≡ record { tiers = table count (λ (i : ℕ). tier (edge i) (withdrawal i)); otherwise = otherwise }
+  unfolding tierTable tierTableOf withSurvivals
+  placed-table =
+      ap (λ (xs : List WithdrawalTier). record { tiers = xs; otherwise = otherwise })
+      (table-ext count _ _ (λ i h. rw (places-hold count edge i h, places-hold count withdrawal i h)))
+
+  placed-held : withSurvivals count edges withdrawals otherwise ≡ held (tierTableOf count edges withdrawals otherwise)
+  unfolding withSurvivals held tierTableOf tier
+  placed-held =
+      rw (
+        table-length 0 count (λ (i : ℕ). tier (getD edges i 0) (getD withdrawals i 0)),
+        map-table (λ (y : WithdrawalTier). y .edge) 0 count (λ (i : ℕ). tier (getD edges i 0) (getD withdrawals i 0)),
+        map-table (λ (y : WithdrawalTier). y .withdrawal) 0 count (λ (i : ℕ). tier (getD edges i 0) (getD withdrawals i 0)),
+        map-table (λ (y : WithdrawalTier). survival (y .withdrawal)) 0 count (λ (i : ℕ). tier (getD edges i 0) (getD withdrawals i 0)),
+        table-ext count (λ (i : ℕ). getD edges i 0) edge (places-hold count edge),
+        table-ext count (λ (i : ℕ). getD withdrawals i 0) withdrawal (places-hold count withdrawal),
+      )
+
+  pub placed-usable : TiersFit count edges withdrawals otherwise → Usable (withSurvivals count edges withdrawals otherwise)
+  placed-usable fit = fit-usable count edges withdrawals otherwise fit placed-held

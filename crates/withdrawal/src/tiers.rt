@@ -57,7 +57,7 @@ pub fn house() -> WithdrawalTiers
 }
 
 // Tiers with the survival of each withdrawal beside it: the table of survivals is read once for each tier, not once for each month.
-pub(crate) fn with_survivals(
+pub fn with_survivals(
     count: usize,
     edges: [u64; TIER_LIMIT],
     withdrawals: [u64; TIER_LIMIT],

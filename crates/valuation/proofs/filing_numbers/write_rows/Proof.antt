@@ -7,7 +7,6 @@ use lib.ListN.{length}
 use Rattle.lists.specs.Tables.{tableFrom, table, joined}
 use Rattle.lists.proofs.RunLaws.{Overwritten, overwritten-none, overwritten-row}
 use Rattle.pricing.specs.Rounding.{roundingOf}
-use Rattle.valuation.specs.PlaceTerms.{filingTiers}
 use Rattle.valuation.specs.Numbers.{placeNumbers}
 use Rattle.valuation.specs.Inner.LongestTerm.{longestTerm}
 use Rattle.valuation.proofs.NumberLaws.{row-length}
@@ -22,40 +21,42 @@ Inv-loop list₀ k cells tiers places longest lower upper place₀ list place =
 abbrev μ-loop : tie.MeasureT-loop
 μ-loop list₀ k cells tiers places longest lower upper place₀ list place = 36 - place
 
-house-requires : tie.Need-house-requires Inv-loop μ-loop
-house-requires c κs = tt
+tiers-of-requires : tie.Need-tiers-of-requires Inv-loop μ-loop
+tiers-of-requires c κs =
+    let valid = c .before .before .before .pre .0 in
+    record { count-le = valid .tier-count-limit; withdrawal-le = valid .withdrawal-limit }
 
 places-of-requires : tie.Need-places-of-requires Inv-loop μ-loop
-places-of-requires c κs = c .before .before .before .pre .0
+places-of-requires c κs = c .before .before .before .before .pre .0
 
 longest-term-requires : tie.Need-longest-term-requires Inv-loop μ-loop
 longest-term-requires c κs = tt
 
 factor-table-requires : tie.Need-factor-table-requires Inv-loop μ-loop
 factor-table-requires c κs =
-    let start = c .before .before .before .before .before .before .before in
+    let start = c .before .before .before .before .before .before .before .before in
     yields-within (start .args .t1) (start .pre .0)
 
 factor-table-requires-2 : tie.Need-factor-table-requires-2 Inv-loop μ-loop
 factor-table-requires-2 c κs =
-    let start = c .before .before .before .before .before .before .before .before .before .before in
+    let start = c .before .before .before .before .before .before .before .before .before .before .before in
     yields-within (start .args .t1) (start .pre .0)
 
 loop-holds : tie.Need-loop-holds Inv-loop μ-loop
-unfolding tableFrom joined filingTiers roundingOf
+unfolding tableFrom joined roundingOf
 loop-holds c =
     let lower = c .before .before .before in
     let term = lower .before .before .before in
     let places = term .before in
-    let house = places .before in
-    let start = house .before .before .before in
+    let tiers = places .before in
+    let start = tiers .before .before .before .before in
     let longest = term .longest-term .ensures ∙ ap longestTerm (places .places-of .ensures) in (
       omega arith,
       start .pre .1,
       record {
         valid = start .pre .0;
-        tiers-are = house .house .ensures .0;
-        usable = house .house .ensures .1;
+        tiers-are = tiers .tiers-of .ensures .0;
+        usable = tiers .tiers-of .ensures .1;
         places-are = places .places-of .ensures;
         lower-is = rw longest at (lower .factor-table .ensures);
         upper-is = rw longest at (c .factor-table2 .ensures);
@@ -121,7 +122,7 @@ write-rows-spec =
     (tie.spec
     Inv-loop
     μ-loop
-    house-requires
+    tiers-of-requires
     places-of-requires
     longest-term-requires
     factor-table-requires
