@@ -1,11 +1,12 @@
 -- Closed cases of what a filing says and of the verdict on it, so that a wrong clause of a definition breaks a case: the small examples of the table
--- (01:28-39), the shortest inputs, each limit and the number after it, the order of the tests, and accepted filings. Each is computed.
+-- (01:28-39), the shortest inputs, each limit and the number after it, the tiers (02:CR 1), the order of the tests, and accepted filings. Each is computed.
 -- Assumes nothing.
 use Prim.Native.Nat.{ℕ, zero, suc, _+_, _-_, _*_, _^_, _%_, _/_}
 use mathlib.Core.Path.{_≡_, refl}
 use mathlib.Core.List.{List, [], _∷_, _++_, map}
+use lib.ListN.{length, getD}
 use Rattle.lists.specs.Sums.{sum}
-use Rattle.lists.specs.Tables.{tableFrom, those, contains, joined}
+use Rattle.lists.specs.Tables.{tableFrom, those, contains, joined, anyBelow}
 use Rattle.schedule.specs.Cells.{position, positions, inColumn, withinRow, brokeredCell, penaltyBalanceCell, penaltyMonthsCell, unusedCells}
 use Rattle.schedule.specs.Limits.{cellClass, classLimit}
 use Rattle.answers.specs.Verdict.{Verdict, accepted, refused, refusedIf, firstRefusal, firstOf, listVerdict}
@@ -13,10 +14,10 @@ use Rattle.records.specs.Bytes.{numberAt}
 use Rattle.records.specs.Records.{nextRecord, searchRecords, firstRecord}
 use Rattle.records.specs.Kinds.{sheetOf, sheetKinds, sheetKind, sheetLength, dueLength}
 use Rattle.records.specs.Items.{sameItem, recordItem, firstWith}
-use Rattle.records.specs.Faults.{incomplete, repeated, numberOver, overLimit}
+use Rattle.records.specs.Faults.{incomplete, repeated, numberOver, overLimit, unfitTier, unsoundTiers}
 use Rattle.records.specs.RecordVerdicts.{firstFaulty, recordVerdict, recordsVerdict}
 use Rattle.filing.specs.declared.Contents.{Contents}
-use Rattle.filing.specs.Contents.{cellOffset, cellValue, sheetOffset, contentsOf, cellIn, cell, cdYield, retailRate}
+use Rattle.filing.specs.Contents.{cellOffset, cellValue, sheetOffset, tierNumber, tiersAt, contentsOf, cellIn, cell, cdYield, retailRate}
 use Rattle.filing.specs.Conditions.{sheetMissing, monthsOutside, columnBalances, balances, aboveColumn, totalDiffers}
 use Rattle.filing.specs.Verdict.{sheetVerdict, positionVerdict, monthsVerdict, columnVerdict, columnsVerdict, totalVerdict, cellsVerdict, filingVerdict}
 
@@ -36,6 +37,14 @@ yieldSheet rate = bytes 2 242 ++ bytes 2 2 ++ joined (tableFrom 1 120 (λ (t : �
 
 abbrev rateSheet : (ℕ → ℕ) → List ℕ
 rateSheet rate = bytes 2 8 ++ bytes 2 3 ++ joined (tableFrom 1 3 (λ (j : ℕ). bytes 2 (rate j)))
+
+-- a record of tiers, each an edge and a withdrawal
+abbrev pairs : List (ℕ × ℕ) → List ℕ
+pairs [] = []
+pairs (x ∷ xs) = bytes 2 (x .0) ++ bytes 2 (x .1) ++ pairs xs
+
+abbrev tierSheet : List (ℕ × ℕ) → List ℕ
+tierSheet xs = bytes 2 (4 + 4 * length xs) ++ bytes 2 4 ++ bytes 2 (length xs) ++ pairs xs
 
 -- a filing of cells with both sheets, which take 254 bytes
 abbrev complete : List (ℕ × ℕ) → List ℕ
@@ -171,24 +180,45 @@ total-cases =
     ++ yieldSheet (λ (t : ℕ). 0) ++ filed ((609, 1) ∷ (602, 10) ∷ [])) accepted
     ∷ []
 
+-- 2, 4 and 11 at the tiers: a length that is not 4 + 4 × count, tiers twice, each condition of 11 at its limit and beyond, and acceptance
+abbrev tier-cases : List Case
+tier-cases =
+    gives (bytes 2 2 ++ bytes 2 4) (refused 2 0)
+    ∷ gives (bytes 2 4 ++ bytes 2 4 ++ bytes 2 16384) (refused 2 0)
+    ∷ gives (bytes 2 4 ++ bytes 2 4 ++ bytes 2 0) (refused 11 0)
+    ∷ gives (tierSheet ((0, 40) ∷ [])) (refused 6 10)
+    ∷ gives (tierSheet (tableFrom 0 16 (λ (i : ℕ). (i, i)))) (refused 6 70)
+    ∷ gives (tierSheet (tableFrom 0 17 (λ (i : ℕ). (i, i)))) (refused 11 0)
+    ∷ gives (tierSheet ((1, 40) ∷ [])) (refused 11 0)
+    ∷ gives (tierSheet ((0, 40) ∷ (65535, 40) ∷ [])) (refused 6 14)
+    ∷ gives (tierSheet ((0, 40) ∷ (0, 50) ∷ [])) (refused 11 0)
+    ∷ gives (tierSheet ((0, 40) ∷ (7, 50) ∷ (6, 60) ∷ [])) (refused 11 0)
+    ∷ gives (tierSheet ((0, 40) ∷ (7, 39) ∷ [])) (refused 11 0)
+    ∷ gives (tierSheet ((0, 600) ∷ [])) (refused 6 10)
+    ∷ gives (tierSheet ((0, 601) ∷ [])) (refused 11 0)
+    ∷ gives (tierSheet ((0, 40) ∷ []) ++ tierSheet ((1, 601) ∷ [])) (refused 4 10)
+    ∷ gives (complete [] ++ tierSheet ((0, 40) ∷ (100, 130) ∷ [])) accepted
+    ∷ []
+
 abbrev cases : List Case
-cases = shape-cases ++ cell-cases ++ sheet-cases ++ months-cases ++ column-cases ++ total-cases
+cases = shape-cases ++ cell-cases ++ sheet-cases ++ tier-cases ++ months-cases ++ column-cases ++ total-cases
 
 -- every case holds
 verdicts-hold : map (λ (c : Case). filingVerdict (c .input)) cases ≡ map (λ (c : Case). c .verdict) cases
-unfolding numberAt nextRecord searchRecords firstRecord sheetOf sheetKinds sheetKind sheetLength dueLength sameItem recordItem firstWith incomplete repeated numberOver overLimit cellClass classLimit contains position positions brokeredCell penaltyBalanceCell penaltyMonthsCell unusedCells firstFaulty sheetOffset sheetMissing filingVerdict refused cellOffset cellValue contentsOf cellIn monthsOutside columnBalances balances aboveColumn totalDiffers sum those inColumn withinRow sheetVerdict positionVerdict monthsVerdict columnVerdict columnsVerdict totalVerdict cellsVerdict recordVerdict recordsVerdict accepted refusedIf firstRefusal firstOf tableFrom joined
+unfolding numberAt nextRecord searchRecords firstRecord sheetOf sheetKinds sheetKind sheetLength dueLength sameItem recordItem firstWith incomplete repeated anyBelow numberOver overLimit unfitTier unsoundTiers cellClass classLimit contains position positions brokeredCell penaltyBalanceCell penaltyMonthsCell unusedCells firstFaulty sheetOffset sheetMissing filingVerdict refused cellOffset cellValue contentsOf tiersAt tierNumber cellIn monthsOutside columnBalances balances aboveColumn totalDiffers sum those inColumn withinRow sheetVerdict positionVerdict monthsVerdict columnVerdict columnsVerdict totalVerdict cellsVerdict recordVerdict recordsVerdict accepted refusedIf firstRefusal firstOf tableFrom joined
 verdicts-hold = refl
 
 -- what a filing says: cells that are present and absent, the ends of the yields and of the rates, and reads beyond them
 abbrev sample : Contents
-sample = contentsOf (complete ((601, 10) ∷ (661, 20) ∷ []))
+sample = contentsOf (complete ((601, 10) ∷ (661, 20) ∷ []) ++ tierSheet ((0, 40) ∷ (100, 130) ∷ []))
 
 contents-hold :
     cell sample 600 ∷ cell sample 601 ∷ cell sample 602 ∷ cell sample 661 ∷ cell sample 662
     ∷ cdYield sample 1 ∷ cdYield sample 120 ∷ cdYield sample 121 ∷ retailRate sample 1
-    ∷ retailRate sample 3 ∷ []
-    ≡ 0 ∷ 10 ∷ 0 ∷ 20 ∷ 0 ∷ 10 ∷ 1200 ∷ 0 ∷ 100 ∷ 300 ∷ []
-unfolding numberAt nextRecord searchRecords firstRecord sheetOf sheetKinds sheetKind sameItem recordItem firstWith cellClass contains position positions brokeredCell penaltyBalanceCell penaltyMonthsCell unusedCells cellOffset cellValue sheetOffset contentsOf cellIn cdYield retailRate tableFrom joined
+    ∷ retailRate sample 3 ∷ sample .tiers .count ∷ getD (sample .tiers .edges) 1 0 ∷ getD (sample .tiers .withdrawals) 0 0
+    ∷ getD (sample .tiers .withdrawals) 2 0 ∷ []
+    ≡ 0 ∷ 10 ∷ 0 ∷ 20 ∷ 0 ∷ 10 ∷ 1200 ∷ 0 ∷ 100 ∷ 300 ∷ 2 ∷ 100 ∷ 40 ∷ 0 ∷ []
+unfolding numberAt nextRecord searchRecords firstRecord sheetOf sheetKinds sheetKind sheetLength dueLength sameItem recordItem firstWith cellClass contains position positions brokeredCell penaltyBalanceCell penaltyMonthsCell unusedCells cellOffset cellValue sheetOffset contentsOf tiersAt tierNumber cellIn cdYield retailRate tableFrom joined
 contents-hold = refl
 
 -- 10 comes before the verdict on the filing, at the list's length
