@@ -1,0 +1,31 @@
+/* The filings that are compared and timed. Every one is allocated anew; the caller frees its bytes. */
+#ifndef FILINGS_H
+#define FILINGS_H
+
+#include <stddef.h>
+#include <stdint.h>
+
+struct input {
+    const char *name;
+    uint8_t *bytes;
+    size_t size;
+};
+
+/*
+ * A filing by name:
+ *   worst        nine cells, longest terms, all 36 sub-balances, 120 distinct yields, none of them cut at 0 by a shift
+ *   typical      six cells, terms of 2 to 52 months
+ *   fullest      every listed cell with the longest records, shortest terms: no accepted filing is longer
+ *   no-balances  the records of the worst filing with every balance 0: read and split, and no month priced
+ *   refused      the fullest filing, then a cell a second time
+ * The first two may end in -tiers: with sixteen tiers of its own, of which a retail month reaches only the lowest.
+ */
+struct input named(const char *name);
+
+/* A long input: the records of the fullest filing or none, and then bytes `fill` that no rule allows, up to `size`. */
+struct input hostile(const char *name, size_t size, int late, int fill);
+
+/* A random filing, records in any order, three in five accepted. */
+struct input any(void);
+
+#endif
