@@ -1,6 +1,6 @@
 """What the calls do with the lists lent, and the listing's text. Each entry has a name."""
 from accepted import paper_figures
-from records import LISTING, RISING, cell, cells, deposits, filing, flat, middle_month, record, shared, yields
+from records import LISTING, RISING, cell, cells, deposits, filing, flat, middle_month, record, shared, tiers, yields
 from refused import refusal_table
 
 # The numbers of the calls. UNKNOWN is of none.
@@ -32,6 +32,7 @@ def both_lists():
 
 def listed():
     yield "all positions, all four kinds", WHOLE
+    yield "the same with own tiers", WHOLE + tiers((0, 0), (90, 300), (110, 600))
     yield "sheets alone", filing({})
     yield from paper_figures()
 

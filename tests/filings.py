@@ -11,6 +11,7 @@ sys.dont_write_bytecode = True
 
 import accepted
 import calls
+import own_tiers
 import refused
 
 CRATES = Path(__file__).resolve().parent.parent / "crates"
@@ -23,7 +24,7 @@ MOST_PLACES = 40
 
 def entries():
     """Each entry's name and its bytes."""
-    for family in accepted.FAMILIES + refused.FAMILIES + calls.FAMILIES:
+    for family in accepted.FAMILIES + refused.FAMILIES + own_tiers.FAMILIES + calls.FAMILIES:
         for name, data, *lists in family():
             yield name, entry(calls.VALUE_AND_SPLIT, data, *lists)
     for family in calls.LISTINGS:

@@ -1,4 +1,4 @@
-"""The form and its records: cells, sheets, and whole filings as bytes."""
+"""The form and its records: cells, sheets, tiers, and whole filings as bytes."""
 import struct
 from collections import namedtuple
 
@@ -60,6 +60,16 @@ def rates(values):
     return record(3, struct.pack("<3H", *values))
 
 
+def tiers(*pairs):
+    """An institution's own tiers, each an edge in hundredths and an annual withdrawal in thousandths."""
+    return counted_tiers(len(pairs), *pairs)
+
+
+def counted_tiers(count, *pairs):
+    """The same with a count that may differ from the number of pairs."""
+    return record(4, struct.pack("<H", count) + b"".join(struct.pack("<HH", *pair) for pair in pairs))
+
+
 def flat(value):
     return [value] * 120
 
@@ -111,6 +121,7 @@ def shared(values, brokered, subject, penalty):
     return totalled(values)
 
 
+HOUSE_TIERS = ((0, 40), (50, 50), (80, 75), (100, 130), (115, 320), (130, 460), (150, 550))
 LISTING = {601: 1000, 645: 1000, 650: 1000, 608: 1}
 RISING = [100 + 4 * month for month in range(120)]
 DISTINCT = [(37 * month + 5) % 2501 for month in range(120)]

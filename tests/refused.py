@@ -3,7 +3,7 @@ import struct
 
 from records import (
     COLUMNS, LARGEST, LIMITS, LISTING, POSITIONS, SHEETS, UNUSED, brokered_cell, cell, cells, deposit, filing, flat, penalty_balance_cell,
-    rates, record, totalled, yields,
+    rates, record, tiers, totalled, yields,
 )
 
 
@@ -18,6 +18,7 @@ def refusal_table():
     yield "7: 615 = 10, 622 = 3", filing({615: 10, 622: 3})
     yield "8: 601 = 10, 608 = 1, 650 = 11", filing({601: 10, 608: 1, 650: 11})
     yield "9: 601 = 10, 608 = 1, no 645", filing({601: 10, 608: 1})
+    yield "11: no tier", tiers()
 
 
 def cut_short():
@@ -43,7 +44,7 @@ def lengths():
 
 
 def kinds():
-    for kind in (0, 4, 5, 10, 256, 257, 513, 65_535):
+    for kind in (0, 5, 10, 256, 257, 513, 65_535):
         yield f"kind {kind} without a body", record(kind, b"")
         yield f"kind {kind} with the body of a cell", cell(601, 0) + record(kind, struct.pack("<HQ", 602, 0))
 
@@ -115,7 +116,7 @@ def two_faults_in_one_record():
 
 
 def two_faulty_records():
-    faults = {1: bytes([0x01, 0x00]), 2: record(9, b""), 3: cell(600, 0), 4: cell(601, 1), 5: cell(605, 1_501)}
+    faults = {1: bytes([0x01, 0x00]), 2: record(9, b""), 3: cell(600, 0), 4: cell(601, 1), 5: cell(605, 1_501), 11: tiers((1, 40))}
     for first, one in faults.items():
         for second, other in faults.items():
             if first != second:

@@ -10,6 +10,7 @@ mod records;
 mod refusals;
 mod shares;
 mod survival;
+mod tiers;
 mod values;
 mod withdrawals;
 

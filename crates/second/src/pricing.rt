@@ -51,7 +51,7 @@ fn run_month(
 ) -> Run {
     let left = sub(part.months, month);
     let rate = shifted(retail_rate(s, part.column), scenario);
-    let q = month_survival(survivals, part, rate, left);
+    let q = month_survival(s, survivals, part, rate, left);
     let after = balance_after(run.balance, part.coupon, q, up);
     let flow = add(
         outflow(run.balance, part.brokered, q, up),

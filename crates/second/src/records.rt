@@ -13,6 +13,8 @@ pub const YIELDS: u64 = 2;
 
 pub const RATES: u64 = 3;
 
+pub const TIERS: u64 = 4;
+
 // A cell's value, 0 where the filing does not have the cell.
 pub fn value(s: &[u8], cell: u64) -> u64 {
     quad(s, add(found(s, size(s), CELL, cell), 6))

@@ -17,6 +17,8 @@ use crate::records::lacks;
 use crate::records::next;
 use crate::records::value;
 use crate::shares::column_sum;
+use crate::tiers::are_disordered;
+use crate::tiers::own_count;
 
 pub struct Refusal {
     pub number: u64,
@@ -48,7 +50,7 @@ fn refused_if(holds: bool, number: u64, place: u64) -> Refusal {
     }
 }
 
-// Refusals 1 to 5: the first record that has a fault.
+// Refusals 1 to 5 and 11: the first record that has a fault.
 fn record_refusal(s: &[u8]) -> Refusal {
     let at = first_faulty(s);
     let fault = record_fault(s, at);
@@ -75,20 +77,23 @@ fn record_fault(s: &[u8], at: u64) -> Refusal {
     first(
         first(
             refused_if(is_broken(s, at), 1, at),
-            refused_if(word(s, at) != length_of(kind), 2, at),
+            refused_if(word(s, at) != length_of(s, at, kind), 2, at),
         ),
         body_fault(s, at, kind, cell),
     )
 }
 
-// Faults 3 to 5 of a record of a known kind.
+// Faults 3 to 5 and 11 of a record of a known kind.
 fn body_fault(s: &[u8], at: u64, kind: u64, cell: u64) -> Refusal {
     let most = limit(cell);
     first(
         refused_if((kind == CELL) & (most == 0), 3, at),
         first(
             refused_if(found(s, at, kind, cell) < at, 4, at),
-            refused_if(is_over(s, at, kind, most), 5, at),
+            first(
+                refused_if(is_over(s, at, kind, most), 5, at),
+                refused_if(is_disordered(s, at, kind), 11, at),
+            ),
         ),
     )
 }
@@ -98,12 +103,13 @@ fn is_broken(s: &[u8], at: u64) -> bool {
     (size(s) < add(at, 2)) | (word(s, at) < 2) | (size(s) < next(s, at))
 }
 
-// The length of a record of a kind, 0 where the kind is unknown.
-fn length_of(kind: u64) -> u64 {
+// The length that the record at `at` has by its kind, 0 where the kind is unknown.
+fn length_of(s: &[u8], at: u64, kind: u64) -> u64 {
     match kind {
         1 => 12,
         2 => 242,
         3 => 8,
+        4 => add(4, mul(4, own_count(s, at))),
         _ => 0,
     }
 }
@@ -113,7 +119,16 @@ fn is_over(s: &[u8], at: u64, kind: u64, most: u64) -> bool {
     match kind {
         1 => most < quad(s, add(at, 6)),
         2 => is_rate_over(s, add(at, 4), 120),
-        _ => is_rate_over(s, add(at, 4), 3),
+        3 => is_rate_over(s, add(at, 4), 3),
+        _ => false,
+    }
+}
+
+// Whether the record at `at` has tiers that do not load.
+fn is_disordered(s: &[u8], at: u64, kind: u64) -> bool {
+    match kind {
+        4 => are_disordered(s, at),
+        _ => false,
     }
 }
 

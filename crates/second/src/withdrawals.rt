@@ -6,23 +6,21 @@ use crate::arith::mul;
 use crate::arith::sub;
 use crate::cells::entry;
 use crate::shares::SubBalance;
+use crate::tiers::tier_count;
+use crate::tiers::tier_edge;
+use crate::tiers::tier_withdrawal;
+use crate::tiers::tiers;
 
 pub const WHOLE: u64 = 1000000000;
 
-// The edges of the tiers in hundredths, lowest first.
-const EDGES: [u64; 6] = [50, 80, 100, 115, 130, 150];
-
-// The annual withdrawals in thousandths: that below every edge, and that of each tier.
-const WITHDRAWALS: [u64; 7] = [40, 50, 75, 130, 320, 460, 550];
-
 // The survival q, in parts of 10^9, of a month with n months after it.
-pub fn month_survival(survivals: &[u64], part: SubBalance, r: u64, n: u64) -> u64 {
+pub fn month_survival(s: &[u8], survivals: &[u64], part: SubBalance, r: u64, n: u64) -> u64 {
     if n == 0 {
         WHOLE
     } else if part.brokered {
         brokered_survival(part, r, n)
     } else {
-        entry(survivals, entry(&WITHDRAWALS, tier(part, r, n)))
+        entry(survivals, withdrawal(s, tiers(s), part, r, n))
     }
 }
 
@@ -35,15 +33,16 @@ fn brokered_survival(part: SubBalance, r: u64, n: u64) -> u64 {
     }
 }
 
-// The highest tier, from 1, whose edge the gain reaches; 0 where it reaches none.
-fn tier(part: SubBalance, r: u64, n: u64) -> u64 {
-    let mut tier = 0;
-    for k in 0..6 {
-        if owed(part, n, entry(&EDGES, k)) <= earned(part, r, n) {
-            tier = k + 1;
+// The annual withdrawal of the highest of the tiers at `at` whose edge the gain reaches; that of the
+// first where it reaches none.
+fn withdrawal(s: &[u8], at: u64, part: SubBalance, r: u64, n: u64) -> u64 {
+    let mut withdrawal = tier_withdrawal(s, at, 0);
+    for k in 0..tier_count(s, at) {
+        if owed(part, n, tier_edge(s, at, k)) <= earned(part, r, n) {
+            withdrawal = tier_withdrawal(s, at, k);
         }
     }
-    tier
+    withdrawal
 }
 
 // 100 × (12,000,000 - c × p) × r × n, the first part of 100 × gain.
