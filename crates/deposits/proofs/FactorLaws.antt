@@ -1,5 +1,5 @@
 -- The factors of the seven scenarios in the list, month by month. Assumes nothing.
-use Prim.Native.Nat.{ℕ, suc, _+_, _*_, _-_, _^_, _≤_, _<_}
+use Prim.Native.Nat.{ℕ, suc, _+_, _*_, _-_, _≤_, _<_}
 use mathlib.Core.Path.{_≡_, refl, ap, _∙_}
 use mathlib.Core.Bool.{Bool, true, false, cond}
 use mathlib.Core.List.{List}
@@ -11,6 +11,7 @@ use Rattle.lists.specs.Tables.{tableFrom}
 use Rattle.lists.proofs.TableLaws.{table-length, table-getD, table-le, joined-getD, joined-le}
 use Rattle.lists.proofs.TestLaws.{either, entries-le}
 use Rattle.schedule.specs.Shift.{shiftedRate, shiftedRates}
+use Rattle.pricing.specs.Scales.{par}
 use Rattle.pricing.specs.Rounding.{Rounding}
 use Rattle.pricing.specs.Run.{discountBy, discountFactorBy}
 use Rattle.pricing.specs.Inner.Multipliers.{discountsBy, AtMost}
@@ -28,9 +29,9 @@ discounts-length : (ρ : Rounding) (rates : List ℕ) (n : ℕ) → length (disc
 unfolding discountsBy
 discounts-length ρ rates n = table-length 0 7 _
 
-discounts-at-most : (ρ : Rounding) (rates : List ℕ) (n : ℕ) → AtMost (10 ^ 9) (discountsBy ρ rates n)
+discounts-at-most : (ρ : Rounding) (rates : List ℕ) (n : ℕ) → AtMost par (discountsBy ρ rates n)
 unfolding discountsBy
-discounts-at-most ρ rates n = table-le 0 7 _ (10 ^ 9) (λ i l u. discount-limit _ n ρ)
+discounts-at-most ρ rates n = table-le 0 7 _ par (λ i l u. discount-limit _ n ρ)
 
 module _ (ρ : Rounding) (yields : List ℕ) (longest : ℕ) where
   -- a month has seven factors
@@ -38,14 +39,14 @@ module _ (ρ : Rounding) (yields : List ℕ) (longest : ℕ) where
   unfolding monthFactors
   month-length month = either (λ (l : List ℕ). length l ≡ 7) (ltb month longest) (discounts-length ρ _ (suc month)) refl
 
-  -- none is above 10^9
-  month-at-most : (month : ℕ) → AtMost (10 ^ 9) (monthFactors ρ yields longest month)
+  -- none is above par
+  month-at-most : (month : ℕ) → AtMost par (monthFactors ρ yields longest month)
   unfolding monthFactors
-  month-at-most month = either (AtMost (10 ^ 9)) (ltb month longest) (discounts-at-most ρ _ (suc month)) (entries-le (replicate 7 0) (10 ^ 9) tt)
+  month-at-most month = either (AtMost par) (ltb month longest) (discounts-at-most ρ _ (suc month)) (entries-le (replicate 7 0) par tt)
 
   pub factors-at-most-par : AtMostPar (factorsBy ρ yields longest)
   unfolding factorsBy
-  factors-at-most-par = joined-le 0 120 (monthFactors ρ yields longest) (10 ^ 9) (λ month i l u. month-at-most month i)
+  factors-at-most-par = joined-le 0 120 (monthFactors ρ yields longest) par (λ month i l u. month-at-most month i)
 
   -- the factor of scenario s and month t + 1 within the longest term is the discount factor of the definitions
   pub factor-is : (scenario t : ℕ) → scenario < 7 → t < 120 → t < longest

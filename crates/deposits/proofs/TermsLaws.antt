@@ -6,11 +6,12 @@ use Rattle.schedule.specs.Limits.{couponLimit, monthsLimit}
 use Rattle.withdrawal.specs.Tiers.{TierTable}
 use Rattle.withdrawal.specs.MonthSurvival.{Account, retail, brokered, accountOf}
 use Rattle.withdrawal.proofs.MonthSurvivalLaws.{monthSurvival-le}
+use Rattle.pricing.specs.Scales.{servicingLimit}
 use Rattle.pricing.specs.Bounded.{Bounded}
 use Rattle.deposits.specs.declared.Deposit.{Deposit}
 use Rattle.deposits.specs.DepositTerms.{servicingCost, termsOf}
 
-servicing-le : (account : Account) → servicingCost account ≤ 175000
+servicing-le : (account : Account) → servicingCost account ≤ servicingLimit
 unfolding servicingCost
 servicing-le retail = lit≤ tt
 servicing-le brokered = lit≤ tt

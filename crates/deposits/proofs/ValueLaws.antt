@@ -1,5 +1,5 @@
 -- The values of a balance: with the discount factors of a sheet they are the values of the definitions. Assumes nothing.
-use Prim.Native.Nat.{ℕ, suc, _*_, _^_, _≤_, _<_}
+use Prim.Native.Nat.{ℕ, suc, _*_, _≤_, _<_}
 use mathlib.Core.Path.{_≡_, refl, ap, sym, _∙_}
 use mathlib.Core.Logic.{⊎-elim}
 use mathlib.Core.List.{List, [], _∷_}
@@ -11,6 +11,7 @@ use Rattle.lists.proofs.TableLaws.{table-ext, joined-length}
 use Rattle.schedule.specs.Limits.{monthsLimit}
 use Rattle.schedule.specs.Shift.{shiftedRate, scenarioCount}
 use Rattle.withdrawal.specs.Tiers.{TierTable}
+use Rattle.pricing.specs.Scales.{valueScale}
 use Rattle.pricing.specs.Rounding.{Rounding, down, up, quotient}
 use Rattle.pricing.specs.Run.{discountFactorBy, priceBy, valueBy}
 use Rattle.pricing.proofs.RoundingLaws.{quotient-zero}
@@ -39,7 +40,7 @@ pub no-values : (tiers : TierTable) (d : Deposit) (rate : ℕ) (lower upper : Li
 unfolding listedValues valueBounds listedValue tableFrom joined
 no-values tiers d rate lower upper =
     ap joined (table-ext 7 (λ (s : ℕ). 0 ∷ 0 ∷ []) (λ (s : ℕ). valueBounds tiers 0 d (shiftedRate s rate) lower upper s)
-    (λ s h. rw (quotient-zero down _ (10 ^ 6) (lit< tt), quotient-zero up _ (10 ^ 6) (lit< tt))))
+    (λ s h. rw (quotient-zero down _ valueScale (lit< tt), quotient-zero up _ valueScale (lit< tt))))
 
 -- a deposit of at most 120 months under a sheet of yields, whose factors reach as far as its months do if it has a balance
 module _ (tiers : TierTable) (yields : List ℕ) (longest balance : ℕ) (d : Deposit) (rate : ℕ) (months-le : d .months ≤ monthsLimit)
@@ -60,7 +61,7 @@ module _ (tiers : TierTable) (yields : List ℕ) (longest balance : ℕ) (d : De
       ≡ valueBy ρ balance (termsOf tiers d (shiftedRate scenario rate)) (sheetYield yields scenario)
   unfolding listedValue valueBy
   value-is ρ scenario hs =
-      ⊎-elim (λ e. rw e (quotient-zero ρ _ (10 ^ 6) (lit< tt) ∙ sym (quotient-zero ρ _ (10 ^ 6) (lit< tt))))
+      ⊎-elim (λ e. rw e (quotient-zero ρ _ valueScale (lit< tt) ∙ sym (quotient-zero ρ _ valueScale (lit< tt))))
       (λ pos. rw (price-is ρ scenario hs pos)) (eq-zero-or-pos balance)
 
   -- lower and upper value in each scenario

@@ -5,12 +5,9 @@ use lib.ListN.{getD}
 use Rattle.schedule.specs.Shift.{shiftedRate}
 use Rattle.withdrawal.specs.Tiers.{TierTable}
 use Rattle.withdrawal.specs.MonthSurvival.{Account, retail, brokered, accountOf, monthSurvival}
+use Rattle.pricing.specs.Scales.{couponGrowth}
 use Rattle.pricing.specs.Terms.{Terms}
 use Rattle.deposits.specs.declared.Deposit.{Deposit}
-
--- a coupon's growth (01:56): a month's interest, in units of 1 / (3 × 10^9) of the balance, on a coupon in hundredths of a percent a year
-abbrev pub couponGrowth : ℕ → ℕ
-couponGrowth c = 25000 * c
 
 -- a (01:55): the month's servicing cost, billionths of the balance
 unfoldable pub servicingCost : Account → ℕ
@@ -21,7 +18,7 @@ servicingCost brokered = 19000
 unfoldable pub termsOf : TierTable → Deposit → ℕ → Terms
 termsOf tiers d rate =
     record {
-      growth = couponGrowth (d .coupon);
+      growth = couponGrowth * d .coupon;
       servicing = servicingCost (accountOf (d .brokered));
       months = d .months;
       survival = monthSurvival tiers (accountOf (d .brokered)) (d .coupon) (d .penalty) rate (d .months);

@@ -2,18 +2,23 @@
 use crate::Bounds;
 use crate::Deposit;
 use crate::factors::FactorTable;
+use pricing::PAR;
 use pricing::Run;
 use pricing::months::next_month;
 use withdrawal::WithdrawalTiers;
 use withdrawal::month_survival;
 ghost use mathlib.Core.Path.{_≡_};
-ghost use Prim.Native.Nat.{_<_, _≤_};
+ghost use Prim.Native.Nat.{_*_, _<_, _≤_};
 ghost use Rattle.schedule.specs.Limits.{couponLimit};
 ghost use Rattle.schedule.specs.Shift.{scenarioCount, shiftedLimit};
 ghost use Rattle.withdrawal.specs.MonthSurvival.{accountOf};
 ghost use Rattle.withdrawal.specs.Inner.TierArrays.{tierTable, Usable};
-ghost use Rattle.deposits.specs.DepositTerms.{couponGrowth, servicingCost};
+ghost use Rattle.pricing.specs.Scales.{couponGrowth};
+ghost use Rattle.deposits.specs.DepositTerms.{servicingCost};
 ghost use Rattle.deposits.specs.Inner.Prices.{listedPrices, DepositLimits, AtMostPar};
+
+// The growth of a coupon of one hundredth of a percent a year, in units of 1 / (3 × 10^9) of the balance (01:56).
+const COUPON_GROWTH: u64 = 25_000;
 
 // Lower and upper price in a scenario in billionths, at the scenario's retail rate in hundredths of a percent a year.
 pub(crate) fn price_of(
@@ -32,11 +37,11 @@ pub(crate) fn price_of(
     let servicing = servicing_cost(d.brokered);
     let months = d.months;
     let mut low = Run {
-        balance: 1000000000,
+        balance: PAR,
         price: 0,
     };
     let mut high = Run {
-        balance: 1000000000,
+        balance: PAR,
         price: 0,
     };
     let mut tier: usize = 0;
@@ -66,12 +71,12 @@ pub(crate) fn price_of(
     }
 }
 
-// The month's interest on a coupon in units of 1 / (3 × 10^9) of the balance.
+// The growth of a coupon.
 fn coupon_growth(coupon: u64) -> u64
     requires { ⌜ coupon ≤ couponLimit ⌝ }
-    ensures { λ r. ⌜ r ≡ couponGrowth coupon ⌝ }
+    ensures { λ r. ⌜ r ≡ couponGrowth * coupon ⌝ }
 {
-    25000 * coupon
+    COUPON_GROWTH * coupon
 }
 
 // The month's servicing cost in billionths of the balance.

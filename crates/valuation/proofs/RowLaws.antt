@@ -1,5 +1,5 @@
 -- The row of a place with the discount factors of the lists has the numbers of the definitions, none above the limit of a value. Assumes nothing.
-use Prim.Native.Nat.{ℕ, zero, suc, _*_, _-_, _^_, _≤_, _<_}
+use Prim.Native.Nat.{ℕ, zero, suc, _*_, _-_, _≤_, _<_}
 use mathlib.Core.Path.{_≡_, ap, _∙_}
 use mathlib.Core.Logic.{⊎-elim}
 use mathlib.Core.List.{List, _∷_, append-nil}
@@ -21,6 +21,7 @@ use Rattle.shares.specs.Places.{placeAt, placesOf, noPlace}
 use Rattle.shares.proofs.SubBalanceLaws.{balanceAt-limit}
 use Rattle.withdrawal.specs.declared.WithdrawalTiers.{WithdrawalTiers}
 use Rattle.withdrawal.specs.Inner.TierArrays.{tierTable, Usable}
+use Rattle.pricing.specs.Scales.{valueScale}
 use Rattle.pricing.specs.Rounding.{Rounding, down, up}
 use Rattle.pricing.specs.Run.{valueBy}
 use Rattle.pricing.proofs.RoundingLaws.{quotient-le}
@@ -83,7 +84,7 @@ module _ (k : Contents) where
     valueAt-le : (ρ : Rounding) (scenario place : ℕ) → place < 36 → valueAt ρ k scenario place ≤ valueLimit
     unfolding valueAt valueBy
     valueAt-le ρ scenario place h =
-        quotient-le ρ _ (10 ^ 6) valueLimit (lit< tt)
+        quotient-le ρ _ valueScale valueLimit (lit< tt)
         (omega (
           arith,
           mul-le-mul (balanceAt-limit k v place h) (price-limit (termsAt k scenario place) (monthYield k scenario) (terms-bounded k v place h scenario) ρ),
@@ -110,7 +111,7 @@ pub record Prepared (k : Contents) (tiers : WithdrawalTiers) (places : List SubB
   pub upper-is : upper ≡ factorsBy up (k .yields) (longestTerm (placesOf k))
 
 module _ (k : Contents) (tiers : WithdrawalTiers) (places : List SubBalance) (lower upper : List ℕ) (p : Prepared k tiers places lower upper) where
-  -- no factor is above 10^9
+  -- no factor is above par
   pub factors-limits : AtMostPar lower × AtMostPar upper
   factors-limits = rw (p .lower-is, p .upper-is) (factors-at-most-par down _ _, factors-at-most-par up _ _)
 

@@ -1,10 +1,11 @@
 -- The run of a deposit with discount factors from a list, and the limits of a deposit (01:24). Definitions only.
-use Prim.Native.Nat.{ℕ, _+_, _*_, _-_, _^_, _≤_}
+use Prim.Native.Nat.{ℕ, _+_, _*_, _-_, _≤_}
 use mathlib.Core.List.{List}
 use lib.ListN.{getD}
 use Rattle.schedule.specs.Limits.{couponLimit, penaltyLimit, monthsLimit}
 use Rattle.schedule.specs.Shift.{scenarioCount}
 use Rattle.withdrawal.specs.Tiers.{TierTable}
+use Rattle.pricing.specs.Scales.{par}
 use Rattle.pricing.specs.Rounding.{Rounding, down, up}
 use Rattle.pricing.specs.Run.{discountedBy}
 use Rattle.deposits.specs.declared.Deposit.{Deposit}
@@ -30,6 +31,6 @@ pub record DepositLimits (d : Deposit) : Type 0 where
   pub penalty-le : d .penalty ≤ penaltyLimit
   pub months-le : d .months ≤ monthsLimit
 
--- no factor of a list is above 10^9
+-- no factor of a list is above par
 abbrev pub AtMostPar : List ℕ → Type 0
-AtMostPar factors = (i : ℕ) → getD factors i 0 ≤ 10 ^ 9
+AtMostPar factors = (i : ℕ) → getD factors i 0 ≤ par

@@ -1,16 +1,17 @@
 -- The values of a balance, dollars, with discount factors from a list (01:60). Definitions only.
-use Prim.Native.Nat.{ℕ, _*_, _^_}
+use Prim.Native.Nat.{ℕ, _*_}
 use mathlib.Core.List.{List, [], _∷_}
 use Rattle.lists.specs.Tables.{table, joined}
 use Rattle.schedule.specs.Shift.{shiftedRate, scenarioCount}
 use Rattle.withdrawal.specs.Tiers.{TierTable}
+use Rattle.pricing.specs.Scales.{valueScale}
 use Rattle.pricing.specs.Rounding.{Rounding, down, up, quotient}
 use Rattle.deposits.specs.declared.Deposit.{Deposit}
 use Rattle.deposits.specs.Inner.Prices.{listedPrice}
 
 -- the value of a balance in thousands of dollars at a rounding, at the scenario's retail rate
 unfoldable pub listedValue : Rounding → TierTable → ℕ → Deposit → ℕ → List ℕ → ℕ → ℕ
-listedValue ρ tiers balance d rate factors scenario = quotient ρ (balance * listedPrice ρ tiers d rate factors scenario) (10 ^ 6)
+listedValue ρ tiers balance d rate factors scenario = quotient ρ (balance * listedPrice ρ tiers d rate factors scenario) valueScale
 
 -- lower value by lower factors, upper value by upper factors
 unfoldable pub valueBounds : TierTable → ℕ → Deposit → ℕ → List ℕ → List ℕ → ℕ → List ℕ
