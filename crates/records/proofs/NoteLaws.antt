@@ -153,5 +153,5 @@ module _ (s : List ℕ) (at : ℕ) (reached : Reached s 0 at) where
 
 -- no record read: nothing is noted
 pub noted-start : (s : List ℕ) → nothingNoted (length s) ≡ notedBefore s 0
-unfolding nothingNoted notedBefore offsetBefore firstWith firstRecord searchRecords tableFrom
+unfolding notedBefore offsetBefore firstWith firstRecord searchRecords tableFrom
 noted-start s = refl
