@@ -1,5 +1,6 @@
 // Lines of text and numbers on standard output. What is written is tested, not proved.
 use libc::STDOUT_FILENO;
+use schedule::scenarios::Scenario;
 
 // A piece of text as it stands.
 pub fn text(s: &[u8]) {
@@ -38,7 +39,7 @@ fn shift(scenario: u64) {
 // The four totals of each scenario, behind its shift, from the 568 numbers of a valued filing.
 pub fn scenario_lines(name: &[u8], numbers: &[u64]) {
     let mut scenario: usize = 0;
-    while scenario < 7 {
+    while (scenario as u64) < Scenario::COUNT {
         text(name);
         shift(scenario as u64);
         let from = 540 + 4 * scenario;

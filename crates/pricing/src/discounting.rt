@@ -1,6 +1,7 @@
 // Discount factors, seven rates in step: each division by 120,000 + rate is a multiplication by that month's multiplier.
 use crate::PAR;
 use crate::rounding::quotient;
+use schedule::scenarios::Scenario;
 ghost use mathlib.Core.Path.{_≡_};
 ghost use Prim.Native.Nat.{_≤_};
 ghost use Rattle.schedule.specs.Shift.{shiftedLimit};
@@ -46,7 +47,7 @@ fn next_factors(factors: &[u64; 7], multipliers: &[u64; 7], up: bool) -> [u64; 7
 {
     let mut next = [0; 7];
     let mut i: usize = 0;
-    while i < 7 {
+    while (i as u64) < Scenario::COUNT {
         next[i] = next_factor(factors[i], multipliers[i], up);
         i += 1;
     }
@@ -71,7 +72,7 @@ fn multipliers_of(rates: &[u64; 7], up: bool) -> [u64; 7]
 {
     let mut multipliers = [0; 7];
     let mut i: usize = 0;
-    while i < 7 {
+    while (i as u64) < Scenario::COUNT {
         multipliers[i] = multiplier(rates[i], up);
         i += 1;
     }
