@@ -9,6 +9,7 @@ from records import (
 
 KIND = struct.pack("<H", 4)
 SIXTEEN = tuple((10 * k, 40 * k) for k in range(16))
+SIXTEEN_WIDE = tuple((4_369 * k, 40 * k) for k in range(16))
 LOADED = {
     "one tier": ((0, 40),),
     "one tier of 0": ((0, 0),),
@@ -20,7 +21,7 @@ LOADED = {
     "edges up to 65,535": ((0, 40), (255, 50), (256, 75), (65_534, 130), (65_535, 460)),
     "sixteen tiers": SIXTEEN,
     "sixteen tiers of 600": tuple((k, 600) for k in range(16)),
-    "sixteen tiers up to 65,535 and 600": tuple((4_369 * k, 40 * k) for k in range(16)),
+    "sixteen tiers up to 65,535 and 600": SIXTEEN_WIDE,
     "the house's tiers": HOUSE_TIERS,
 }
 
@@ -49,8 +50,7 @@ def at_the_edges():
         yield f"own tiers: gain 0 and edges 1 to 15 in different months, rate {rate}", filing(values, RISING, (0, 0, rate)) + tiers(*by_month)
     for subject in (0, 100):
         values = shared(deposits(999_999_999, 1_500, last_month), 0, subject, 3_600)
-        pairs = tuple((4_369 * k, 40 * k) for k in range(16))
-        yield f"own tiers: every limit, penalty {subject} of 100", filing(values, flat(0), (2_500,) * 3) + tiers(*pairs)
+        yield f"own tiers: every limit, penalty {subject} of 100", filing(values, flat(0), (2_500,) * 3) + tiers(*SIXTEEN_WIDE)
 
 
 def edges_at(coupon, retail, *pairs):
@@ -58,14 +58,15 @@ def edges_at(coupon, retail, *pairs):
 
 
 def every_withdrawal():
-    """Sixteen withdrawals a filing: the seven scenarios of three rates reach its edges 0, 100, .. one by one. The last month's yield alone is
-    high, so that the values tell survivals apart."""
+    """Fourteen withdrawals a filing: the seven scenarios of two rates reach its edges 0, 100, .. one by one. The yields of the last months alone
+    are high, so that the values tell survivals apart."""
     values = {}
-    for place in POSITIONS[3:6]:
-        values |= deposit(place, 999_999_999, 100, 12)
-    for first in range(0, 601, 16):
-        pairs = tuple((100 * k, first + k) for k in range(16) if first + k <= 600)
-        yield f"own tiers: withdrawals {first} on", filing(totalled(values), [0] * 11 + [2_500] * 109, (300, 1_000, 1_700)) + tiers(*pairs)
+    for place, months in zip(POSITIONS[4:8], (12, 12, 30, 30)):
+        values |= deposit(place, 999_999_999, 100, months)
+    curve = [2_500 if month in (12, 30) else 0 for month in range(1, 121)]
+    for first in range(0, 601, 14):
+        pairs = tuple((100 * k, first + k) for k in range(14) if first + k <= 600)
+        yield f"own tiers: withdrawals {first} on", filing(totalled(values), curve, (0, 300, 1_000)) + tiers(*pairs)
 
 
 def places():

@@ -11,9 +11,10 @@ use crate::cells::entry;
 use crate::records::TIERS;
 use crate::records::found;
 
-// The house's edges; below the second every ratio is of the first tier.
+// The house's edges: 0 stands for every ratio below 50.
 const EDGES: [u64; 7] = [0, 50, 80, 100, 115, 130, 150];
 
+// The house's annual withdrawals.
 const WITHDRAWALS: [u64; 7] = [40, 50, 75, 130, 320, 460, 550];
 
 // The offset of the filing's own tiers; the end where the house's count.
