@@ -148,7 +148,7 @@ fn some_unfit(s: &[u8], at: usize, n: usize) -> bool
     requires { ⌜ n ≤ tierLimit ⌝ }
     ensures { λ r. ⌜ r ≡ anyBelow (faults.unfitTier (now (s .entry)) at) n ⌝ }
 {
-    let mut i = 0;
+    let mut i: usize = 0;
     while i < n {
         if unfit_tier(s, at, i) {
             return true;
