@@ -1,2 +1,4 @@
 pub mod StarredProved
+pub mod Filings
 pub mod RefusalCases
+pub mod RequestCases
