@@ -9,7 +9,7 @@ use Rattle.filing.specs.declared.Contents.{Contents}
 use Rattle.filing.specs.Valid.{Valid}
 use Rattle.shares.specs.Places.{placeAt}
 use Rattle.shares.specs.SubBalances.{positionOf, couponAt, monthsAt}
-use Rattle.filing.proofs.SumLaws.{column-range}
+use Rattle.conditions.proofs.SumLaws.{column-range}
 use Rattle.pricing.specs.Bounded.{Bounded}
 use Rattle.deposits.specs.Inner.Prices.{DepositLimits}
 use Rattle.deposits.proofs.TermsLaws.{terms-of-bounded}

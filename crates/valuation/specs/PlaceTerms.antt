@@ -9,7 +9,8 @@ use Rattle.schedule.specs.Cells.{penaltyMonthsCell}
 use Rattle.schedule.specs.Shift.{shiftedRate}
 use Rattle.filing.specs.declared.Contents.{Contents}
 use Rattle.filing.specs.declared.FiledTiers.{FiledTiers}
-use Rattle.filing.specs.Contents.{cellIn, cdYield, retailRate}
+use Rattle.conditions.specs.Conditions.{cellIn}
+use Rattle.filing.specs.Contents.{cdYield, retailRate}
 use Rattle.shares.specs.declared.SubBalance.{SubBalance}
 use Rattle.shares.specs.SubBalances.{positionOf}
 use Rattle.shares.specs.Places.{placeAt}

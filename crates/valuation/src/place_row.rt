@@ -1,8 +1,8 @@
 // The fifteen numbers of a place: its balance, then its lower and upper value in each scenario.
+use conditions::cells::cell_value;
 use deposits::Deposit;
 use deposits::factors::FactorTable;
 use deposits::values::values_of;
-use filing::cells::cell_value;
 use lists::write;
 use schedule::positions::position;
 use shares::SubBalance;

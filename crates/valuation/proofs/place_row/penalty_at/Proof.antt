@@ -3,7 +3,7 @@ use Prim.Native.Nat.{_/_}
 use native.Mathlib.Omega.{arith}
 use borrow.Author.Tests.{eq-eqb, ne-eqb}
 use Rattle.schedule.specs.Cells.{penaltyMonthsCell}
-use Rattle.filing.proofs.SumLaws.{column-range}
+use Rattle.conditions.proofs.SumLaws.{column-range}
 use Rattle.shares.specs.SubBalances.{positionOf}
 use Rattle.valuation.specs.PlaceTerms.{penaltyAt}
 use borrow.Author.Needs.{needs}

@@ -1,7 +1,7 @@
 -- `valuation::place_row::rate_in` meets its contract. Assumes nothing.
 use Prim.Native.Nat.{_/_}
 use native.Mathlib.Omega.{arith}
-use Rattle.filing.proofs.SumLaws.{column-range}
+use Rattle.conditions.proofs.SumLaws.{column-range}
 use Rattle.shares.specs.SubBalances.{positionOf}
 use Rattle.valuation.specs.Inner.PlaceRows.{rateIn}
 use borrow.Author.Needs.{needs}
