@@ -68,7 +68,10 @@ const CLASSES: [usize; 61] = [
     7,
 ];
 
-// The largest value of each class.
+// The class of a coupon.
+pub const COUPON_CLASS: usize = 2;
+
+// The largest value of each class, as filed.
 const LIMITS: [u64; 8] = [
     0,
     999_999_999,
@@ -94,7 +97,7 @@ pub fn cell_class(cell: u64) -> usize
     CLASSES[i]
 }
 
-// The largest value of a class.
+// The largest value of a class, as filed.
 pub fn class_limit(class: usize) -> u64
     ensures { λ r. ⌜ r ≡ classLimit class ⌝ }
 {
