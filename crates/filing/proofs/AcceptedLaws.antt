@@ -21,7 +21,7 @@ use Rattle.filing.specs.Conditions.{sheetMissing, columnBalances}
 use Rattle.filing.specs.Verdict.{Accepted}
 use Rattle.filing.specs.Valid.{Valid}
 use Rattle.filing.proofs.SumLaws.{by-column}
-use Rattle.filing.proofs.SoundLaws.{cell-within, balances-within, sheet-limit, tier-count-within, tier-withdrawal-within}
+use Rattle.filing.proofs.SoundLaws.{cell-within, balances-within, sheet-limit, tier-count-within, tier-edges-rise, tier-withdrawal-within}
 use Rattle.filing.proofs.VerdictLaws.{accepted-passed, months-hold, column-holds, total-holds}
 
 module _ (s : List ℕ) (a : Accepted s) where
@@ -66,5 +66,6 @@ module _ (s : List ℕ) (a : Accepted s) where
         yield-limit = yield-within;
         rate-limit = rate-within;
         tier-count-limit = tier-count-within s (passed .none-faulty);
+        edges-rise = tier-edges-rise s (passed .none-faulty);
         withdrawal-limit = tier-withdrawal-within s (passed .none-faulty);
       }

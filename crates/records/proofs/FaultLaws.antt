@@ -1,19 +1,19 @@
 -- The verdict on one record, and what holds of a record that has none of the faults 1 to 5 and 11.
 -- Assumes nothing.
-use Prim.Native.Nat.{ℕ, suc, _+_, _*_, _≤_, _<_}
+use Prim.Native.Nat.{ℕ, suc, _+_, _*_, _-_, _≤_, _<_}
 use native.Mathlib.Omega.{arith}
 use mathlib.Core.Path.{_≡_, refl, ap, _∙_}
 use mathlib.Core.Bool.{Bool, true, false, cond, _||_}
 use mathlib.Core.List.{List}
-use borrow.Author.Tests.{ltb-false, eqb-true, eqb-false, eq-eqb, ne-eqb, not-false}
-use lib.Dec.{ltb, eqb}
+use borrow.Author.Tests.{leb-false, ltb-false, eqb-true, eqb-false, eq-eqb, ne-eqb, not-false}
+use lib.Dec.{leb, ltb, eqb}
 use lib.ListN.{length}
 use Rattle.lists.specs.Tables.{anyBelow}
 use Rattle.lists.proofs.TestLaws.{any-fails}
 use Rattle.schedule.specs.Limits.{cellClass, classLimit, tierLimit, withdrawalLimit}
 use Rattle.answers.specs.Verdict.{Verdict, accepted, refused, refusedIf, firstRefusal, firstOf}
 use Rattle.answers.proofs.VerdictLaws.{first-passed, first-refused, first-none, condition-fails}
-use Rattle.records.specs.Records.{recordLength, recordKind, recordCell, recordValue, sheetNumber, tierCount, tierWithdrawal, nextRecord}
+use Rattle.records.specs.Records.{recordLength, recordKind, recordCell, recordValue, sheetNumber, tierCount, tierEdge, tierWithdrawal, nextRecord}
 use Rattle.records.specs.Kinds.{sheetOf, sheetKinds, sheetKind, sheetLength, tiersKind, dueLength}
 use Rattle.records.specs.Faults.{incomplete, misshapen, unlisted, repeated, numberOver, overLimit, unfitTier, unsoundTiers}
 use Rattle.records.specs.RecordVerdicts.{recordVerdict}
@@ -53,6 +53,16 @@ pub record Sound (s : List ℕ) (at : ℕ) : Type 0 where
 pub tier-fits : (s : List ℕ) (at i : ℕ) → unfitTier s at i ≡ false → tierWithdrawal s at i ≤ withdrawalLimit
 unfolding unfitTier
 tier-fits s at i h = ltb-false withdrawalLimit (tierWithdrawal s at i) (neither (ltb withdrawalLimit (tierWithdrawal s at i)) _ h .0)
+
+-- the edge of a later tier that fits is above the one before
+pub tier-rises : (s : List ℕ) (at i : ℕ) → unfitTier s at (suc i) ≡ false → tierEdge s at i < tierEdge s at (suc i)
+unfolding unfitTier
+tier-rises s at i h =
+    let before : suc i - 1 ≡ i = omega arith in
+    let later : eqb (suc i) 0 ≡ false = ne-eqb (suc i) 0 (λ e. omega arith) in
+    let rest = rw (before, later) at (neither (ltb withdrawalLimit (tierWithdrawal s at (suc i))) _ h .1) in
+    leb-false (tierEdge s at (suc i)) (tierEdge s at i)
+    (neither (leb (tierEdge s at (suc i)) (tierEdge s at i)) (ltb (tierWithdrawal s at (suc i)) (tierWithdrawal s at i)) rest .0)
 
 -- rows in turn: what the first two give, then the third
 first-assoc : (a b c : Verdict) → firstRefusal (firstRefusal a b) c ≡ firstRefusal a (firstRefusal b c)
