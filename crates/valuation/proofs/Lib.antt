@@ -1,6 +1,4 @@
-pub mod PlaceTermsLaws
 pub mod RowLaws
-pub mod FilingTierLaws
 pub mod NumberLaws
 pub mod TotalLaws
 pub mod ValueLaws
