@@ -20,8 +20,8 @@ ghost use Rattle.pricing.specs.Scales.{couponGrowth};
 ghost use Rattle.deposits.specs.DepositTerms.{servicingCost};
 ghost use Rattle.deposits.specs.Inner.Prices.{listedPrices, listedRuns, DepositLimits, AtMostPar};
 
-// The growth of a coupon of one hundredth of a percent a year, in units of 1 / (3 × 10^9) of the balance (01:56).
-const COUPON_GROWTH: u64 = 25_000;
+// The growth of a coupon of one thousandth of a percent a year, in units of 1 / (3 × 10^9) of the balance (01:56; 02:CR 4).
+const COUPON_GROWTH: u64 = 2_500;
 
 // Lower and upper price in a scenario in billionths, at the scenario's retail rate in hundredths of a percent a year. In the last month nothing is
 // withdrawn early, and the balance is paid.

@@ -1,4 +1,5 @@
 pub mod StarredProved
+pub mod HundredthsLaws
 pub mod Filings
 pub mod RefusalCases
 pub mod RequestCases
