@@ -6,6 +6,7 @@ from refused import refusal_table
 # The numbers of the calls. UNKNOWN is of none.
 VALUE_AND_SPLIT = 0
 LISTING_TEXT = 1
+SEARCH = 2
 UNKNOWN = 4_294_967_295
 
 WHOLE = filing(shared(deposits(7_777, 525, middle_month), 35, 45, 300), RISING, (400, 500, 600))

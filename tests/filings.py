@@ -13,6 +13,7 @@ import accepted
 import calls
 import own_tiers
 import refused
+import searches
 
 CRATES = Path(__file__).resolve().parent.parent / "crates"
 
@@ -30,6 +31,9 @@ def entries():
     for family in calls.LISTINGS:
         for name, data in family():
             yield f"listing: {name}", entry(calls.LISTING_TEXT, data)
+    for family in searches.FAMILIES:
+        for name, data in family():
+            yield name, entry(calls.SEARCH, data)
     yield "a call that is unknown", entry(calls.UNKNOWN, b"")
 
 
