@@ -33,7 +33,7 @@ unfolding listed
 listed-le factors scenario h t = h (7 * (t - 1) + scenario)
 
 -- the price of a deposit within the limits
-pub listed-price-limit : (ρ : Rounding) (tiers : TierTable) (d : Deposit) (rate : ℕ) (factors : List ℕ) (scenario : ℕ) → DepositLimits d
+pub listed-price-limit : (ρ : Rounding) (tiers : TierTable) (d : Deposit) (rate : ℕ → ℕ) (factors : List ℕ) (scenario : ℕ) → DepositLimits d
     → AtMostPar factors → listedPrice ρ tiers d rate factors scenario ≤ amountLimit
 unfolding listedPrice termsOf
 listed-price-limit ρ tiers d rate factors scenario l p =
@@ -41,16 +41,16 @@ listed-price-limit ρ tiers d rate factors scenario l p =
     (d .months) (le-refl (d .months)) ρ
 
 -- the runs before any month
-pub runs-zero : (tiers : TierTable) (d : Deposit) (rate : ℕ) (lower upper : List ℕ) (scenario : ℕ)
+pub runs-zero : (tiers : TierTable) (d : Deposit) (rate : ℕ → ℕ) (lower upper : List ℕ) (scenario : ℕ)
     → record { lower = record { balance = par; price = 0 }; upper = record { balance = par; price = 0 } } ≡ listedRuns tiers d rate lower upper scenario 0
 unfolding listedRuns runBy balanceBy discountedBy
 runs-zero tiers d rate lower upper scenario = refl
 
 -- month t + 1 of a deposit: g is the growth of its coupon, s its servicing cost, q its survival, f its discount factor
-module _ (ρ : Rounding) (tiers : TierTable) (d : Deposit) (rate : ℕ) (factors : List ℕ) (scenario t : ℕ) {g s q f : ℕ} {run : Run}
+module _ (ρ : Rounding) (tiers : TierTable) (d : Deposit) (rate : ℕ → ℕ) (factors : List ℕ) (scenario t : ℕ) {g s q f : ℕ} {run : Run}
     (growth : g ≡ couponGrowth * d .coupon)
     (servicing : s ≡ servicingCost (accountOf (d .brokered)))
-    (survival : q ≡ monthSurvival tiers (accountOf (d .brokered)) (d .coupon) (d .penalty) rate (d .months) (suc t))
+    (survival : q ≡ monthSurvival tiers (accountOf (d .brokered)) (d .coupon) (d .penalty) (rate (suc t)) (d .months) (suc t))
     (factor : f ≡ getD factors (7 * t + scenario) 0)
     (here : run ≡ runBy ρ (termsOf tiers d rate) (listed factors scenario) t)
   where
@@ -76,20 +76,20 @@ module _ (ρ : Rounding) (tiers : TierTable) (d : Deposit) (rate : ℕ) (factors
         (listed-le factors scenario p) t h)
 
 -- a term of no month has no flow
-pub no-price : (tiers : TierTable) (d : Deposit) (rate : ℕ) (lower upper : List ℕ) (scenario : ℕ) → d .months ≡ 0
+pub no-price : (tiers : TierTable) (d : Deposit) (rate : ℕ → ℕ) (lower upper : List ℕ) (scenario : ℕ) → d .months ≡ 0
     → record { lower = 0; upper = 0 } ≡ listedPrices tiers d rate lower upper scenario
 unfolding listedPrices listedPrice discountedBy
 no-price tiers d rate lower upper scenario e = rw e
 
 -- in the last month nothing is withdrawn early
-pub last-survival : (tiers : TierTable) (d : Deposit) (rate : ℕ) → 0 < d .months
-    → par ≡ monthSurvival tiers (accountOf (d .brokered)) (d .coupon) (d .penalty) rate (d .months) (suc (d .months - 1))
+pub last-survival : (tiers : TierTable) (d : Deposit) (rate : ℕ → ℕ) → 0 < d .months
+    → par ≡ monthSurvival tiers (accountOf (d .brokered)) (d .coupon) (d .penalty) (rate (suc (d .months - 1))) (d .months) (suc (d .months - 1))
 last-survival tiers d rate h =
     let e : suc (d .months - 1) ≡ d .months = omega arith in
-    rw e (sym (last-month tiers (accountOf (d .brokered)) (d .coupon) (d .penalty) rate (d .months)))
+    rw e (sym (last-month tiers (accountOf (d .brokered)) (d .coupon) (d .penalty) (rate (d .months)) (d .months)))
 
 -- the price is that of the run after the last month
-pub last-price : (ρ : Rounding) (tiers : TierTable) (d : Deposit) (rate : ℕ) (factors : List ℕ) (scenario : ℕ) → 0 < d .months
+pub last-price : (ρ : Rounding) (tiers : TierTable) (d : Deposit) (rate : ℕ → ℕ) (factors : List ℕ) (scenario : ℕ) → 0 < d .months
     → runBy ρ (termsOf tiers d rate) (listed factors scenario) (suc (d .months - 1)) .price ≡ listedPrice ρ tiers d rate factors scenario
 unfolding runBy listedPrice
 last-price ρ tiers d rate factors scenario h = let e : suc (d .months - 1) ≡ d .months = omega arith in rw e

@@ -13,6 +13,9 @@ pub struct Deposit {
     pub months: u64,
 }
 
+// Retail rates in hundredths of a percent a year: of months 1 to 120 of column 1, then of column 2, then of column 3.
+pub type RatePaths = [u16; 360];
+
 // The lower and the upper run.
 pub struct Runs {
     pub lower: Run,

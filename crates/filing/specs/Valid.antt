@@ -21,7 +21,7 @@ pub record Valid (k : Contents) : Type 0 where
   pub penalized-within : (j : ℕ) → 1 ≤ j → j ≤ 3 → cell k (penaltyBalanceCell j) ≤ sum (columnBalances (k .cells) j)
   pub total-is-sum : cell k totalCell ≡ sum (balances (k .cells))
   pub yield-limit : (t : ℕ) → cdYield k t ≤ rateLimit
-  pub rate-limit : (j : ℕ) → retailRate k j ≤ rateLimit
+  pub rate-limit : (j t : ℕ) → retailRate k j t ≤ rateLimit
   pub tier-count-limit : k .tiers .count ≤ tierLimit
   pub edges-rise : (i : ℕ) → suc i < k .tiers .count → getD (k .tiers .edges) i 0 < getD (k .tiers .edges) (suc i) 0
   pub withdrawal-limit : (i : ℕ) → getD (k .tiers .withdrawals) i 0 ≤ withdrawalLimit

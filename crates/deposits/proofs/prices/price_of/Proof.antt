@@ -1,12 +1,12 @@
 -- `deposits::prices::price_of` meets its contract. Assumes nothing.
-use Prim.Native.Nat.{suc, _-_, _<_}
+use Prim.Native.Nat.{ℕ, suc, _-_, _<_}
 use mathlib.Core.Path.{_≡_, refl, ap, _∙_}
 use native.Mathlib.Omega.{arith}
 use Rattle.withdrawal.specs.Inner.TierArrays.{tierTable}
 use Rattle.pricing.specs.declared.Run.{Run}
 use Rattle.pricing.specs.Rounding.{down, up, roundingOf}
 use Rattle.deposits.specs.declared.Runs.{Runs}
-use Rattle.deposits.specs.Inner.Prices.{listedPrices, listedRuns}
+use Rattle.deposits.specs.Inner.Prices.{listedPrices, listedRuns, shiftedPath}
 use Rattle.deposits.proofs.PriceLaws.{month-small, last-on, no-price, last-survival, last-price}
 use borrow.Author.Needs.{needs}
 use Rattle.deposits.proofs.prices.price_of.Statement.{statement}
@@ -15,8 +15,14 @@ use Rattle.deposits.proofs.prices.price_of.Tie as tie
 returns : tie.Need-returns
 returns c = no-price _ _ _ _ _ _ (c .if1 .taken)
 
+-- the rates of the months
+abbrev rateOf : tie.Start → ℕ → ℕ
+rateOf s = shiftedPath (s .args .scenario) (s .args .rates .now) (s .args .column)
+
 early-months-requires : tie.Need-early-months-requires
-early-months-requires c κs = search needs
+early-months-requires c κs =
+    let start = c .before in
+    ((start .pre .0 .0, start .pre .0 .1, start .pre .0 .2, start .pre .0 .3, omega (arith, c .if1 .left)), start .pre .1)
 
 coupon-growth-requires : tie.Need-coupon-growth-requires
 coupon-growth-requires c κs = search needs
@@ -47,8 +53,8 @@ next-month-requires c κs =
     let start = runs .before .before in
     let a = start .args in
     let some : 0 < a .d .months = omega (arith, runs .before .if1 .left) in
-    month-small down (tierTable (a .tiers)) (a .d) (a .rate) (a .lower .now) (a .scenario) (a .d .months - 1) (servicing .before .coupon-growth .ensures)
-    (servicing .servicing-cost .ensures) (last-survival _ (a .d) (a .rate) some) refl (ap (λ (r : Runs). r .lower) (runs .early-months .ensures))
+    month-small down (tierTable (a .tiers)) (a .d) (rateOf start) (a .lower .now) (a .scenario) (a .d .months - 1) (servicing .before .coupon-growth .ensures)
+    (servicing .servicing-cost .ensures) (last-survival _ (a .d) (rateOf start) some) refl (ap (λ (r : Runs). r .lower) (runs .early-months .ensures))
     (start .pre .0 .0) (start .pre .1 .0) (omega arith)
 
 mul-next-month-2 : tie.Need-mul-next-month-2
@@ -65,8 +71,8 @@ next-month-requires-2 c κs =
     let start = runs .before .before in
     let a = start .args in
     let some : 0 < a .d .months = omega (arith, runs .before .if1 .left) in
-    month-small up (tierTable (a .tiers)) (a .d) (a .rate) (a .upper .now) (a .scenario) (a .d .months - 1) (servicing .before .coupon-growth .ensures)
-    (servicing .servicing-cost .ensures) (last-survival _ (a .d) (a .rate) some) refl (ap (λ (r : Runs). r .upper) (runs .early-months .ensures))
+    month-small up (tierTable (a .tiers)) (a .d) (rateOf start) (a .upper .now) (a .scenario) (a .d .months - 1) (servicing .before .coupon-growth .ensures)
+    (servicing .servicing-cost .ensures) (last-survival _ (a .d) (rateOf start) some) refl (ap (λ (r : Runs). r .upper) (runs .early-months .ensures))
     (start .pre .0 .0) (start .pre .1 .1) (omega arith)
 
 returns-2 : tie.Need-returns-2
@@ -74,21 +80,22 @@ unfolding listedPrices listedRuns roundingOf
 returns-2 c =
     let servicing = c .before .before .before .before in
     let runs = servicing .before .before in
-    let a = runs .before .before .args in
+    let start = runs .before .before in
+    let a = start .args in
     let growth = servicing .before .coupon-growth .ensures in
     let some : 0 < a .d .months = omega (arith, runs .before .if1 .left) in
     let whole : suc (a .d .months - 1) ≡ a .d .months = omega arith in
     let low = c .before .before .next-month .ensures ∙
-    last-on down (tierTable (a .tiers)) (a .d) (a .rate) (a .lower .now) (a .scenario) (a .d .months - 1) growth (servicing .servicing-cost .ensures)
-    (last-survival _ (a .d) (a .rate) some) refl (ap (λ (r : Runs). r .lower) (runs .early-months .ensures)) whole in
+    last-on down (tierTable (a .tiers)) (a .d) (rateOf start) (a .lower .now) (a .scenario) (a .d .months - 1) growth (servicing .servicing-cost .ensures)
+    (last-survival _ (a .d) (rateOf start) some) refl (ap (λ (r : Runs). r .lower) (runs .early-months .ensures)) whole in
     let high = c .next-month2 .ensures ∙
-    last-on up (tierTable (a .tiers)) (a .d) (a .rate) (a .upper .now) (a .scenario) (a .d .months - 1) growth (servicing .servicing-cost .ensures)
-    (last-survival _ (a .d) (a .rate) some) refl (ap (λ (r : Runs). r .upper) (runs .early-months .ensures)) whole in
+    last-on up (tierTable (a .tiers)) (a .d) (rateOf start) (a .upper .now) (a .scenario) (a .d .months - 1) growth (servicing .servicing-cost .ensures)
+    (last-survival _ (a .d) (rateOf start) some) refl (ap (λ (r : Runs). r .upper) (runs .early-months .ensures)) whole in
     rw (
       low,
       high,
-      last-price down (tierTable (a .tiers)) (a .d) (a .rate) (a .lower .now) (a .scenario) some,
-      last-price up (tierTable (a .tiers)) (a .d) (a .rate) (a .upper .now) (a .scenario) some,
+      last-price down (tierTable (a .tiers)) (a .d) (rateOf start) (a .lower .now) (a .scenario) some,
+      last-price up (tierTable (a .tiers)) (a .d) (rateOf start) (a .upper .now) (a .scenario) some,
     )
 
 pub price-of-spec : {M : Type 1} → statement M

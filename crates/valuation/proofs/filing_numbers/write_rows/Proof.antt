@@ -11,7 +11,7 @@ use Rattle.valuation.specs.Numbers.{placeNumbers}
 use Rattle.place_values.specs.Inner.LongestTerm.{longestTerm}
 use Rattle.place_values.proofs.FilingTierLaws.{filed-limits}
 use Rattle.valuation.proofs.NumberLaws.{row-length}
-use Rattle.valuation.proofs.RowLaws.{Prepared, yields-within, rate-within, held-limits, factors-limits, row-is}
+use Rattle.valuation.proofs.RowLaws.{Prepared, yields-within, rates-within, held-limits, factors-limits, row-is}
 use Rattle.valuation.proofs.filing_numbers.write_rows.Statement.{statement}
 use Rattle.valuation.proofs.filing_numbers.write_rows.Tie as tie
 
@@ -76,7 +76,7 @@ row-of-requires c κs =
     let prepared = state .inv .2 in
     let held = held-limits _ _ _ _ _ prepared (state .place) (omega arith) in
     let factors = factors-limits _ _ _ _ _ prepared in
-    ((omega arith, held .0, held .1), (rate-within _ (prepared .valid) (state .place), prepared .usable, factors .0, factors .1))
+    ((omega arith, held .0, held .1), (rates-within _ (prepared .valid), prepared .usable, factors .0, factors .1))
 
 mul-write : tie.Need-mul-write Inv-loop μ-loop
 mul-write c = omega arith
