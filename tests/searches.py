@@ -1,17 +1,19 @@
 """Searches for a withdrawal tier from a gain and a cost alone (02:CR 2). Each has a name.
 
-An input is the gain (8 bytes, two's complement), the cost (8 bytes) and a record of kind 4, or nothing for the house's tiers."""
+An input is what the gain adds, what it takes off and the cost, 8 bytes each, and a filing, whose tiers are searched."""
 import struct
 from pathlib import Path
 
-from records import HOUSE_TIERS, tiers
+from records import HOUSE_TIERS, SHEETS, cell, tiers
 
 SIXTEEN = tuple((10 * k, 40 * k) for k in range(16))
 CASES = Path(__file__).resolve().parent / "searches.txt"
 
 
-def search(gain, cost, pairs):
-    return struct.pack("<qQ", gain, cost) + (tiers(*pairs) if pairs else b"")
+def search(gain, cost, pairs, more=0):
+    """The house's tiers where there are no pairs; `more` is on both sides of the gain."""
+    head = struct.pack("<QQQ", max(gain, 0) + more, max(-gain, 0) + more, cost)
+    return head + SHEETS + (tiers(*pairs) if pairs else b"")
 
 
 def lines():
@@ -46,7 +48,7 @@ def survival(withdrawal):
 
 
 def around_the_edges():
-    """Each edge of the house's tiers and of sixteen, reached, missed by one and passed by one, at a cost of 100 and at the largest."""
+    """Each edge of the house's tiers and of sixteen, reached, missed by one and passed by one, at a cost of 100 and at a large one."""
     for name, pairs, own in (("house", HOUSE_TIERS, ()), ("sixteen tiers", SIXTEEN, SIXTEEN), ("one tier", ((0, 40),), ((0, 40),))):
         for edge, _ in pairs:
             for cost in (100, 2_142_000_000_000):
@@ -60,6 +62,14 @@ def extremes():
         for gain in (-6_480_000_000, -1, 0, 1, 9_996_000_000_000):
             for cost in (0, 12_000_000, 1_428_000_000_000):
                 yield f"search: {name}, gain {gain}, cost {cost}", search(gain, cost, own)
+                yield f"search: {name}, gain {gain}, cost {cost}, 777 on both sides", search(gain, cost, own, 777)
 
 
-FAMILIES = stored, around_the_edges, extremes
+def refused():
+    head = struct.pack("<QQQ", 1, 0, 1)
+    yield "search: no sheets", head
+    yield "search: tiers that do not load", head + SHEETS + tiers((1, 40))
+    yield "search: a cell that is not listed", head + cell(600, 0)
+
+
+FAMILIES = stored, around_the_edges, extremes, refused

@@ -3,12 +3,20 @@ pub mod factors;
 mod prices;
 pub mod values;
 
+use pricing::Run;
+
 // A deposit as its cash flows see it: coupon in hundredths of a percent a year, penalty in hundredths of a month, remaining months.
 pub struct Deposit {
     pub brokered: bool,
     pub coupon: u64,
     pub penalty: u64,
     pub months: u64,
+}
+
+// The lower and the upper run.
+pub struct Runs {
+    pub lower: Run,
+    pub upper: Run,
 }
 
 // A lower and an upper figure.

@@ -1,5 +1,5 @@
 -- What holds of the contents of every accepted filing: each limit (01:24; 02:CR 1) and conditions 7 to 9 (01:37-39). Definitions only.
-use Prim.Native.Nat.{ℕ, _≤_, _<_}
+use Prim.Native.Nat.{ℕ, suc, _≤_, _<_}
 use mathlib.Core.Path.{_≡_}
 use lib.Dec.{T}
 use lib.ListN.{getD}
@@ -8,7 +8,7 @@ use Rattle.schedule.specs.Cells.{positionAt, withinRow, brokeredCell, penaltyBa
 use Rattle.schedule.specs.Limits.{balanceLimit, couponLimit, monthsLimit, penaltyLimit, rateLimit, tierLimit, withdrawalLimit}
 use Rattle.filing.specs.declared.Contents.{Contents}
 use Rattle.filing.specs.Contents.{cell, cdYield, retailRate}
-use Rattle.filing.specs.Conditions.{columnBalances, balances}
+use Rattle.conditions.specs.Conditions.{columnBalances, balances}
 
 -- i: one of the nine positions, 0 to 8; j: a column, 1 to 3; t: a month
 pub record Valid (k : Contents) : Type 0 where
@@ -23,4 +23,5 @@ pub record Valid (k : Contents) : Type 0 where
   pub yield-limit : (t : ℕ) → cdYield k t ≤ rateLimit
   pub rate-limit : (j : ℕ) → retailRate k j ≤ rateLimit
   pub tier-count-limit : k .tiers .count ≤ tierLimit
+  pub edges-rise : (i : ℕ) → suc i < k .tiers .count → getD (k .tiers .edges) i 0 < getD (k .tiers .edges) (suc i) 0
   pub withdrawal-limit : (i : ℕ) → getD (k .tiers .withdrawals) i 0 ≤ withdrawalLimit

@@ -8,7 +8,8 @@ use Rattle.lists.specs.Tables.{tableFrom, table, joined}
 use Rattle.lists.proofs.RunLaws.{Overwritten, overwritten-none, overwritten-row}
 use Rattle.pricing.specs.Rounding.{roundingOf}
 use Rattle.valuation.specs.Numbers.{placeNumbers}
-use Rattle.valuation.specs.Inner.LongestTerm.{longestTerm}
+use Rattle.place_values.specs.Inner.LongestTerm.{longestTerm}
+use Rattle.place_values.proofs.FilingTierLaws.{filed-limits}
 use Rattle.valuation.proofs.NumberLaws.{row-length}
 use Rattle.valuation.proofs.RowLaws.{Prepared, yields-within, rate-within, held-limits, factors-limits, row-is}
 use Rattle.valuation.proofs.filing_numbers.write_rows.Statement.{statement}
@@ -22,9 +23,7 @@ abbrev μ-loop : tie.MeasureT-loop
 μ-loop list₀ k cells tiers places longest lower upper place₀ list place = 36 - place
 
 tiers-of-requires : tie.Need-tiers-of-requires Inv-loop μ-loop
-tiers-of-requires c κs =
-    let valid = c .before .before .before .pre .0 in
-    record { count-le = valid .tier-count-limit; withdrawal-le = valid .withdrawal-limit }
+tiers-of-requires c κs = filed-limits _ (c .before .before .before .pre .0)
 
 places-of-requires : tie.Need-places-of-requires Inv-loop μ-loop
 places-of-requires c κs = c .before .before .before .before .pre .0

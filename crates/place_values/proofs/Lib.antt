@@ -1,0 +1,3 @@
+pub mod PlaceTermsLaws
+pub mod FilingTierLaws
+pub mod RowLaws
