@@ -65,11 +65,22 @@ def extremes():
                 yield f"search: {name}, gain {gain}, cost {cost}, 777 on both sides", search(gain, cost, own, 777)
 
 
+def large():
+    """The largest parts and cost that the call takes, and one more."""
+    for gain, more, cost in ((10**16, 0, 1), (0, 10**16, 1), (5, 0, 10**14), (10**16, 0, 10**14)):
+        yield f"search: large, gain {gain}, {more} on both sides, cost {cost}", search(gain, cost, ((0, 40), (65_535, 600)), more)
+        for one in ((1, 0, 0), (0, 1, 0), (0, 0, 1)):
+            name = f"search: one more {one}, gain {gain}, {more} on both sides, cost {cost}"
+            yield name, search(gain + one[0], cost + one[2], (), more + one[1])
+    yield "search: 2^64 - 1", struct.pack("<QQQ", *[2**64 - 1] * 3) + SHEETS
+
+
 def refused():
     head = struct.pack("<QQQ", 1, 0, 1)
     yield "search: no sheets", head
+    yield "search: no sheets, too large", struct.pack("<QQQ", *[2**64 - 1] * 3)
     yield "search: tiers that do not load", head + SHEETS + tiers((1, 40))
     yield "search: a cell that is not listed", head + cell(600, 0)
 
 
-FAMILIES = stored, around_the_edges, extremes, refused
+FAMILIES = stored, around_the_edges, extremes, large, refused

@@ -1,2 +1,3 @@
 pub mod StarredProved
 pub mod RefusalCases
+pub mod TierCases

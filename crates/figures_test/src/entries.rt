@@ -73,7 +73,7 @@ fn print_call(input: &[u8], call: usize, numbers: usize, places: usize) {
             crate::splitting::print_splitting(input, places);
         }
         1 => crate::listing::print_listing(input),
-        2 => crate::searching::print_searching(input),
+        2 => crate::searching::print_search(input),
         _ => {
             text(b"no call");
             next_number(call as u64);

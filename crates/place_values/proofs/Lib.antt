@@ -1,3 +1,4 @@
 pub mod PlaceTermsLaws
 pub mod FilingTierLaws
+pub mod TierAnswerLaws
 pub mod RowLaws

@@ -95,12 +95,10 @@ module _ (t : WithdrawalTiers) (gain : ℤ) (cost i : ℕ) (u : Usable t) (ends 
   unfolding answerAt
   reached-answer h = rw (lt-ltb i (t .count) h, ← (add-one i)) at answer-is
 
-  pub unreached-answer : i ≤ t .count → t .count ≤ i
-      → record { withdrawal = t .otherwise; survival = t .retained; «edges_tried» = i } ≡ reachedTier (tierTable t) gain cost
+  pub unreached-answer : t .count ≤ i
+      → record { withdrawal = t .otherwise; survival = t .retained; «edges_tried» = t .count } ≡ reachedTier (tierTable t) gain cost
   unfolding answerAt
-  unreached-answer l h =
-      let e : i ≡ t .count = omega arith in
-      ap (λ (n : ℕ). record { withdrawal = t .otherwise; survival = t .retained; «edges_tried» = n }) e ∙ (rw (le-ltb i (t .count) h) at answer-is)
+  unreached-answer h = rw (le-ltb i (t .count) h) at answer-is
 
 -- tiers that pass the tests of their count, edges and withdrawals fit
 pub tiers-fit-of-tests :

@@ -55,7 +55,7 @@ pub(crate) fn search<'a>(
     ReachedTier {
         withdrawal: otherwise,
         survival: retained,
-        edges_tried: tried,
+        edges_tried: count,
     }
 }
 

@@ -14,14 +14,6 @@ use Rattle.deposits.specs.Inner.Prices.{listedRuns}
 use Rattle.deposits.proofs.PriceLaws.{runs-zero, early-on, month-small}
 use Rattle.deposits.proofs.prices.early_months.Statement.{statement}
 use Rattle.deposits.proofs.prices.early_months.Tie as tie
-use Rattle.deposits.proofs.prices.early_months.Reads as reads
-use Rattle.deposits.proofs.prices.early_months.Lts as lts
-use Rattle.deposits.proofs.prices.coupon_growth.Reads as coupon-growth-reads
-use Rattle.deposits.proofs.prices.servicing_cost.Reads as servicing-cost-reads
-use Rattle.pricing.proofs.months.next_month.Reads as next-month-reads
-use Rattle.withdrawal.proofs.early_survival.Reads as early-survival-reads
-use Rattle.withdrawal.proofs.gain.coupon_parts.Reads as coupon-parts-reads
-use Rattle.withdrawal.proofs.gain.gain_and_cost.Reads as gain-and-cost-reads
 
 abbrev Inv-loop : tie.InvT-loop
 Inv-loop d rate lower upper scenario tiers growth servicing parts early low₀ high₀ t₀ low high t =

@@ -11,50 +11,34 @@ use Rattle.deposits.proofs.PriceLaws.{month-small, last-on, no-price, l
 use borrow.Author.Needs.{needs}
 use Rattle.deposits.proofs.prices.price_of.Statement.{statement}
 use Rattle.deposits.proofs.prices.price_of.Tie as tie
-use Rattle.deposits.proofs.prices.price_of.Reads as reads
-use Rattle.deposits.proofs.prices.price_of.Lts as lts
-use Rattle.deposits.proofs.prices.coupon_growth.Reads as coupon-growth-reads
-use Rattle.deposits.proofs.prices.early_months.Reads as early-months-reads
-use Rattle.deposits.proofs.prices.servicing_cost.Reads as servicing-cost-reads
-use Rattle.pricing.proofs.months.next_month.Reads as next-month-reads
 
--- src/prices.rt:42:9
 returns : tie.Need-returns
 returns c = no-price _ _ _ _ _ _ (c .if1 .taken)
 
--- src/prices.rt:44:9
 early-months-requires : tie.Need-early-months-requires
 early-months-requires c κs = search needs
 
--- src/prices.rt:45:9
 coupon-growth-requires : tie.Need-coupon-growth-requires
 coupon-growth-requires c κs = search needs
 
--- src/prices.rt:46:9
 servicing-cost-requires : tie.Need-servicing-cost-requires
 servicing-cost-requires c κs = search needs
 
--- src/prices.rt:47:18
 sub-i : tie.Need-sub-i
 sub-i c = search needs
 
--- src/prices.rt:47:13
 mul-i : tie.Need-mul-i
 mul-i c = search needs
 
--- src/prices.rt:47:13
 add-i : tie.Need-add-i
 add-i c = search needs
 
--- src/prices.rt:48:62
 mul-next-month : tie.Need-mul-next-month
 mul-next-month c = search needs
 
--- src/prices.rt:48:62
 element-copy-out-next-month : tie.Need-element-copy-out-next-month
 element-copy-out-next-month c = search needs
 
--- src/prices.rt:48:9
 next-month-requires : tie.Need-next-month-requires
 unfolding listedRuns
 next-month-requires c κs =
@@ -67,15 +51,12 @@ next-month-requires c κs =
     (servicing .servicing-cost .ensures) (last-survival _ (a .d) (a .rate) some) refl (ap (λ (r : Runs). r .lower) (runs .early-months .ensures))
     (start .pre .0 .0) (start .pre .1 .0) (omega arith)
 
--- src/prices.rt:49:63
 mul-next-month-2 : tie.Need-mul-next-month-2
 mul-next-month-2 c = search needs
 
--- src/prices.rt:49:63
 element-copy-out-next-month-2 : tie.Need-element-copy-out-next-month-2
 element-copy-out-next-month-2 c = search needs
 
--- src/prices.rt:49:9
 next-month-requires-2 : tie.Need-next-month-requires-2
 unfolding listedRuns
 next-month-requires-2 c κs =
@@ -88,7 +69,6 @@ next-month-requires-2 c κs =
     (servicing .servicing-cost .ensures) (last-survival _ (a .d) (a .rate) some) refl (ap (λ (r : Runs). r .upper) (runs .early-months .ensures))
     (start .pre .0 .0) (start .pre .1 .1) (omega arith)
 
--- src/prices.rt:28:1
 returns-2 : tie.Need-returns-2
 unfolding listedPrices listedRuns roundingOf
 returns-2 c =

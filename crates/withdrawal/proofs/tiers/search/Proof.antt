@@ -1,9 +1,7 @@
 -- `withdrawal::tiers::search` meets its contract: going on from the edges tried, the search ends where it would from the first. Assumes nothing.
 use Prim.Native.Nat.{_-_, _≤_}
-use mathlib.Core.Path.{_≡_, refl, sym, ap, _∙_}
-use native.Mathlib.Numerals.{add-one}
+use mathlib.Core.Path.{_≡_, sym, _∙_}
 use borrow.Author.Needs.{needs}
-use borrow.Author.Tests.{lt-ltb, le-ltb}
 use Rattle.withdrawal.specs.declared.WithdrawalTiers.{WithdrawalTiers}
 use Rattle.withdrawal.specs.Inner.TierArrays.{tierTable, tiersIn}
 use Rattle.withdrawal.specs.Inner.Incentives.{gainOf}
@@ -11,9 +9,6 @@ use Rattle.withdrawal.proofs.TierLaws.{placeReached, placeFrom, place-f
 use Rattle.withdrawal.proofs.HeldLaws.{reached-answer, unreached-answer}
 use Rattle.withdrawal.proofs.tiers.search.Statement.{statement}
 use Rattle.withdrawal.proofs.tiers.search.Tie as tie
-use Rattle.withdrawal.proofs.tiers.search.Reads as reads
-use Rattle.withdrawal.proofs.tiers.search.Lts as lts
-use Rattle.withdrawal.proofs.tiers.reaches.Reads as reaches-reads
 
 abbrev Inv-loop : tie.InvT-loop
 Inv-loop count edges withdrawals survivals otherwise retained incentive tried₀ tried =
@@ -74,8 +69,8 @@ loop-again c =
 returns-2 : tie.Need-returns-2 Inv-loop μ-loop
 returns-2 c =
     let l = c .before in
-    unreached-answer (tiersOf (l .before)) _ _ (l .loop .tried) (l .before .pre .0) (sym (l .loop .inv .1) ∙ place-from-end _ _ _ (l .loop .tried) (c .loop-test .left))
-    (l .loop .inv .0) (c .loop-test .left)
+    unreached-answer (tiersOf (l .before)) _ _ (l .loop .tried) (l .before .pre .0)
+    (sym (l .loop .inv .1) ∙ place-from-end _ _ _ (l .loop .tried) (c .loop-test .left)) (c .loop-test .left)
 
 pub search-spec : {M : Type 1} → statement M
 search-spec =
