@@ -42,10 +42,10 @@ def numbers_in_any_order():
     for numbers in ((1,), (65_535,), (255, 256), (256, 255), (1, 32_768), (65_534, 65_535), (65_535, 65_534), (3, 300, 30, 2)):
         data = b"".join(amended(606, n, n % 1_501) for n in numbers)
         yield from survives(f"606 by numbers {numbers}", data + cells(base), cells(base | {606: max(numbers) % 1_501}))
-    data = b"".join(amended(606, n, n) for n in range(1, 301))
-    yield from survives("606 by numbers 1 to 300", cells(base) + data, cells(base | {606: 300}))
-    data = b"".join(amended(606, n, n) for n in range(300, 0, -1))
-    yield from survives("606 by numbers 300 to 1", cells(base) + data, cells(base | {606: 300}))
+    data = b"".join(amended(606, n, n) for n in range(1, 41))
+    yield from survives("606 by numbers 1 to 40", cells(base) + data, cells(base | {606: 40}))
+    data = b"".join(amended(606, n, n) for n in range(40, 0, -1))
+    yield from survives("606 by numbers 40 to 1", cells(base) + data, cells(base | {606: 40}))
 
 
 def withdrawn_cells():
@@ -179,11 +179,11 @@ def two_faulty_records():
 def many():
     """Amendments by the hundred: one cell, all cells in turn, and the last two alike."""
     every = sorted((*LIMITS, *UNUSED))
-    one = b"".join(amended(650, n, 0) for n in range(1, 401))
-    turn = b"".join(amended(number, n, 0) for n in range(1, 10) for number in every)
+    one = b"".join(amended(650, n, 0) for n in range(1, 101))
+    turn = b"".join(amended(number, n, 0) for n in range(1, 4) for number in every)
     for name, data, last in (("one cell", one, 650), ("all cells in turn", turn, 661)):
         yield f"many amendments of {name}", SHEETS + cells(LISTING) + data
-        yield f"many amendments of {name}, the last two alike", SHEETS + cells(LISTING) + data + amended(last, 9, 0)
+        yield f"many amendments of {name}, the last two alike", SHEETS + cells(LISTING) + data + amended(last, 3, 0)
         yield f"many amendments of {name}, withdrawn at last", SHEETS + cells(LISTING) + data + withdrawn(601, 500) + withdrawn(645, 500)
 
 
