@@ -1,6 +1,7 @@
 /*
- * Version c: plain C as fast as it was made here, with 128-bit products (gcc, clang), for the same numbers as plain.c. No month and no factor
- * divides: x * n / d rounded down is the upper half of x * m, where m is 2^64 * n / d rounded up; rounded up it is 1 more than the upper half of
+ * Plain C with 128-bit products (gcc, clang), for the same numbers as plain.c. Compiled twice: with EACH_MONTH every month tries the tiers from the
+ * top, without it a tier is kept for as many months as it holds, which is as fast as it was made here. VALUE is the function's name. No month and no
+ * factor divides: x * n / d rounded down is the upper half of x * m, where m is 2^64 * n / d rounded up; rounded up it is 1 more than the upper half of
  * x * (m - 1), for x from 1 on. Both are exact where x * d is at most 2^64: balances and flows stay under 4.6 * 10^9, and d is at most 3 * 10^9.
  */
 #include "read.h"
@@ -128,7 +129,7 @@ static struct pair retail_flat(const struct deposit *d, int s, const struct pair
     return step_last(&run, d->kept, factor, d->months);
 }
 
-/* With a rate for each month the tier is looked for from the month before on. */
+/* With a rate for each month the tier is looked for from the month before on, or from the top. */
 static struct pair retail_path(const struct deposit *d, int s, const struct pair *factor)
 {
     struct run run = at_par;
@@ -136,7 +137,11 @@ static struct pair retail_path(const struct deposit *d, int s, const struct pair
     int64_t loss = 100 * d->loss;
     for (int n = d->months - 1, i = 0; n > 0; n--) {
         int64_t gain = 100 * d->scale * (int64_t)shifted(*rate++, s);
+#ifdef EACH_MONTH
+        i = 0;
+#else
         while (i > 0 && n * (gain - d->edge_cost[i - 1]) >= loss) i--;
+#endif
         while (i < d->tiers && n * (gain - d->edge_cost[i]) < loss) i++;
         step(&run, d->tier[i], factor++);
     }
@@ -170,7 +175,11 @@ static void open(struct deposit *d, const struct contents *k, const struct place
 {
     uint64_t servicing = is_brokered ? 19000 : 175000, interest = 2500 * p->coupon;
     d->months = p->months;
+#ifdef EACH_MONTH
+    d->flat = 0;
+#else
     d->flat = k->flat;
+#endif
     d->tiers = k->tiers.count;
     d->rate = k->rate[p->column];
     d->scale = (int64_t)(120000000 - p->coupon * p->penalty);
@@ -191,7 +200,7 @@ static struct pair price(const struct deposit *d, int is_brokered, int s, const 
     return d->flat ? retail_flat(d, s, factor) : retail_path(d, s, factor);
 }
 
-uint64_t value_multiplied(const uint8_t *filing, size_t filing_length, uint64_t *numbers, size_t numbers_length, uint64_t *place)
+uint64_t VALUE(const uint8_t *filing, size_t filing_length, uint64_t *numbers, size_t numbers_length, uint64_t *place)
 {
     struct contents k;
     struct place places[36];

@@ -1,7 +1,10 @@
 """What the calls do with the lists lent, and the listing's text. Each entry has a name."""
 from accepted import paper_figures
 from monthly_rates import DOWN, NO_PATH, SAW, UP
-from records import LISTING, RISING, SHEETS, cell, cells, deposits, filing, fine_cells, flat, middle_month, path_filing, rates, record, shared, tiers, yields
+from records import (
+    LISTING, RISING, SHEETS, cell, cells, deposits, filing, fine_cells, flat, middle_month, path_filing, rates, record, shared, tiers,
+    yields,
+)
 from refused import refusal_table
 
 # The numbers of the calls. UNKNOWN is of none.

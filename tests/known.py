@@ -23,7 +23,7 @@ def printed():
 def check():
     texts = printed()
     figures = monthly_rates.FIGURES | fine_coupons.FIGURES | searches.known()
-    pairs = monthly_rates.SAME + fine_coupons.SAME
+    pairs = {*monthly_rates.SAME, *fine_coupons.SAME}
     for name, line in figures.items():
         assert f"{line}\n" in texts[name], f"{name}: no line {line}"
     for one, other in pairs:
