@@ -1,0 +1,6 @@
+pub mod PositionLaws
+pub mod FaultLaws
+pub mod SumLaws
+pub mod ScanLaws
+pub mod ListingLaws
+pub mod CallLaws
