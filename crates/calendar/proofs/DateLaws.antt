@@ -12,6 +12,7 @@ use Rattle.lists.proofs.RangeLaws.{within-both}
 use Rattle.lists.proofs.TestLaws.{entries-le}
 use Rattle.lists.specs.Ranges.{within}
 use Rattle.calendar.specs.declared.Date.{Date}
+use Rattle.calendar.specs.Inner.Days.{Day}
 use Rattle.calendar.specs.Dates.{isLeap, lastDay, isDate, monthIndex, onOrAfter, dayIn, movedOn}
 use Rattle.lists.proofs.LogicLaws.{and-both}
 
@@ -26,14 +27,6 @@ unfolding lastDay
 last-day-le year month = last-day-most (isLeap year) month
 
 -- what a day of 1900 to 2199 is
-pub record Day (d : Date) : Type 0 where
-  pub from-1900 : 1900 ≤ d .year
-  pub to-2199 : d .year ≤ 2199
-  pub from-january : 1 ≤ d .month
-  pub to-december : d .month ≤ 12
-  pub from-the-first : 1 ≤ d .day
-  pub to-the-last : d .day ≤ lastDay (d .year) (d .month)
-
 pub date-day : (d : Date) → isDate d ≡ true → Day d
 unfolding isDate
 date-day d h =

@@ -10,7 +10,8 @@ use Rattle.calendar.specs.declared.Date.{Date}
 use Rattle.calendar.specs.Dates.{lastDay, monthIndex, onOrAfter, dayIn, movedOn, monthsBetween}
 use Rattle.lists.proofs.LogicLaws.{lt-or-le}
 use Rattle.lists.proofs.RangeLaws.{least-is}
-use Rattle.calendar.proofs.DateLaws.{Day, After, on-or-after, later-month, same-month, earlier-month, after, after-trans, moved-index, moved-on-mono}
+use Rattle.calendar.specs.Inner.Days.{Day}
+use Rattle.calendar.proofs.DateLaws.{After, on-or-after, later-month, same-month, earlier-month, after, after-trans, moved-index, moved-on-mono}
 
 -- a day that the month lacks becomes its last one: for a day that the month has, the test is on the days themselves
 clip-leb : (x y l : ℕ) → y ≤ l → leb y (cond (leb x l) x l) ≡ leb y x

@@ -4,6 +4,7 @@ ghost use mathlib.Core.Path.{_≡_};
 ghost use mathlib.Core.Bool.{true, cond};
 ghost use Rattle.lists.specs.Ranges.{within};
 ghost use Rattle.calendar.specs.Dates.{isLeap, lastDay, isDate, monthIndex, onOrAfter, monthsBetween};
+ghost use Rattle.calendar.specs.Inner.Days.{Day};
 
 // A date as it is written; not every one is a day of the calendar.
 pub struct Date {
@@ -43,7 +44,7 @@ pub fn on_or_after(a: Date, b: Date) -> bool
 
 // A date's month, counted through the years.
 fn month_index(d: Date) -> u64
-    requires { ⌜ isDate d ≡ true ⌝ }
+    requires { ⌜ Day d ⌝ }
     ensures { λ r. ⌜ r ≡ monthIndex d ⌝ }
 {
     12 * d.year + (d.month - 1)

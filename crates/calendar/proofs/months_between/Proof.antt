@@ -4,17 +4,18 @@ use native.Mathlib.Omega.{arith}
 use mathlib.Core.Path.{_≡_, sym, _∙_}
 use mathlib.Core.Logic.{inl, inr, ⊎-elim}
 use borrow.Author.Tests.{lt-ltb, le-ltb}
-use Rattle.calendar.proofs.DateLaws.{Day, date-day}
+use Rattle.calendar.specs.Inner.Days.{Day}
+use Rattle.calendar.proofs.DateLaws.{date-day}
 use Rattle.calendar.proofs.MonthLaws.{Reach, months-are}
 use borrow.Author.Needs.{needs}
 use Rattle.calendar.proofs.months_between.Statement.{statement}
 use Rattle.calendar.proofs.months_between.Tie as tie
 
 month-index-requires : tie.Need-month-index-requires
-month-index-requires c κs = search needs
+month-index-requires c κs = date-day _ (c .pre .0)
 
 month-index-requires-2 : tie.Need-month-index-requires-2
-month-index-requires-2 c κs = search needs
+month-index-requires-2 c κs = date-day _ (c .before .pre .1)
 
 add-end : tie.Need-add-end
 add-end c = let day = date-day _ (c .before .before .before .before .before .pre .1) in

@@ -1,15 +1,15 @@
 -- `on_or_after` meets its contract. Assumes nothing.
 use mathlib.Core.Path.{sym, _∙_}
-use Rattle.calendar.proofs.DateLaws.{same-month, other-month}
+use Rattle.calendar.proofs.DateLaws.{date-day, same-month, other-month}
 use borrow.Author.Needs.{needs}
 use Rattle.calendar.proofs.on_or_after.Statement.{statement}
 use Rattle.calendar.proofs.on_or_after.Tie as tie
 
 month-index-requires : tie.Need-month-index-requires
-month-index-requires c κs = search needs
+month-index-requires c κs = date-day _ (c .pre .0)
 
 month-index-requires-2 : tie.Need-month-index-requires-2
-month-index-requires-2 c κs = search needs
+month-index-requires-2 c κs = date-day _ (c .before .pre .1)
 
 returns : tie.Need-returns
 returns c = let a = c .before .before .before .before .before .args in
