@@ -16,7 +16,7 @@ use Rattle.calendar.specs.Dates.{isDate, onOrAfter}
 use Rattle.certificates.specs.Certificates.{remainingMonths, originalMonths, columnOf, positionOf, overLimit, noSuchDay, notOutstanding, tooManyMonths}
 use Rattle.certificates.specs.Verdict.{ownVerdict}
 use Rattle.lists.proofs.LogicLaws.{or-neither}
-use Rattle.calendar.proofs.DateLaws.{Day, date-day, on-or-after}
+use Rattle.calendar.proofs.DateLaws.{date-day, on-or-after}
 use Rattle.calendar.proofs.MonthLaws.{months-between-least, months-between-anti}
 use Rattle.certificates.proofs.PositionLaws.{position-lt}
 

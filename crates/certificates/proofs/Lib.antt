@@ -1,3 +1,4 @@
+pub mod MeanLaws
 pub mod PositionLaws
 pub mod FaultLaws
 pub mod SumLaws

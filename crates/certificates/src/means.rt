@@ -72,5 +72,9 @@ fn mean(weighted: u64, weight: u64) -> u64
     if weight == 0 {
         return 0;
     }
-    (2 * weighted + weight) / (2 * weight)
+    let quotient = weighted / weight;
+    if 2 * (weighted % weight) < weight {
+        return quotient;
+    }
+    quotient + 1
 }
