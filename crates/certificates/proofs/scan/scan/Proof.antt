@@ -42,13 +42,19 @@ own-number c = c .number .ensures ∙ ap (λ (u : Verdict). u .number) (c .befor
 
 returns : tie.Need-returns Inv-loop μ-loop
 unfolding verdictOf
-returns c = (c .before .before .check-certificate .ensures ∙ scan-own (c .before .before .before .before .before .before .before .args .valuation) (c .before .before .before .before .before .before .before .args .certificates .now) (c .before .before .before .before .before .loop .k) (c .before .before .before .before .before .loop .totals) (c .before .before .before .before .before .loop .inv) (counted (c .before .before .before .before)) (c .before .before .before .certificate-at .result) (c .before .before .before .certificate-at .ensures) (λ e. c .if1 .taken (own-number (c .before) ∙ e)), λ z. absurd (c .if1 .taken (c .before .number .ensures ∙ z)))
+returns c =
+    let l = c .before .before .before .before .before in
+    let own = c .before .before .before .certificate-at in
+    let first = scan-own _ _ _ _ (l .loop .inv) (counted (c .before .before .before .before)) (own .result) (own .ensures) (λ e. c .if1 .taken (own-number (c .before) ∙ e)) in
+    (c .before .before .check-certificate .ensures ∙ first, λ z. absurd (c .if1 .taken (c .before .number .ensures ∙ z)))
 
 own-none : (c : tie.Else1 Inv-loop μ-loop) → ownVerdict (c .before .before .before .before .before .before .before .args .valuation) (c .before .before .before .before .before .loop .k) (c .before .before .before .certificate-at .result) .number ≡ 0
 own-none c = sym (own-number (c .before)) ∙ c .if1 .left
 
 sound : (c : tie.Else1 Inv-loop μ-loop) → Sound (c .before .before .before .before .before .before .before .args .valuation) (c .before .before .before .certificate-at .result)
-sound c = scan-sound (c .before .before .before .before .before .before .before .args .valuation) (c .before .before .before .before .before .before .before .args .certificates .now) (c .before .before .before .before .before .loop .k) (c .before .before .before .before .before .loop .totals) (c .before .before .before .before .before .loop .inv) (counted (c .before .before .before .before)) (c .before .before .before .certificate-at .result) (c .before .before .before .certificate-at .ensures) (own-none c)
+sound c =
+    let own = c .before .before .before .certificate-at in
+    scan-sound _ _ _ _ (c .before .before .before .before .before .loop .inv) (counted (c .before .before .before .before)) (own .result) (own .ensures) (own-none c)
 
 months-between-requires : tie.Need-months-between-requires Inv-loop μ-loop
 months-between-requires c κs = (sound c .valuation-day, sound c .maturity-day)
@@ -87,7 +93,14 @@ sum-tested c = ap (λ (i : ℕ). getD (c .before .before .before .before .before
 
 returns-2 : tie.Need-returns-2 Inv-loop μ-loop
 unfolding verdictOf refused
-returns-2 c = (scan-over (c .before .before .before .before .before .before .before .before .before .before .before .before .before .args .valuation) (c .before .before .before .before .before .before .before .before .before .before .before .before .before .args .certificates .now) (c .before .before .before .before .before .before .before .before .before .before .before .loop .k) (c .before .before .before .before .before .before .before .before .before .before .before .loop .totals) (c .before .before .before .before .before .before .before .before .before .before .before .loop .inv) (counted (c .before .before .before .before .before .before .before .before .before .before)) (c .before .before .before .before .before .before .before .before .before .certificate-at .result) (c .before .before .before .before .before .before .before .before .before .certificate-at .ensures) (own-none (c .before .before .before .before .before .before)) (rw (sum-tested (c .before .before .before)) at (c .if2 .taken)), λ z. absurd (omega arith))
+returns-2 c =
+    let n = c .before .before .before .before .before .before in
+    let own = n .before .before .before .certificate-at in
+    let over = rw (sum-tested (c .before .before .before)) at (c .if2 .taken) in
+    (
+      scan-over _ _ _ _ (n .before .before .before .before .before .loop .inv) (counted (n .before .before .before .before)) (own .result) (own .ensures) (own-none n) over,
+      λ z. absurd (omega arith),
+    )
 
 added-requires : tie.Need-added-requires Inv-loop μ-loop
 added-requires c κs = let ok = sound (c .before .before .before .before .before .before) in
@@ -107,7 +120,12 @@ loop-less : tie.Need-loop-less Inv-loop μ-loop
 loop-less c = omega arith
 
 loop-again : tie.Need-loop-again Inv-loop μ-loop
-loop-again c = let next = scan-next (c .before .before .before .before .before .before .before .before .before .before .before .before .before .before .args .valuation) (c .before .before .before .before .before .before .before .before .before .before .before .before .before .before .args .certificates .now) (c .before .before .before .before .before .before .before .before .before .before .before .before .loop .k) (c .before .before .before .before .before .before .before .before .before .before .before .before .loop .totals) (c .before .before .before .before .before .before .before .before .before .before .before .before .loop .inv) (counted (c .before .before .before .before .before .before .before .before .before .before .before)) (c .before .before .before .before .before .before .before .before .before .before .certificate-at .result) (c .before .before .before .before .before .before .before .before .before .before .certificate-at .ensures) (own-none (c .before .before .before .before .before .before .before)) (rw (sum-tested (c .before .before .before .before)) at (c .before .if2 .left)) in
+loop-again c =
+    let n = c .before .before .before .before .before .before .before in
+    let own = n .before .before .before .certificate-at in
+    let within = rw (sum-tested (c .before .before .before .before)) at (c .before .if2 .left) in
+    let next =
+    scan-next _ _ _ _ (n .before .before .before .before .before .loop .inv) (counted (n .before .before .before .before)) (own .result) (own .ensures) (own-none n) within in
     rw (c .added .ensures, position-is (c .before .before .before .before), c .before .before .before .before .before .before .months-between .ensures) next
 
 returns-3 : tie.Need-returns-3 Inv-loop μ-loop
