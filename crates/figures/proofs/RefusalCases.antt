@@ -14,12 +14,16 @@ use Rattle.records.specs.Bytes.{numberAt}
 use Rattle.records.specs.Records.{nextRecord, searchRecords, firstRecord}
 use Rattle.records.specs.Kinds.{sheetOf, sheetKinds, sheetKind, sheetLength, dueLength}
 use Rattle.records.specs.Items.{sameItem, recordItem, firstWith}
-use Rattle.records.specs.Faults.{incomplete, repeated, numberOver, overLimit, unfitTier, unsoundTiers}
-use Rattle.records.specs.RecordVerdicts.{firstFaulty, recordVerdict, recordsVerdict}
+use Rattle.bodies.specs.Bodies.{numberOver, overLimit, unfitTier, unsoundTiers}
+use Rattle.faults.specs.Faults.{incomplete, repeated}
+use Rattle.faults.specs.RecordVerdicts.{firstFaulty, recordVerdict, recordsVerdict}
 use Rattle.filing.specs.declared.Contents.{Contents}
-use Rattle.filing.specs.Contents.{cellOffset, cellValue, sheetOffset, tierNumber, tiersAt, contentsOf, cellIn, cell, cdYield, retailRate}
-use Rattle.filing.specs.Conditions.{sheetMissing, monthsOutside, columnBalances, balances, aboveColumn, totalDiffers}
-use Rattle.filing.specs.Verdict.{sheetVerdict, positionVerdict, monthsVerdict, columnVerdict, columnsVerdict, totalVerdict, cellsVerdict, filingVerdict}
+use Rattle.conditions.specs.Conditions.{cellIn}
+use Rattle.filing.specs.Contents.{cellOffset, cellValue, sheetOffset, tierNumber, tiersAt, contentsOf, cell, cdYield, retailRate}
+use Rattle.conditions.specs.Conditions.{monthsOutside, columnBalances, balances, aboveColumn, totalDiffers}
+use Rattle.filing.specs.Verdict.{sheetMissing}
+use Rattle.conditions.specs.CellVerdicts.{positionVerdict, monthsVerdict, columnVerdict, columnsVerdict, totalVerdict, cellsVerdict}
+use Rattle.filing.specs.Verdict.{sheetVerdict, filingVerdict}
 
 -- n bytes of a number, the least first
 abbrev bytes : ℕ → ℕ → List ℕ

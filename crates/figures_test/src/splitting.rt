@@ -6,7 +6,7 @@ use output::end_line;
 use output::next_number;
 use output::text;
 use shares::SubBalance;
-use shares::split::split_first;
+use split_list::split_first;
 ghost use Prim.Native.Nat.{_≤_, _<_};
 
 const SEVENS: SubBalance = SubBalance {

@@ -2,8 +2,6 @@
 -- Assumes nothing.
 use Prim.Native.Nat.{ℕ, _-_, _≤_, _<_}
 use native.Mathlib.Omega.{arith}
-use mathlib.Core.Path.{_≡_}
-use mathlib.Core.Bool.{false}
 use mathlib.Core.List.{List}
 use borrow.Author.Tests.{leb-false}
 use lib.Dec.{leb, lit<}
@@ -15,14 +13,15 @@ use Rattle.schedule.specs.Limits.{classLimit, rateLimit}
 use Rattle.schedule.proofs.CellLaws.{coupon-cell, months-cell, penalty-months-cell}
 use Rattle.records.specs.Records.{sheetNumber}
 use Rattle.records.specs.Kinds.{sheetOf, sheetKinds, sheetKind}
-use Rattle.records.proofs.FaultLaws.{neither}
+use Rattle.bodies.proofs.BodyLaws.{neither}
 use Rattle.filing.specs.Contents.{sheetOffset, contentsOf, cell, cdYield, retailRate}
-use Rattle.filing.specs.Conditions.{sheetMissing, columnBalances}
-use Rattle.filing.specs.Verdict.{Accepted}
+use Rattle.conditions.specs.Conditions.{columnBalances}
+use Rattle.filing.specs.Verdict.{sheetMissing, Accepted}
 use Rattle.filing.specs.Valid.{Valid}
-use Rattle.filing.proofs.SumLaws.{by-column}
+use Rattle.conditions.proofs.SumLaws.{by-column}
 use Rattle.filing.proofs.SoundLaws.{cell-within, balances-within, sheet-limit, tier-count-within, tier-withdrawal-within}
-use Rattle.filing.proofs.VerdictLaws.{accepted-passed, months-hold, column-holds, total-holds}
+use Rattle.filing.proofs.VerdictLaws.{accepted-passed}
+use Rattle.conditions.proofs.CellVerdictLaws.{months-hold, column-holds, total-holds}
 
 module _ (s : List ℕ) (a : Accepted s) where
   -- both sheets are present

@@ -1,8 +1,6 @@
-pub mod AcceptedLaws
-pub mod ConditionLaws
 pub mod ContentsLaws
+pub mod VerdictLaws
+pub mod SoundLaws
+pub mod AcceptedLaws
 pub mod ReadLaws
 pub mod ReadingLaws
-pub mod SoundLaws
-pub mod SumLaws
-pub mod VerdictLaws

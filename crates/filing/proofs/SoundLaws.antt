@@ -17,13 +17,15 @@ use Rattle.records.specs.declared.items.Item.the-variants.{Cell, Sheet}
 use Rattle.records.specs.Records.{recordValue, sheetNumber, tierCount}
 use Rattle.records.specs.Kinds.{sheetKind, tiersKind}
 use Rattle.records.specs.Items.{sameItem, recordItem, firstWith}
-use Rattle.records.specs.RecordVerdicts.{firstFaulty, recordVerdict}
+use Rattle.faults.specs.RecordVerdicts.{firstFaulty, recordVerdict}
 use Rattle.records.proofs.ByteLaws.{number-past}
 use Rattle.records.proofs.RecordLaws.{first-fails}
 use Rattle.records.proofs.ItemLaws.{with-passes, record-of-cell, record-of-sheet}
-use Rattle.records.proofs.FaultLaws.{Sound, SoundTiers, faultless-sound, tier-fits}
-use Rattle.filing.specs.Contents.{cellOffset, cellValue, sheetOffset, tierNumber, tiersAt, contentsOf, cellIn, cell}
-use Rattle.filing.specs.Inner.Sums.{BalancesWithin}
+use Rattle.bodies.proofs.BodyLaws.{SoundTiers, tier-fits}
+use Rattle.faults.proofs.FaultLaws.{Sound, faultless-sound}
+use Rattle.conditions.specs.Conditions.{cellIn}
+use Rattle.filing.specs.Contents.{cellOffset, cellValue, sheetOffset, tierNumber, tiersAt, contentsOf, cell}
+use Rattle.conditions.specs.Inner.Sums.{BalancesWithin}
 
 -- a cell of 601 to 661, as read from the contents
 cell-read : (s : List ℕ) (n : ℕ) → 601 ≤ n → n ≤ 661 → cell (contentsOf s) n ≡ cellValue s n

@@ -1,15 +1,16 @@
 -- What a filing says: its cells, its CD yields, its retail rates (01:6-11) and its tiers (02:CR 1). Definitions only.
 use Prim.Native.Nat.{ℕ, _+_, _*_, _-_}
-use mathlib.Core.Bool.{cond, _&&_}
+use mathlib.Core.Bool.{cond}
 use mathlib.Core.List.{List}
 use lib.ListN.{length, getD}
-use lib.Dec.{leb, ltb}
+use lib.Dec.{ltb}
 use Rattle.lists.specs.Tables.{table, tableFrom}
 use Rattle.schedule.specs.Limits.{tierLimit}
 use Rattle.records.specs.Records.{recordValue, sheetNumber, tierCount}
 use Rattle.records.specs.Kinds.{tiersKind}
 use Rattle.records.specs.declared.items.Item.the-variants.{Cell, Sheet}
 use Rattle.records.specs.Items.{firstWith}
+use Rattle.conditions.specs.Conditions.{cellIn}
 use Rattle.filing.specs.declared.Contents.{Contents}
 use Rattle.filing.specs.declared.FiledTiers.{FiledTiers}
 
@@ -48,10 +49,6 @@ contentsOf s =
       rates = tableFrom 1 3 (sheetNumber s (sheetOffset s 3));
       tiers = tiersAt s (sheetOffset s tiersKind);
     }
-
--- the value of a cell, 601 to 661, among the cells from 601 on; another number has none, and is 0
-unfoldable pub cellIn : List ℕ → ℕ → ℕ
-cellIn cells n = cond (leb 601 n && leb n 661) (getD cells (n - 601) 0) 0
 
 -- the value of a cell in what a filing says
 abbrev pub cell : Contents → ℕ → ℕ

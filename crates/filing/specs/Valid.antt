@@ -8,7 +8,7 @@ use Rattle.schedule.specs.Cells.{positionAt, withinRow, brokeredCell, penaltyBa
 use Rattle.schedule.specs.Limits.{balanceLimit, couponLimit, monthsLimit, penaltyLimit, rateLimit, tierLimit, withdrawalLimit}
 use Rattle.filing.specs.declared.Contents.{Contents}
 use Rattle.filing.specs.Contents.{cell, cdYield, retailRate}
-use Rattle.filing.specs.Conditions.{columnBalances, balances}
+use Rattle.conditions.specs.Conditions.{columnBalances, balances}
 
 -- i: one of the nine positions, 0 to 8; j: a column, 1 to 3; t: a month
 pub record Valid (k : Contents) : Type 0 where

@@ -2,49 +2,23 @@
 -- Definitions only.
 use Prim.Native.Nat.{ℕ}
 use mathlib.Core.Path.{_≡_}
-use mathlib.Core.List.{List, [], _∷_, map}
+use mathlib.Core.Bool.{Bool, _||_}
+use mathlib.Core.List.{List}
 use lib.ListN.{length}
-use Rattle.schedule.specs.declared.Position.{Position}
-use Rattle.schedule.specs.Cells.{positions, brokeredCell, penaltyBalanceCell, totalCell}
-use Rattle.answers.specs.Verdict.{Verdict, accepted, refusedIf, firstRefusal, firstOf}
-use Rattle.records.specs.RecordVerdicts.{recordsVerdict}
+use lib.Dec.{leb}
+use Rattle.answers.specs.Verdict.{Verdict, accepted, refusedIf, firstRefusal}
+use Rattle.faults.specs.RecordVerdicts.{recordsVerdict}
+use Rattle.conditions.specs.CellVerdicts.{cellsVerdict}
 use Rattle.filing.specs.declared.Contents.{Contents}
-use Rattle.filing.specs.Contents.{contentsOf}
-use Rattle.filing.specs.Conditions.{sheetMissing, monthsOutside, aboveColumn, totalDiffers}
+use Rattle.filing.specs.Contents.{sheetOffset, contentsOf}
+
+-- 6: kind 2 or kind 3 is missing
+unfoldable pub sheetMissing : List ℕ → Bool
+sheetMissing s = leb (length s) (sheetOffset s 2) || leb (length s) (sheetOffset s 3)
 
 -- 6, at the input's length
 unfoldable pub sheetVerdict : List ℕ → Verdict
 sheetVerdict s = refusedIf (sheetMissing s) 6 (length s)
-
--- 7 at a position, at its WARM cell; and the first of the nine, by ascending WARM cell
-unfoldable pub positionVerdict : List ℕ → Position → Verdict
-positionVerdict cells p = refusedIf (monthsOutside cells p) 7 (p .months)
-
-unfoldable pub monthsVerdict : List ℕ → Verdict
-monthsVerdict cells = firstOf (map (positionVerdict cells) positions)
-
--- 8 at a column's cell; and the first of the six, by ascending cell: the brokered balances, then the balances subject to penalty
-unfoldable pub columnVerdict : List ℕ → ℕ → ℕ → Verdict
-columnVerdict cells column n = refusedIf (aboveColumn cells column n) 8 n
-
-unfoldable pub columnsVerdict : List ℕ → Verdict
-columnsVerdict cells =
-    firstOf
-    (columnVerdict cells 1 (brokeredCell 1)
-    ∷ columnVerdict cells 2 (brokeredCell 2)
-    ∷ columnVerdict cells 3 (brokeredCell 3)
-    ∷ columnVerdict cells 1 (penaltyBalanceCell 1)
-    ∷ columnVerdict cells 2 (penaltyBalanceCell 2)
-    ∷ columnVerdict cells 3 (penaltyBalanceCell 3)
-    ∷ [])
-
--- 9, at the total
-unfoldable pub totalVerdict : List ℕ → Verdict
-totalVerdict cells = refusedIf (totalDiffers cells) 9 totalCell
-
--- 7 to 9, on the cells
-unfoldable pub cellsVerdict : List ℕ → Verdict
-cellsVerdict cells = firstRefusal (monthsVerdict cells) (firstRefusal (columnsVerdict cells) (totalVerdict cells))
 
 -- the verdict on what the filing says
 abbrev pub contentsVerdict : Contents → Verdict

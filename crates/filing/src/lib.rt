@@ -1,21 +1,19 @@
 // A filing of certificate deposits, from its bytes to what it says.
 
-pub mod cells;
-mod conditions;
 mod decode;
-pub mod sums;
+mod sheets;
 
-use crate::conditions::check_cells;
-use crate::conditions::check_sheets;
 use crate::decode::contents_of;
+use crate::sheets::check_sheets;
 use answers::Answer;
 use answers::number;
+use conditions::check_cells;
 use records::items::Noted;
-use records::scan::scan;
+use scan::scan;
 ghost use mathlib.Core.Path.{_≡_};
 ghost use lib.ListN.{length};
 ghost use Rattle.answers.specs.Answers.{verdictOf};
-ghost use Rattle.records.specs.RecordVerdicts.{recordsVerdict};
+ghost use Rattle.faults.specs.RecordVerdicts.{recordsVerdict};
 ghost use Rattle.records.specs.Inner.Notes.{notedBefore};
 ghost use Rattle.filing.specs.Verdict.{sheetVerdict, filingVerdict};
 ghost use Rattle.filing.specs.Readings.{readContents, emptyContents};
@@ -83,10 +81,4 @@ pub struct FiledTiers {
     pub count: usize,
     pub edges: [u16; 16],
     pub withdrawals: [u16; 16],
-}
-
-// The sums of columns 1 to 3, and of the rows above each of the nine positions in its column, in thousands of dollars.
-pub struct ColumnSums {
-    pub totals: [u64; 3],
-    pub above: [u64; 9],
 }

@@ -1,10 +1,4 @@
 pub mod ByteLaws
 pub mod RecordLaws
-pub mod ScanLaws
 pub mod ItemLaws
 pub mod NoteLaws
-pub mod SheetLaws
-pub mod FaultLaws
-pub mod ProgressLaws
-pub mod WalkLaws
-pub mod ReaderLaws

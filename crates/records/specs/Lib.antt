@@ -2,6 +2,4 @@ pub mod Bytes
 pub mod Records
 pub mod Kinds
 pub mod Items
-pub mod Faults
-pub mod RecordVerdicts
 pub mod Inner

@@ -6,21 +6,21 @@ ghost use Rattle.records.specs.Bytes.{numberAt};
 ghost use Rattle.records.specs.Records.{recordLength, recordKind, recordCell, recordValue, sheetNumber, tierCount};
 
 // The number of bytes after the length itself.
-pub(crate) fn record_length(s: &[u8], at: usize) -> usize
+pub fn record_length(s: &[u8], at: usize) -> usize
     ensures { λ r. ⌜ r ≡ recordLength (now (s .entry)) at ⌝ }
 {
     number_at(s, at, 2) as usize
 }
 
 // The kind of a record.
-pub(crate) fn record_kind(s: &[u8], at: usize) -> usize
+pub fn record_kind(s: &[u8], at: usize) -> usize
     ensures { λ r. ⌜ r ≡ recordKind (now (s .entry)) at ⌝ }
 {
     field_at(s, at, 2, 2) as usize
 }
 
 // The cell of a record of kind 1.
-pub(crate) fn record_cell(s: &[u8], at: usize) -> u64
+pub fn record_cell(s: &[u8], at: usize) -> u64
     ensures { λ r. ⌜ r ≡ recordCell (now (s .entry)) at ⌝ }
 {
     field_at(s, at, 4, 2)

@@ -27,7 +27,7 @@ pub struct Noted {
 }
 
 // The item of a record: kind 1 of its cell, where that is listed; another kind that is known of its kind.
-pub(crate) fn record_item(s: &[u8], at: usize) -> Item
+pub fn record_item(s: &[u8], at: usize) -> Item
     ensures { λ r. ⌜ r ≡ recordItem (now (s .entry)) at ⌝ }
 {
     let kind = record_kind(s, at);
@@ -45,7 +45,7 @@ pub(crate) fn record_item(s: &[u8], at: usize) -> Item
 }
 
 // The record at an offset is noted.
-pub(crate) fn note(s: &[u8], at: usize, noted: Noted) -> Noted
+pub fn note(s: &[u8], at: usize, noted: Noted) -> Noted
     ensures { λ r. ⌜ r ≡ noteItem noted (recordItem (now (s .entry)) at) at ⌝ }
 {
     let mut after = noted;

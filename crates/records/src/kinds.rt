@@ -6,7 +6,7 @@ ghost use mathlib.Core.Path.{_≡_};
 ghost use Rattle.records.specs.Kinds.{sheetKind, dueLength};
 
 // The kind of the tiers.
-pub(crate) const TIERS_KIND: usize = 4;
+pub const TIERS_KIND: usize = 4;
 
 // A kind of sheet: how many numbers it holds, 2 bytes each, and the largest that each may be. One that is no sheet holds none.
 pub struct SheetKind {
@@ -38,7 +38,7 @@ const SHEET_KINDS: [SheetKind; KINDS] = [
 ];
 
 // The sheet of a kind.
-pub(crate) fn sheet_kind(kind: usize) -> SheetKind
+pub fn sheet_kind(kind: usize) -> SheetKind
     ensures { λ r. ⌜ r ≡ sheetKind kind ⌝ }
 {
     if kind < KINDS {
@@ -52,7 +52,7 @@ pub(crate) fn sheet_kind(kind: usize) -> SheetKind
 }
 
 // The length that a record is to have by its kind: 0 where the kind is unknown.
-pub(crate) fn due_length(s: &[u8], at: usize) -> usize
+pub fn due_length(s: &[u8], at: usize) -> usize
     ensures { λ r. ⌜ r ≡ dueLength (now (s .entry)) at ⌝ }
 {
     let kind = record_kind(s, at);

@@ -1,13 +1,9 @@
-// The records of a filing: a reader moves over them, and each is tested by refusals 1 to 5.
+// The records of a filing: what each holds, and what it is one of.
 
 mod bytes;
-mod faults;
 pub mod fields;
 pub mod items;
-mod kinds;
-pub mod reader;
-pub mod scan;
-mod steps;
+pub mod kinds;
 
 // The kinds of record are below this number.
 pub const KINDS: usize = 5;
@@ -16,11 +12,3 @@ pub const KINDS: usize = 5;
 pub const FIRST_CELL: u64 = 601;
 
 pub const CELLS: usize = 61;
-
-// What stands at an offset of a filing.
-pub enum Step {
-    // A record, with the offset of the record after it.
-    Record(usize),
-    // Nothing: the offset is at the end, or past it.
-    End,
-}

@@ -1,17 +1,11 @@
 // The entries of standard input. An entry is the number of a call, the length of its list of
 // numbers, that of its list of places and that of its input, 4 bytes each, and the input.
-use crate::arith::LARGEST;
-use crate::bytes::double;
-use crate::printing::print_call;
-use crate::printing::print_line;
+use crate::calls::Call;
+use crate::calls::print_call;
 use libc::STDIN_FILENO;
-
-// A call, the length of its list of numbers and that of its list of places.
-pub struct Call {
-    pub number: u64,
-    pub numbers: u64,
-    pub places: u64,
-}
+use second_numbers::arith::LARGEST;
+use second_numbers::bytes::double;
+use second_output::lines::print_line;
 
 // Prints what the call of each entry answers.
 pub fn print_entries(survivals: &[u64]) {

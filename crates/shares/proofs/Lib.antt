@@ -1,9 +1,5 @@
 pub mod ApportionLaws
-pub mod OutcomeLaws
-pub mod OverwriteLaws
 pub mod PartLaws
 pub mod PlaceLaws
-pub mod PlaceRows
 pub mod RowLaws
-pub mod SplitLaws
 pub mod SubBalanceLaws

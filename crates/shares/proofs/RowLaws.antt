@@ -13,10 +13,10 @@ use Rattle.schedule.specs.declared.Position.{Position}
 use Rattle.schedule.specs.Cells.{position, positions, positionAt, inColumn, brokeredCell, penaltyBalanceCell}
 use Rattle.filing.specs.declared.Contents.{Contents}
 use Rattle.filing.specs.Contents.{cell}
-use Rattle.filing.specs.Conditions.{columnBalances}
+use Rattle.conditions.specs.Conditions.{columnBalances}
 use Rattle.filing.specs.Valid.{Valid}
-use Rattle.filing.specs.Inner.Sums.{columnSum}
-use Rattle.filing.proofs.SumLaws.{column-range, column-sum, column-limit}
+use Rattle.conditions.specs.Inner.Sums.{columnSum}
+use Rattle.conditions.proofs.SumLaws.{column-range, column-sum, column-limit}
 use Rattle.shares.specs.declared.Row.{Row}
 use Rattle.shares.specs.Apportion.{shareBehind}
 use Rattle.shares.specs.SubBalances.{brokeredShares, penaltyShares, brokeredIn, retailIn, retailPenalized, brokeredPenalized, fourOf}

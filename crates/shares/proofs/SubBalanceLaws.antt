@@ -14,9 +14,9 @@ use Rattle.schedule.specs.Cells.{position, positions, positionAt, inColumn, bro
 use Rattle.schedule.specs.Limits.{balanceLimit}
 use Rattle.filing.specs.declared.Contents.{Contents}
 use Rattle.filing.specs.Contents.{cell}
-use Rattle.filing.specs.Conditions.{columnBalances, balances}
+use Rattle.conditions.specs.Conditions.{columnBalances, balances}
 use Rattle.filing.specs.Valid.{Valid}
-use Rattle.filing.proofs.SumLaws.{column-range}
+use Rattle.conditions.proofs.SumLaws.{column-range}
 use Rattle.shares.specs.SubBalances.{brokeredShares, accountParts, penaltyShares, brokeredIn, retailIn, retailPenalized, brokeredPenalized, fourOf, positionOf, balanceAt, subBalanceCount}
 use Rattle.shares.proofs.ApportionLaws.{apportion-sum, apportion-le, apportion-length}
 use Rattle.shares.proofs.PartLaws.{parts-sum, retail-part, brokered-part}

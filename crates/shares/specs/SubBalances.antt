@@ -6,7 +6,7 @@ use Rattle.schedule.specs.declared.Position.{Position}
 use Rattle.schedule.specs.Cells.{positionAt, brokeredCell, penaltyBalanceCell}
 use Rattle.filing.specs.declared.Contents.{Contents}
 use Rattle.filing.specs.Contents.{cell}
-use Rattle.filing.specs.Conditions.{columnBalances}
+use Rattle.conditions.specs.Conditions.{columnBalances}
 use Rattle.shares.specs.Apportion.{apportion}
 
 -- a column's brokered balance, split over its rows

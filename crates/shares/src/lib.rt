@@ -1,9 +1,6 @@
 // The thirty-six sub-balances of a filing.
-use answers::Answer;
-
 mod apportion;
 pub mod places;
-pub mod split;
 
 // What a place of the thirty-six holds: the balance in thousands of dollars, its cell's WAC in hundredths of a percent a year and its cell's WARM
 // in months.
@@ -14,7 +11,7 @@ pub struct SubBalance {
 }
 
 // A place that holds nothing.
-pub(crate) const NO_PLACE: SubBalance = SubBalance {
+pub const NO_PLACE: SubBalance = SubBalance {
     balance: 0,
     coupon: 0,
     remaining_months: 0,
@@ -30,17 +27,4 @@ pub struct Row {
     pub penalized: u64,
     pub coupon: u64,
     pub remaining_months: u64,
-}
-
-// What is made of a filing and a list: the answer, the places to be written, and how many of them are, 36 or none.
-pub struct Outcome {
-    pub answer: Answer,
-    pub places: [SubBalance; 36],
-    pub count: usize,
-}
-
-// The answer on a filing and the first places of an array, and the array after the call.
-pub struct SplitPlaces {
-    pub answer: Answer,
-    pub places: [SubBalance; 40],
 }

@@ -1,4 +1,3 @@
-pub mod PlaceTermsLaws
 pub mod RowLaws
 pub mod NumberLaws
 pub mod TotalLaws

@@ -2,13 +2,12 @@
 use Prim.Native.Nat.{ℕ, zero, suc, _*_, _-_, _≤_, _<_}
 use mathlib.Core.Path.{_≡_, ap, _∙_}
 use mathlib.Core.Logic.{⊎-elim}
-use mathlib.Core.List.{List, _∷_, append-nil}
+use mathlib.Core.List.{List, _∷_}
 use native.Mathlib.Nat.{mul-le-mul, le-refl, le-trans, not-suc-le-zero, le-of-suc-le-suc, le-max-left, le-max-right, eq-or-lt-of-le, ne-of-gt}
 use native.Mathlib.Omega.{arith}
 use lib.Dec.{lit<}
-use lib.ListN.{length, getD, replicate}
+use lib.ListN.{getD}
 use borrow.Author.Tests.{ne-eqb}
-use Rattle.lists.specs.Runs.{written}
 use Rattle.lists.specs.Tables.{joined}
 use Rattle.lists.proofs.TableLaws.{table-getD, joined-le}
 use Rattle.schedule.specs.Limits.{balanceLimit, rateLimit}
@@ -31,18 +30,13 @@ use Rattle.deposits.specs.Inner.Factors.{factorsBy, WithinRates}
 use Rattle.deposits.specs.Inner.Prices.{DepositLimits, AtMostPar}
 use Rattle.deposits.proofs.FactorLaws.{factors-at-most-par}
 use Rattle.deposits.proofs.ValueLaws.{values-are}
-use Rattle.valuation.specs.PlaceTerms.{depositAt, rateAt, filingTiers, termsAt, monthYield}
+use Rattle.place_values.specs.PlaceTerms.{depositAt, rateAt, filingTiers, termsAt, monthYield}
 use Rattle.valuation.specs.Run.{valueAt}
 use Rattle.valuation.specs.Numbers.{valuesOf, placeNumbers}
-use Rattle.valuation.specs.Inner.LongestTerm.{termOf, longestTo, longestTerm}
-use Rattle.valuation.specs.Inner.PlaceRows.{rateIn, rowOf}
-use Rattle.valuation.specs.Inner.RowTotals.{valueLimit}
-use Rattle.valuation.proofs.PlaceTermsLaws.{deposit-limits, terms-bounded}
-
--- fourteen values written behind a balance
-pub row-written : (balance : ℕ) (values : List ℕ) → length values ≡ 14 → written (replicate 15 balance) 1 values ≡ balance ∷ values
-unfolding written
-row-written balance values e = rw e (ap (λ (l : List ℕ). balance ∷ l) (append-nil values))
+use Rattle.place_values.specs.Inner.LongestTerm.{termOf, longestTo, longestTerm}
+use Rattle.place_values.specs.Inner.PlaceRows.{rateIn, rowOf}
+use Rattle.totals.specs.RowTotals.{valueLimit}
+use Rattle.place_values.proofs.PlaceTermsLaws.{deposit-limits, terms-bounded}
 
 -- a place's term is at most the longest
 longest-le : (ps : List SubBalance) (n i : ℕ) → i < n → termOf (getD ps i noPlace) ≤ longestTo ps n

@@ -19,7 +19,7 @@ use Rattle.pricing.specs.Rounding.{down, up}
 use Rattle.valuation.specs.Rows.{isShort, isLong}
 use Rattle.valuation.specs.Run.{valueAt, totalBy}
 use Rattle.valuation.specs.Numbers.{placeNumbers, scenarioTotals, numbers}
-use Rattle.valuation.specs.Inner.RowTotals.{valueLimit, WithinRows, numberAt, rowTotals}
+use Rattle.totals.specs.RowTotals.{valueLimit, WithinRows, numberAt, rowTotals}
 use Rattle.valuation.proofs.NumberLaws.{rows, totals, rows-length, totals-length, lower-read, upper-read}
 use Rattle.valuation.proofs.RowLaws.{row-le}
 
@@ -31,11 +31,6 @@ short-sum f = omega arith
 long-sum : (f : ℕ → ℕ) → sum (tableFrom 24 12 f) ≡ sumWhere isLong f 36
 unfolding sum tableFrom sumWhere isLong isShort positionOf positions positionAt position
 long-sum f = omega arith
-
--- a scenario has four totals
-pub rowTotals-length : (list : List ℕ) (scenario : ℕ) → length (rowTotals list scenario) ≡ 4
-unfolding rowTotals
-rowTotals-length list scenario = refl
 
 -- a list that begins with the rows of the places
 module _ (k : Contents) (rest : List ℕ) where

@@ -16,11 +16,11 @@ use Rattle.shares.proofs.SubBalanceLaws.{balanceAt-total}
 use Rattle.pricing.specs.Rounding.{Rounding, down, up}
 use Rattle.pricing.proofs.EnclosureLaws.{value-encloses}
 use Rattle.pricing.proofs.WidthLaws.{value-width}
-use Rattle.valuation.specs.PlaceTerms.{termsAt, monthYield}
+use Rattle.place_values.specs.PlaceTerms.{termsAt, monthYield}
 use Rattle.valuation.specs.Rows.{isShort, isLong}
 use Rattle.valuation.specs.Exact.{exactValueAt, exactTotal}
 use Rattle.valuation.specs.Run.{valueAt, totalBy}
-use Rattle.valuation.proofs.PlaceTermsLaws.{terms-bounded}
+use Rattle.place_values.proofs.PlaceTermsLaws.{terms-bounded}
 
 -- lower ≤ exact ≤ upper for each place and scenario
 pub valueAt-encloses : (k : Contents) (scenario place : ℕ)

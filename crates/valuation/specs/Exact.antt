@@ -6,7 +6,7 @@ use Rattle.fraction.specs.Totals.{totalWhere}
 use Rattle.filing.specs.declared.Contents.{Contents}
 use Rattle.shares.specs.SubBalances.{balanceAt, subBalanceCount}
 use Rattle.pricing.specs.Exact.{exactValue}
-use Rattle.valuation.specs.PlaceTerms.{termsAt, monthYield}
+use Rattle.place_values.specs.PlaceTerms.{termsAt, monthYield}
 
 -- the exact value of the sub-balance at a place, 0 to 35, in a scenario, 0 to 6
 unfoldable pub exactValueAt : Contents → ℕ → ℕ → Fraction

@@ -1,7 +1,5 @@
-pub mod PlaceTerms
 pub mod Rows
 pub mod Exact
 pub mod Run
 pub mod Numbers
 pub mod Promise
-pub mod Inner

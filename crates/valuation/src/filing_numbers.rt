@@ -1,12 +1,12 @@
 // The 568 numbers of what an accepted filing says, written into a list.
-use crate::filing_tiers::tiers_of;
-use crate::longest_term::longest_term;
-use crate::place_row::row_of;
-use crate::totals::totals_of;
 use deposits::factors::factor_table;
 use filing::Contents;
 use lists::write;
+use place_values::filing_tiers::tiers_of;
+use place_values::longest_term::longest_term;
+use place_values::place_row::row_of;
 use shares::places::places_of;
+use totals::totals_of;
 ghost use mathlib.Core.Path.{_≡_};
 ghost use mathlib.Core.List.{_++_};
 ghost use Prim.Native.Nat.{_≤_};

@@ -1,9 +1,5 @@
 // Certificate deposits under seven rate scenarios: from a filing's bytes to its 568 numbers.
 mod filing_numbers;
-mod filing_tiers;
-mod longest_term;
-mod place_row;
-mod totals;
 
 use crate::filing_numbers::write_numbers;
 use answers::Answer;

@@ -9,8 +9,8 @@ use Rattle.answers.specs.Verdict.{Verdict}
 use Rattle.answers.specs.Answers.{verdictOf}
 use Rattle.records.specs.declared.items.Noted.{Noted}
 use Rattle.records.specs.Inner.Notes.{notedBefore}
-use Rattle.records.specs.RecordVerdicts.{recordsVerdict}
-use Rattle.records.proofs.ProgressLaws.{records-passed}
+use Rattle.faults.specs.RecordVerdicts.{recordsVerdict}
+use Rattle.scan.proofs.ProgressLaws.{records-passed}
 use Rattle.filing.specs.Verdict.{sheetVerdict}
 use Rattle.filing.proofs.ReadLaws.{records-refuse, sheets-refuse, refused-reading}
 use Rattle.filing.proofs.read.Statement.{statement}

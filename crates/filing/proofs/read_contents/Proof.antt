@@ -6,10 +6,10 @@ use Prim.Native.Nat.{ℕ}
 use borrow.Author.Needs.{needs}
 use Rattle.answers.specs.Verdict.{Verdict}
 use Rattle.answers.specs.Answers.{verdictOf}
-use Rattle.records.proofs.ProgressLaws.{records-passed}
+use Rattle.scan.proofs.ProgressLaws.{records-passed}
 use Rattle.filing.specs.declared.Contents.{Contents}
 use Rattle.filing.specs.Verdict.{contentsVerdict, filingVerdict}
-use Rattle.filing.specs.Inner.Sums.{BalancesWithin}
+use Rattle.conditions.specs.Inner.Sums.{BalancesWithin}
 use Rattle.filing.proofs.ReadLaws.{contents-decide, contents-accepted, refused-reading}
 use Rattle.filing.proofs.SoundLaws.{balances-within}
 use Rattle.filing.proofs.read_contents.Statement.{statement}

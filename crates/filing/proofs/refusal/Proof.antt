@@ -3,7 +3,7 @@
 use mathlib.Core.Path.{refl}
 use borrow.Author.Needs.{needs}
 use Rattle.records.specs.Records.{searchRecords, firstRecord}
-use Rattle.records.specs.RecordVerdicts.{firstFaulty}
+use Rattle.faults.specs.RecordVerdicts.{firstFaulty}
 use Rattle.filing.specs.Readings.{emptyContents}
 use Rattle.filing.proofs.refusal.Statement.{statement}
 use Rattle.filing.proofs.refusal.Tie as tie

@@ -4,8 +4,8 @@ use Prim.Native.Nat.{ℕ, _+_, _-_, _≤_}
 use mathlib.Core.List.{List, [], _∷_}
 use Rattle.schedule.specs.Cells.{positionAt, brokeredCell, penaltyBalanceCell}
 use Rattle.schedule.specs.Limits.{columnLimit}
-use Rattle.filing.specs.Contents.{cellIn}
-use Rattle.filing.specs.Inner.Sums.{columnSum}
+use Rattle.conditions.specs.Conditions.{cellIn}
+use Rattle.conditions.specs.Inner.Sums.{columnSum}
 use Rattle.shares.specs.declared.Row.{Row}
 use Rattle.shares.specs.Apportion.{shareBehind}
 

@@ -5,9 +5,7 @@ use mathlib.Core.Path.{_≡_, ap, _∙_}
 use lib.Dec.{lit<}
 use lib.ListN.{getD}
 use borrow.Author.Needs.{needs}
-use Rattle.lists.specs.Tables.{tableFrom}
 use Rattle.records.specs.declared.items.Noted.{Noted}
-use Rattle.records.specs.Records.{sheetNumber}
 use Rattle.records.specs.Kinds.{kindCount, tiersKind}
 use Rattle.filing.specs.Contents.{sheetOffset, contentsOf}
 use Rattle.filing.proofs.ContentsLaws.{sheet-noted}

@@ -8,7 +8,7 @@ use Rattle.lists.specs.Tables.{tableFrom, table, joined}
 use Rattle.lists.proofs.RunLaws.{Overwritten, overwritten-none, overwritten-row}
 use Rattle.pricing.specs.Rounding.{roundingOf}
 use Rattle.valuation.specs.Numbers.{placeNumbers}
-use Rattle.valuation.specs.Inner.LongestTerm.{longestTerm}
+use Rattle.place_values.specs.Inner.LongestTerm.{longestTerm}
 use Rattle.valuation.proofs.NumberLaws.{row-length}
 use Rattle.valuation.proofs.RowLaws.{Prepared, yields-within, rate-within, held-limits, factors-limits, row-is}
 use Rattle.valuation.proofs.filing_numbers.write_rows.Statement.{statement}

@@ -1,0 +1,66 @@
+-- What holds of a body that is not refused: a cell's value and a sheet's numbers are within their limits, and tiers load.
+-- Assumes nothing.
+use Prim.Native.Nat.{ℕ, _≤_, _<_}
+use native.Mathlib.Omega.{arith}
+use mathlib.Core.Path.{_≡_, refl, ap}
+use mathlib.Core.Bool.{Bool, true, false, cond, _||_}
+use mathlib.Core.List.{List}
+use borrow.Author.Tests.{ltb-false, eqb-true, eq-eqb}
+use lib.Dec.{ltb, eqb}
+use Rattle.lists.specs.Tables.{anyBelow}
+use Rattle.lists.proofs.TestLaws.{any-fails}
+use Rattle.schedule.specs.Limits.{cellClass, classLimit, tierLimit, withdrawalLimit}
+use Rattle.records.specs.Records.{recordKind, recordCell, recordValue, sheetNumber, tierCount, tierWithdrawal}
+use Rattle.records.specs.Kinds.{sheetOf, sheetKinds, sheetKind, tiersKind}
+use Rattle.bodies.specs.Bodies.{numberOver, overLimit, unfitTier, unsoundTiers}
+use Rattle.bodies.proofs.SheetLaws.{none-over}
+
+-- neither of two tests passes
+pub neither : (a b : Bool) → (a || b) ≡ false → (a ≡ false) × (b ≡ false)
+neither true b e = (e, cc)
+neither false b e = (refl, e)
+
+-- tiers that load: 1 to 16, and each fits
+pub record SoundTiers (s : List ℕ) (at : ℕ) : Type 0 where
+  pub some : 1 ≤ tierCount s at
+  pub few : tierCount s at ≤ tierLimit
+  pub fits : (i : ℕ) → i < tierCount s at → unfitTier s at i ≡ false
+
+-- a tier that fits withdraws at most 600 thousandths a year
+pub tier-fits : (s : List ℕ) (at i : ℕ) → unfitTier s at i ≡ false → tierWithdrawal s at i ≤ withdrawalLimit
+unfolding unfitTier
+tier-fits s at i h = ltb-false withdrawalLimit (tierWithdrawal s at i) (neither (ltb withdrawalLimit (tierWithdrawal s at i)) _ h .0)
+
+module _ (s : List ℕ) (at : ℕ) where
+  -- 5 does not hold at a cell: the value is within the limit of the cell's class
+  pub value-within : overLimit s at ≡ false → recordKind s at ≡ 1 → recordValue s at ≤ classLimit (cellClass (recordCell s at))
+  unfolding overLimit
+  value-within h e = ltb-false (classLimit (cellClass (recordCell s at))) (recordValue s at) (simp (eq-eqb (recordKind s at) 1 e) at h)
+
+  -- 5 does not hold at a sheet: each of its numbers is within the limit
+  pub numbers-within : overLimit s at ≡ false → (i : ℕ) → 1 ≤ i → i ≤ sheetKind (recordKind s at) .numbers
+      → sheetNumber s at i ≤ sheetKind (recordKind s at) .limit
+  unfolding overLimit sheetOf sheetKinds sheetKind
+  numbers-within h i l u = by (eqb (recordKind s at) 1) refl h
+    where
+      by : (b : Bool) → eqb (recordKind s at) 1 ≡ b
+          → cond b (ltb (classLimit (cellClass (recordCell s at))) (recordValue s at))
+          (numberOver s at (sheetKind (recordKind s at) .limit) (sheetKind (recordKind s at) .numbers)) ≡ false
+          → sheetNumber s at i ≤ sheetKind (recordKind s at) .limit
+      by true e h =
+          let none : sheetKind (recordKind s at) .numbers ≡ 0 = ap (λ (k : ℕ). sheetKind k .numbers) (eqb-true (recordKind s at) 1 e) in
+          absurd (omega arith)
+      by false e h = none-over s at (sheetKind (recordKind s at) .limit) (sheetKind (recordKind s at) .numbers) h i l u
+
+  -- 11 does not hold: the tiers load
+  pub tiers-load : unsoundTiers s at ≡ false → recordKind s at ≡ tiersKind → SoundTiers s at
+  unfolding unsoundTiers
+  tiers-load h e =
+      let count = tierCount s at in
+      let h1 = neither (ltb count 1) (ltb tierLimit count || anyBelow (unfitTier s at) count) (simp (eq-eqb (recordKind s at) tiersKind e) at h) in
+      let h2 = neither (ltb tierLimit count) (anyBelow (unfitTier s at) count) (h1 .1) in
+      record {
+        some = ltb-false count 1 (h1 .0);
+        few = ltb-false tierLimit count (h2 .0);
+        fits = any-fails (unfitTier s at) count (h2 .1);
+      }

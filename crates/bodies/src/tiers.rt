@@ -1,0 +1,66 @@
+// Refusal 11: tiers of annual withdrawal that do not load.
+use records::fields::record_kind;
+use records::fields::sheet_number;
+use records::fields::tier_count;
+use records::kinds::TIERS_KIND;
+ghost use mathlib.Core.Path.{_≡_};
+ghost use Prim.Native.Nat.{_≤_, _<_};
+ghost use Rattle.lists.specs.Tables.{anyBelow};
+ghost use Rattle.schedule.specs.Limits.{tierLimit};
+ghost use Rattle.bodies.specs.Bodies.{unfitTier, unsoundTiers};
+
+// The most tiers of a filing, and their largest annual withdrawal, in thousandths.
+const TIER_LIMIT: u16 = 16;
+
+const WITHDRAWAL_LIMIT: u16 = 600;
+
+// 11: tiers that are not 1 to 16, or of which one does not load.
+pub fn unsound_tiers(s: &[u8], at: usize) -> bool
+    ensures { λ r. ⌜ r ≡ unsoundTiers (now (s .entry)) at ⌝ }
+{
+    if record_kind(s, at) != TIERS_KIND {
+        return false;
+    }
+    let count = tier_count(s, at);
+    if count < 1 {
+        return true;
+    }
+    if TIER_LIMIT < count {
+        return true;
+    }
+    some_unfit(s, at, count as usize)
+}
+
+// One of the first n tiers does not load.
+fn some_unfit(s: &[u8], at: usize, n: usize) -> bool
+    requires { ⌜ n ≤ tierLimit ⌝ }
+    ensures { λ r. ⌜ r ≡ anyBelow (unfitTier (now (s .entry)) at) n ⌝ }
+{
+    let mut i: usize = 0;
+    while i < n {
+        if unfit_tier(s, at, i) {
+            return true;
+        }
+        i += 1;
+    }
+    false
+}
+
+// The i-th tier, from 0, does not load.
+fn unfit_tier(s: &[u8], at: usize, i: usize) -> bool
+    requires { ⌜ i < tierLimit ⌝ }
+    ensures { λ r. ⌜ r ≡ unfitTier (now (s .entry)) at i ⌝ }
+{
+    let edge = sheet_number(s, at, 2 + 2 * i);
+    let withdrawal = sheet_number(s, at, 3 + 2 * i);
+    if WITHDRAWAL_LIMIT < withdrawal {
+        return true;
+    }
+    if i == 0 {
+        return edge != 0;
+    }
+    if edge <= sheet_number(s, at, 2 + 2 * (i - 1)) {
+        return true;
+    }
+    withdrawal < sheet_number(s, at, 3 + 2 * (i - 1))
+}

@@ -1,0 +1,39 @@
+-- `check_cells` meets its contract: 7, then 8, then 9. Assumes nothing.
+use borrow.Author.Needs.{needs}
+use Rattle.conditions.specs.CellVerdicts.{cellsVerdict}
+use Rattle.conditions.proofs.check_cells.Statement.{statement}
+use Rattle.conditions.proofs.check_cells.Tie as tie
+
+column-sums-requires : tie.Need-column-sums-requires
+column-sums-requires c κs = search needs
+
+check-months-requires : tie.Need-check-months-requires
+check-months-requires c κs = search needs
+
+check-columns-requires : tie.Need-check-columns-requires
+check-columns-requires c κs = cc
+
+check-total-requires : tie.Need-check-total-requires
+check-total-requires c κs = (search needs, cc)
+
+first-refusal-requires : tie.Need-first-refusal-requires
+first-refusal-requires c κs = search needs
+
+first-refusal-requires-2 : tie.Need-first-refusal-requires-2
+first-refusal-requires-2 c κs = search needs
+
+returns : tie.Need-returns
+unfolding cellsVerdict
+returns c = cc
+
+pub check-cells-spec : {M : Type 1} → statement M
+check-cells-spec =
+    tie.close
+    (tie.spec
+    column-sums-requires
+    check-months-requires
+    check-columns-requires
+    check-total-requires
+    first-refusal-requires
+    first-refusal-requires-2
+    returns)

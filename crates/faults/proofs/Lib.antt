@@ -1,0 +1,2 @@
+pub mod RepetitionLaws
+pub mod FaultLaws

@@ -1,0 +1,17 @@
+-- `misshapen` meets its contract.
+-- Assumes nothing.
+use borrow.Author.Needs.{needs}
+use Rattle.faults.proofs.misshapen.Statement.{statement}
+use Rattle.faults.proofs.misshapen.Tie as tie
+
+record-length-requires : tie.Need-record-length-requires
+record-length-requires c κs = search needs
+
+due-length-requires : tie.Need-due-length-requires
+due-length-requires c κs = search needs
+
+returns : tie.Need-returns
+returns c = cc
+
+pub misshapen-spec : {M : Type 1} → statement M
+misshapen-spec = tie.close (tie.spec record-length-requires due-length-requires returns)

@@ -1,0 +1,26 @@
+-- What can be wrong with one record before its body is looked at: refusals 1 to 4 (01:31-34), in that order. Definitions only.
+use Prim.Native.Nat.{ℕ, _+_}
+use mathlib.Core.Bool.{Bool, not, _||_, _&&_}
+use mathlib.Core.List.{List}
+use lib.ListN.{length}
+use lib.Dec.{ltb, eqb}
+use Rattle.schedule.specs.Limits.{cellClass}
+use Rattle.records.specs.Records.{recordLength, recordKind, recordCell, nextRecord}
+use Rattle.records.specs.Kinds.{dueLength}
+use Rattle.records.specs.Items.{recordItem, firstWith}
+
+-- 1: the record runs past the end, its length or itself, or its length is below 2
+unfoldable pub incomplete : List ℕ → ℕ → Bool
+incomplete s at = ltb (length s) (at + 2) || (ltb (recordLength s at) 2 || ltb (length s) (nextRecord s at))
+
+-- 2: the kind is unknown, or the length is not that kind's
+abbrev pub misshapen : List ℕ → ℕ → Bool
+misshapen s at = not (eqb (recordLength s at) (dueLength s at))
+
+-- 3: the cell is not listed
+abbrev pub unlisted : List ℕ → ℕ → Bool
+unlisted s at = eqb (recordKind s at) 1 && eqb (cellClass (recordCell s at)) 0
+
+-- 4: the cell, or the kind of sheet, stands in an earlier record
+unfoldable pub repeated : List ℕ → ℕ → Bool
+repeated s at = ltb (firstWith s (recordItem s at) at) at

@@ -1,0 +1,22 @@
+// The sheets that a filing must have: refusal 6.
+use answers::Answer;
+use records::KINDS;
+ghost use mathlib.Core.Path.{_≡_};
+ghost use lib.ListN.{length};
+ghost use Rattle.answers.specs.Answers.{verdictOf};
+ghost use Rattle.records.specs.Inner.Notes.{notedBefore};
+ghost use Rattle.filing.specs.Verdict.{sheetVerdict};
+
+// 6, from where the sheets stand: one that is missing is noted at the input's length.
+pub(crate) fn check_sheets(s: &[u8], sheets: &[usize; KINDS]) -> Answer
+    requires { ⌜ now sheets ≡ notedBefore (now s) (length (now s)) .sheets ⌝ }
+    ensures { λ r. ⌜ verdictOf r ≡ sheetVerdict (now (s .entry)) ⌝ }
+{
+    if s.len() <= sheets[2] {
+        return Answer::SheetMissing(s.len());
+    }
+    if s.len() <= sheets[3] {
+        return Answer::SheetMissing(s.len());
+    }
+    Answer::Accepted
+}

@@ -1,0 +1,2 @@
+pub mod PlaceTermsLaws
+pub mod RowLaws

@@ -1,0 +1,2 @@
+pub mod PlaceTerms
+pub mod Inner

@@ -1,0 +1,26 @@
+// The calls by their numbers.
+use second_numbers::arith::least;
+use second_output::filings::print_listing;
+use second_output::filings::print_splitting;
+use second_output::filings::print_valuing;
+use second_output::lines::print_line;
+
+// A call, the length of its list of numbers and that of its list of places.
+pub struct Call {
+    pub number: u64,
+    pub numbers: u64,
+    pub places: u64,
+}
+
+// Call 0 values and splits a filing; call 1 prints its listing.
+pub fn print_call(s: &[u8], survivals: &[u64], call: Call) {
+    let number = call.number;
+    match number {
+        0 => {
+            print_valuing(s, survivals, least(call.numbers, 600));
+            print_splitting(s, least(call.places, 40));
+        }
+        1 => print_listing(s, survivals),
+        _ => print_line(b"no call", number),
+    }
+}

@@ -1,0 +1,3 @@
+// What the second test program prints of an entry.
+pub mod filings;
+pub mod lines;

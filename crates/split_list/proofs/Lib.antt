@@ -1,0 +1,4 @@
+pub mod OutcomeLaws
+pub mod OverwriteLaws
+pub mod PlaceRows
+pub mod SplitLaws
