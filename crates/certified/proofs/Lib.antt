@@ -1,0 +1,4 @@
+pub mod WeightedLaws
+pub mod FilledLaws
+pub mod TotalLaws
+pub mod LookUpLaws
