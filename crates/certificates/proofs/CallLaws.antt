@@ -89,7 +89,7 @@ module _ (v : Date) (s : List ℕ) where
   unfolding filledCells
   filled-none h = rw (ne-eqb (certificatesVerdict v s .number) 0 h)
 
-  filled-some : certificatesVerdict v s .number ≡ 0 → filledCells v s ≡ cellsOf (totalsOf v s (certificateCount s))
+  pub filled-some : certificatesVerdict v s .number ≡ 0 → filledCells v s ≡ cellsOf (totalsOf v s (certificateCount s))
   unfolding filledCells
   filled-some h = rw (eq-eqb (certificatesVerdict v s .number) 0 h)
 

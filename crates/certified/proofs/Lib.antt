@@ -2,3 +2,4 @@ pub mod WeightedLaws
 pub mod FilledLaws
 pub mod TotalLaws
 pub mod LookUpLaws
+pub mod FitLaws

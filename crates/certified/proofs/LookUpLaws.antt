@@ -8,23 +8,12 @@ use mathlib.Core.Bool.{Bool, true, false, cond, not}
 use mathlib.Core.List.{List, [], _∷_, map}
 use borrow.Author.Tests.{eq-eqb, ne-eqb, eqb-true}
 use lib.Dec.{eqb}
-use Rattle.lists.specs.Sums.{sum}
 use Rattle.lists.specs.Tables.{tableFrom, those}
-use Rattle.lists.proofs.EachLaws.{Each, each-lt}
-use Rattle.schedule.specs.Cells.{position, positions, positionAt, totalCell}
-use Rattle.schedule.proofs.CellLaws.{CellOf, balance-cell, coupon-cell, months-cell}
 use Rattle.certificates.specs.declared.Totals.{Totals}
 use Rattle.certificates.specs.declared.FormCell.{FormCell}
 use Rattle.certificates.specs.declared.CellValue.{CellValue}
-use Rattle.lists.specs.Ranges.{firstFrom}
-use Rattle.lists.specs.Ranges.{within}
-use Rattle.certificates.specs.Sums.{balanceAt, couponAt, monthsAt}
-use Rattle.certificates.specs.Cells.{isFilled, positionWith, formCell, formCells, isPresent, valueOf, cellValue, cellsOf}
-
--- what a list of cells says of cell n
-unfoldable pub valueIn : List CellValue → ℕ → ℕ
-valueIn [] n = 0
-valueIn (c ∷ cs) n = cond (eqb (c .cell) n) (c .value) (valueIn cs n)
+use Rattle.certified.specs.Fit.{valueIn}
+use Rattle.certificates.specs.Cells.{isFilled, formCell, formCells, isPresent, valueOf, cellValue, cellsOf}
 
 module _ (t : Totals) where
   -- what the cells among some numbers say of cell m
@@ -93,3 +82,15 @@ module _ (t : Totals) where
   pub value-filled : (m : ℕ) → 601 ≤ m → m < 646 → isFilled m ≡ true → valueIn (cellsOf t) m ≡ cond (isPresent t (formCell m)) (valueOf t (formCell m)) 0
   unfolding cellsOf formCells saying
   value-filled m l u f = saying-among m 601 45 l u f
+
+  -- a cell past the table is absent
+  saying-above : (m i n : ℕ) → i + n ≤ m → saying m (those isFilled (tableFrom i n (λ (k : ℕ). k))) ≡ 0
+  unfolding those tableFrom
+  saying-above m i zero h = saying-none m
+  saying-above m i (suc n) h =
+      saying-other m i (those isFilled (tableFrom (suc i) n (λ (k : ℕ). k))) (isFilled i) (λ e. omega arith)
+      ∙ saying-above m (suc i) n (omega arith)
+
+  pub value-past : (m : ℕ) → 646 ≤ m → valueIn (cellsOf t) m ≡ 0
+  unfolding cellsOf formCells saying
+  value-past m h = saying-above m 601 45 h
