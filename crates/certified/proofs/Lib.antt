@@ -1,5 +1,8 @@
+pub mod MoveLaws
 pub mod WeightedLaws
 pub mod FilledLaws
 pub mod TotalLaws
 pub mod LookUpLaws
 pub mod FitLaws
+pub mod DateCases
+pub mod CertificateCases

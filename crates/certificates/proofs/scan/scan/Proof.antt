@@ -96,8 +96,7 @@ unfolding verdictOf refused
 returns-2 c =
     let n = c .before .before .before .before .before .before in
     let own = n .before .before .before .certificate-at in
-    let over = rw (sum-tested (c .before .before .before)) at (c .if2 .taken) in
-    (
+    let over = rw (sum-tested (c .before .before .before)) at (c .if2 .taken) in (
       scan-over _ _ _ _ (n .before .before .before .before .before .loop .inv) (counted (n .before .before .before .before)) (own .result) (own .ensures) (own-none n) over,
       λ z. absurd (omega arith),
     )
