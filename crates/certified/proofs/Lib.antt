@@ -4,5 +4,7 @@ pub mod FilledLaws
 pub mod TotalLaws
 pub mod LookUpLaws
 pub mod FitLaws
+pub mod ByteLaws
+pub mod RecordRunLaws
 pub mod DateCases
 pub mod CertificateCases
