@@ -39,7 +39,7 @@ static uint64_t agree(struct input f)
 /* The library must know every kind of record that the plain versions know. */
 static void same_kinds(void)
 {
-    static const char *const with_kind[] = {"worst-tiers"};
+    static const char *const with_kind[] = {"worst-tiers", "worst-path"};
     static uint64_t list[LIST];
     uint64_t place;
     for (size_t i = 0; i < sizeof with_kind / sizeof with_kind[0]; i++) {
@@ -174,6 +174,7 @@ int main(int argc, char **argv)
     printf("%-16s%14s%14s%14s%12s%12s\n", "ns a filing", version_name[0], version_name[1], version_name[2], "proved/a", "proved/b");
     double whole = compare("worst");
     compare("worst-tiers");
+    compare("worst-path");
     compare("typical");
     compare("typical-tiers");
     compare("fullest");

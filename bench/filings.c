@@ -3,7 +3,7 @@
 #include <stdlib.h>
 #include <string.h>
 
-enum { CAPACITY = 4096, OWN_TIERS = 1 };
+enum { CAPACITY = 4096, OWN_TIERS = 1, PATH = 2 };
 
 static const unsigned balance_cell[9] = {601, 602, 603, 615, 616, 617, 631, 632, 641};
 static const unsigned coupon_cell[9] = {605, 606, 607, 619, 620, 621, 634, 635, 643};
@@ -66,6 +66,18 @@ static void put_rates(struct input *f, unsigned rate)
     for (unsigned i = 0; i < 3; i++) put(f, rate + 25 * i, 2);
 }
 
+/* Rates by month, each column's up by `step` a month from its own first, capped at 2,500. */
+static void put_path(struct input *f, unsigned first, unsigned step)
+{
+    put(f, 722, 2);
+    put(f, 5, 2);
+    for (unsigned j = 0; j < 3; j++)
+        for (unsigned i = 0; i < 120; i++) {
+            unsigned rate = first + 25 * j + step * i;
+            put(f, rate > 2500 ? 2500 : rate, 2);
+        }
+}
+
 struct tier {
     unsigned edge, withdrawal;
 };
@@ -93,7 +105,10 @@ static void put_high_tiers(struct input *f)
 static void put_sheets(struct input *f, unsigned yield, unsigned step, unsigned rate, int features)
 {
     put_yields(f, yield, step);
-    put_rates(f, rate);
+    if (features & PATH)
+        put_path(f, rate, 5);
+    else
+        put_rates(f, rate);
     if (features & OWN_TIERS) put_high_tiers(f);
 }
 
@@ -144,7 +159,7 @@ static struct input without_balances(struct input f)
 
 struct input named(const char *name)
 {
-    int features = strstr(name, "-tiers") != NULL ? OWN_TIERS : 0;
+    int features = (strstr(name, "-tiers") != NULL ? OWN_TIERS : 0) | (strstr(name, "-path") != NULL ? PATH : 0);
     if (strcmp(name, "no-balances") == 0) return without_balances(worst(name, 0));
     if (name[0] == 'w') return worst(name, features);
     if (name[0] == 't') return typical(name, features);
@@ -237,7 +252,9 @@ struct input any(void)
     }
     put_cells(&f, balance, months, below(1300), below(3601));
     put_yields(&f, (unsigned)below(600), (unsigned)below(18));
-    put_rates(&f, (unsigned)below(2400));
+    unsigned sheets = (unsigned)below(24);
+    if (sheets < 12) put_rates(&f, (unsigned)below(2400));
+    if (sheets > 10 && sheets < 23) put_path(&f, (unsigned)below(1800), (unsigned)below(4));
     if (below(2)) put_any_tiers(&f);
     shuffle(&f);
     if (below(5) == 0) f.bytes[below(f.size)] = (uint8_t)below(256);

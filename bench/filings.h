@@ -18,7 +18,8 @@ struct input {
  *   fullest      every listed cell with the longest records, shortest terms: no accepted filing is longer
  *   no-balances  the records of the worst filing with every balance 0: read and split, and no month priced
  *   refused      the fullest filing, then a cell a second time
- * The first two may end in -tiers: with sixteen tiers of its own, of which a retail month reaches only the lowest.
+ * The first two may end in -tiers: with sixteen tiers of its own, of which a retail month reaches only the lowest; and in -path: with retail rates
+ * that differ from month to month.
  */
 struct input named(const char *name);
 

@@ -73,8 +73,8 @@ uint64_t VALUE(const uint8_t *filing, size_t filing_length, uint64_t *numbers, s
         numbers[15 * i] = d.balance;
         for (int s = 0; s < 7; s++) {
             struct pair b = {PAR, PAR}, price = {0, 0};
-            uint64_t r = shifted(k.rate[d.column], s);
             for (int t = 1; d.balance != 0 && t <= d.months; t++) {
+                uint64_t r = shifted(k.rate[d.column][t - 1], s);
                 uint64_t q = survival(&k.tiers, brokered, (int64_t)d.coupon, (int64_t)d.penalty, (int64_t)r, d.months - t);
 #ifdef RECOMPUTE
                 struct pair df = discount(shifted(k.yield[t - 1], s), t);

@@ -15,11 +15,11 @@ struct tiers {
     uint64_t survival[17];
 };
 
-/* Cells 601 to 661 as filed, 0 where absent; yields and rates in hundredths of a percent a year. */
+/* Cells 601 to 661 as filed, 0 where absent; yields by month and retail rates by column and month, in hundredths of a percent a year. */
 struct contents {
     uint64_t cell[61];
     uint64_t yield[120];
-    uint64_t rate[3];
+    uint64_t rate[3][120];
     struct tiers tiers;
 };
 

@@ -60,6 +60,11 @@ def rates(values):
     return record(3, struct.pack("<3H", *values))
 
 
+def path(first, second, third):
+    """Retail rates by month, 120 of each column."""
+    return record(5, struct.pack("<360H", *first, *second, *third))
+
+
 def tiers(*pairs):
     """An institution's own tiers, each an edge in hundredths and an annual withdrawal in thousandths."""
     return counted_tiers(len(pairs), *pairs)
@@ -79,6 +84,11 @@ SHEETS = yields(flat(0)) + rates((0, 0, 0))
 
 def filing(values, curve=flat(0), retail=(0, 0, 0)):
     return cells(values) + yields(curve) + rates(retail)
+
+
+def path_filing(values, curve, *columns):
+    """The same with retail rates by month."""
+    return cells(values) + yields(curve) + path(*columns)
 
 
 def totalled(values):

@@ -11,6 +11,7 @@ pub enum Answer {
     RecordMisshapen(usize),
     CellUnlisted(usize),
     Repeated(usize),
+    PathBesideFlat(usize),
     OverLimit(usize),
     TiersUnsound(usize),
     // At the input's length.
@@ -37,6 +38,7 @@ pub fn number(answer: Answer) -> u64
         Answer::RecordMisshapen(_) => 2,
         Answer::CellUnlisted(_) => 3,
         Answer::Repeated(_) => 4,
+        Answer::PathBesideFlat(_) => 12,
         Answer::OverLimit(_) => 5,
         Answer::TiersUnsound(_) => 11,
         Answer::SheetMissing(_) => 6,
@@ -60,6 +62,7 @@ pub fn place(answer: Answer) -> usize
         Answer::RecordMisshapen(at) => at,
         Answer::CellUnlisted(at) => at,
         Answer::Repeated(at) => at,
+        Answer::PathBesideFlat(at) => at,
         Answer::OverLimit(at) => at,
         Answer::TiersUnsound(at) => at,
         Answer::SheetMissing(size) => size,

@@ -1,4 +1,4 @@
--- The verdict on one record, and what holds of a record that has none of the faults 1 to 5 and 11.
+-- The verdict on one record, and what holds of a record that has none of the faults 1 to 5, 11 and 12.
 -- Assumes nothing.
 use Prim.Native.Nat.{ℕ, suc, _+_, _*_, _≤_}
 use native.Mathlib.Omega.{arith}
@@ -16,15 +16,16 @@ use Rattle.records.specs.Kinds.{sheetOf, sheetKinds, sheetKind, sheetLength, ti
 use Rattle.records.proofs.ItemLaws.{OfSheet}
 use Rattle.bodies.specs.Bodies.{overLimit, unsoundTiers}
 use Rattle.bodies.proofs.BodyLaws.{neither, SoundTiers, value-within, numbers-within, tiers-load}
-use Rattle.faults.specs.Faults.{incomplete, misshapen, unlisted, repeated}
+use Rattle.faults.specs.Faults.{incomplete, misshapen, unlisted, repeated, pathBesideFlat}
 use Rattle.faults.specs.RecordVerdicts.{recordVerdict}
 
--- each of the tests 1 to 5 and 11 fails
+-- each of the tests fails
 pub record Faultless (s : List ℕ) (at : ℕ) : Type 0 where
   pub complete : incomplete s at ≡ false
   pub shaped : misshapen s at ≡ false
   pub listed : unlisted s at ≡ false
   pub single : repeated s at ≡ false
+  pub alone : pathBesideFlat s at ≡ false
   pub limited : overLimit s at ≡ false
   pub loaded : unsoundTiers s at ≡ false
 
@@ -59,10 +60,12 @@ module _ (s : List ℕ) (at : ℕ) where
       (firstRefusal
       (firstRefusal
       (firstRefusal
+      (firstRefusal
       (firstRefusal (refusedIf (incomplete s at) 1 at)
       (refusedIf (misshapen s at) 2 at))
       (refusedIf (unlisted s at) 3 at))
       (refusedIf (repeated s at) 4 at))
+      (refusedIf (pathBesideFlat s at) 12 at))
       (refusedIf (overLimit s at) 5 at))
       (refusedIf (unsoundTiers s at) 11 at)
   unfolding recordVerdict firstOf
@@ -100,13 +103,15 @@ module _ (s : List ℕ) (at : ℕ) where
       let h4 = first-none _ _ (h3 .1) in
       let h5 = first-none _ _ (h4 .1) in
       let h6 = first-none _ _ (h5 .1) in
+      let h7 = first-none _ _ (h6 .1) in
       record {
         complete = condition-fails (incomplete s at) 0 at (h1 .0);
         shaped = condition-fails (misshapen s at) 1 at (h2 .0);
         listed = condition-fails (unlisted s at) 2 at (h3 .0);
         single = condition-fails (repeated s at) 3 at (h4 .0);
-        limited = condition-fails (overLimit s at) 4 at (h5 .0);
-        loaded = condition-fails (unsoundTiers s at) 10 at (h6 .0);
+        alone = condition-fails (pathBesideFlat s at) 11 at (h5 .0);
+        limited = condition-fails (overLimit s at) 4 at (h6 .0);
+        loaded = condition-fails (unsoundTiers s at) 10 at (h7 .0);
       }
 
   pub faultless-sound : recordVerdict s at .number ≡ 0 → Sound s at

@@ -1,6 +1,6 @@
--- A record is repeated just where its item is noted among the records before it.
+-- A record is repeated just where its item is noted among the records before it, and a kind of sheet stands there just where it is noted.
 -- Assumes nothing.
-use Prim.Native.Nat.{ℕ, _-_, _≤_}
+use Prim.Native.Nat.{ℕ, _-_, _≤_, _<_}
 use native.Mathlib.Nat.{le-refl}
 use native.Mathlib.Omega.{arith}
 use mathlib.Core.Path.{_≡_, refl, sym, _∙_}
@@ -11,22 +11,27 @@ use lib.Dec.{ltb}
 use lib.ListN.{length, getD}
 use Rattle.records.specs.declared.items.Item.{Item}
 use Rattle.records.specs.declared.items.Item.the-variants.{Cell, Sheet, Nothing}
+use Rattle.records.specs.Kinds.{kindCount}
 use Rattle.records.specs.Items.{sameItem, recordItem, firstWith}
 use Rattle.records.specs.Inner.Notes.{firstCell, offsetBefore, notedBefore}
 use Rattle.records.proofs.ItemLaws.{same-nothing, record-of-cell, record-of-sheet}
 use Rattle.records.proofs.NoteLaws.{noted-cell, noted-sheet}
 use Rattle.records.proofs.RecordLaws.{first-passes}
-use Rattle.faults.specs.Faults.{repeated}
+use Rattle.faults.specs.Faults.{repeated, sheetBefore}
 
 module _ (s : List ℕ) where
-  -- an offset is noted for a record's item just where the record is repeated
-  offset-repeated : (at : ℕ) (item : Item) → at ≤ length s → recordItem s at ≡ item → ltb (offsetBefore s at item) (length s) ≡ repeated s at
-  unfolding offsetBefore repeated
-  offset-repeated at item l is = rw is (within (firstWith s item at) (ltb (firstWith s item at) at) refl)
+  -- an offset is noted for an item just where a record of it stands before
+  offset-noted : (at : ℕ) (item : Item) → at ≤ length s → ltb (offsetBefore s at item) (length s) ≡ ltb (firstWith s item at) at
+  unfolding offsetBefore
+  offset-noted at item l = within (firstWith s item at) (ltb (firstWith s item at) at) refl
     where
       within : (f : ℕ) (b : Bool) → ltb f at ≡ b → ltb (cond b f (length s)) (length s) ≡ b
       within f true e = lt-ltb f (length s) (omega (arith, ltb-true f at e))
       within f false e = le-ltb (length s) (length s) (le-refl (length s))
+
+  offset-repeated : (at : ℕ) (item : Item) → at ≤ length s → recordItem s at ≡ item → ltb (offsetBefore s at item) (length s) ≡ repeated s at
+  unfolding repeated
+  offset-repeated at item l is = rw is (offset-noted at item l)
 
   pub cell-repeated : (at cell : ℕ) → at ≤ length s → recordItem s at ≡ Cell cell
       → ltb (getD (notedBefore s at .cells) (cell - firstCell) 0) (length s) ≡ repeated s at
@@ -48,3 +53,8 @@ module _ (s : List ℕ) where
           absurd (true≢false (sym (first-passes s (λ (i : ℕ). sameItem (recordItem s i) Nothing) at (ltb-true (firstWith s Nothing at) at t))
           ∙ same-nothing (recordItem s (firstWith s Nothing at))))
       by false t = refl
+
+  -- what is noted of a kind of sheet
+  pub sheet-before : (at kind : ℕ) → at ≤ length s → kind < kindCount → ltb (getD (notedBefore s at .sheets) kind 0) (length s) ≡ sheetBefore s at kind
+  unfolding sheetBefore
+  sheet-before at kind l h = rw (noted-sheet s at kind h) (offset-noted at (Sheet kind) l)

@@ -1,12 +1,13 @@
--- What can be wrong with one record before its body is looked at: refusals 1 to 4 (01:31-34), in that order. Definitions only.
+-- What can be wrong with one record before its body is looked at: refusals 1 to 4 (01:31-34) and 12 (02:CR 3), in that order. Definitions only.
 use Prim.Native.Nat.{ℕ, _+_}
-use mathlib.Core.Bool.{Bool, not, _||_, _&&_}
+use mathlib.Core.Bool.{Bool, false, cond, not, _||_, _&&_}
 use mathlib.Core.List.{List}
 use lib.ListN.{length}
 use lib.Dec.{ltb, eqb}
 use Rattle.schedule.specs.Limits.{cellClass}
 use Rattle.records.specs.Records.{recordLength, recordKind, recordCell, nextRecord}
-use Rattle.records.specs.Kinds.{dueLength}
+use Rattle.records.specs.declared.items.Item.the-variants.{Sheet}
+use Rattle.records.specs.Kinds.{flatRatesKind, ratePathKind, dueLength}
 use Rattle.records.specs.Items.{recordItem, firstWith}
 
 -- 1: the record runs past the end, its length or itself, or its length is below 2
@@ -24,3 +25,13 @@ unlisted s at = eqb (recordKind s at) 1 && eqb (cellClass (recordCell s at)) 0
 -- 4: the cell, or the kind of sheet, stands in an earlier record
 unfoldable pub repeated : List ℕ → ℕ → Bool
 repeated s at = ltb (firstWith s (recordItem s at) at) at
+
+-- a sheet of a kind stands in an earlier record
+unfoldable pub sheetBefore : List ℕ → ℕ → ℕ → Bool
+sheetBefore s at kind = ltb (firstWith s (Sheet kind) at) at
+
+-- 12: retail rates by month beside flat ones, at the later record
+unfoldable pub pathBesideFlat : List ℕ → ℕ → Bool
+pathBesideFlat s at =
+    cond (eqb (recordKind s at) flatRatesKind) (sheetBefore s at ratePathKind)
+    (cond (eqb (recordKind s at) ratePathKind) (sheetBefore s at flatRatesKind) false)

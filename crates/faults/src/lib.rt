@@ -1,4 +1,4 @@
-// The faults of one record: refusals 1 to 5 and 11, in the paper's order. Those of its body stand in `bodies`.
+// The faults of one record: refusals 1 to 4, 12, 5 and 11, in the paper's order. Those of its body stand in `bodies`.
 use answers::Answer;
 use answers::first_refusal;
 use bodies::limits::over_limit;
@@ -10,6 +10,8 @@ use records::fields::record_length;
 use records::items::Item;
 use records::items::Noted;
 use records::items::record_item;
+use records::kinds::FLAT_RATES_KIND;
+use records::kinds::RATE_PATH_KIND;
 use records::kinds::due_length;
 use schedule::tables::cell_class;
 ghost use mathlib.Core.Path.{_≡_};
@@ -30,7 +32,12 @@ pub fn check_record(s: &[u8], at: usize, noted: Noted) -> Answer
     let shape = or_refused(end, misshapen(s, at), Answer::RecordMisshapen(at));
     let listing = or_refused(shape, unlisted(s, at), Answer::CellUnlisted(at));
     let repetition = or_refused(listing, repeated(s, at, noted), Answer::Repeated(at));
-    let limit = or_refused(repetition, over_limit(s, at), Answer::OverLimit(at));
+    let path = or_refused(
+        repetition,
+        path_beside_flat(s, at, noted),
+        Answer::PathBesideFlat(at),
+    );
+    let limit = or_refused(path, over_limit(s, at), Answer::OverLimit(at));
     or_refused(limit, unsound_tiers(s, at), Answer::TiersUnsound(at))
 }
 
@@ -87,4 +94,19 @@ fn repeated(s: &[u8], at: usize, noted: Noted) -> bool
         Item::Sheet(kind) => noted.sheets[kind] < s.len(),
         Item::Nothing => false,
     }
+}
+
+// 12: retail rates by month beside flat ones.
+fn path_beside_flat(s: &[u8], at: usize, noted: Noted) -> bool
+    requires { ⌜ (at ≤ length (now s)) × (noted ≡ notedBefore (now s) at) ⌝ }
+    ensures { λ r. ⌜ r ≡ faults.pathBesideFlat (now (s .entry)) at ⌝ }
+{
+    let kind = record_kind(s, at);
+    if kind == FLAT_RATES_KIND {
+        return noted.sheets[RATE_PATH_KIND] < s.len();
+    }
+    if kind == RATE_PATH_KIND {
+        return noted.sheets[FLAT_RATES_KIND] < s.len();
+    }
+    false
 }

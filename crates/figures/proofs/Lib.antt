@@ -1,2 +1,5 @@
+pub mod Filings
 pub mod StarredProved
 pub mod RefusalCases
+pub mod RequestCases
+pub mod TierCases

@@ -1,66 +1,29 @@
 -- Closed cases of what a filing says and of the verdict on it, so that a wrong clause of a definition breaks a case: the small examples of the table
 -- (01:28-39), the shortest inputs, each limit and the number after it, the tiers (02:CR 1), the order of the tests, and accepted filings. Each is computed.
 -- Assumes nothing.
-use Prim.Native.Nat.{ℕ, zero, suc, _+_, _-_, _*_, _^_, _%_, _/_}
+use Prim.Native.Nat.{ℕ, _+_, _-_, _^_}
 use mathlib.Core.Path.{_≡_, refl}
 use mathlib.Core.List.{List, [], _∷_, _++_, map}
-use lib.ListN.{length, getD}
+use lib.ListN.{getD}
 use Rattle.lists.specs.Sums.{sum}
 use Rattle.lists.specs.Tables.{tableFrom, those, contains, joined, anyBelow}
 use Rattle.schedule.specs.Cells.{position, positions, inColumn, withinRow, brokeredCell, penaltyBalanceCell, penaltyMonthsCell, unusedCells}
 use Rattle.schedule.specs.Limits.{cellClass, classLimit}
-use Rattle.answers.specs.Verdict.{Verdict, accepted, refused, refusedIf, firstRefusal, firstOf, listVerdict}
+use Rattle.schedule.specs.Shift.{pathRate}
+use Rattle.answers.specs.Verdict.{accepted, refused, refusedIf, firstRefusal, firstOf, listVerdict}
 use Rattle.records.specs.Bytes.{numberAt}
 use Rattle.records.specs.Records.{nextRecord, searchRecords, firstRecord}
 use Rattle.records.specs.Kinds.{sheetOf, sheetKinds, sheetKind, sheetLength, dueLength}
 use Rattle.records.specs.Items.{sameItem, recordItem, firstWith}
 use Rattle.bodies.specs.Bodies.{numberOver, overLimit, unfitTier, unsoundTiers}
-use Rattle.faults.specs.Faults.{incomplete, repeated}
+use Rattle.faults.specs.Faults.{incomplete, repeated, sheetBefore, pathBesideFlat}
 use Rattle.faults.specs.RecordVerdicts.{firstFaulty, recordVerdict, recordsVerdict}
 use Rattle.filing.specs.declared.Contents.{Contents}
-use Rattle.conditions.specs.Conditions.{cellIn}
-use Rattle.filing.specs.Contents.{cellOffset, cellValue, sheetOffset, tierNumber, tiersAt, contentsOf, cell, cdYield, retailRate}
-use Rattle.conditions.specs.Conditions.{monthsOutside, columnBalances, balances, aboveColumn, totalDiffers}
-use Rattle.filing.specs.Verdict.{sheetMissing}
+use Rattle.figures.proofs.Filings.{bytes, filed, yieldSheet, rateSheet, tierSheet, complete, Case, gives}
+use Rattle.conditions.specs.Conditions.{cellIn, monthsOutside, columnBalances, balances, aboveColumn, totalDiffers}
+use Rattle.filing.specs.Contents.{cellOffset, cellValue, sheetOffset, rateNumber, tierNumber, tiersAt, contentsOf, cell, cdYield, retailRate}
+use Rattle.filing.specs.Verdict.{sheetMissing, sheetVerdict, filingVerdict}
 use Rattle.conditions.specs.CellVerdicts.{positionVerdict, monthsVerdict, columnVerdict, columnsVerdict, totalVerdict, cellsVerdict}
-use Rattle.filing.specs.Verdict.{sheetVerdict, filingVerdict}
-
--- n bytes of a number, the least first
-abbrev bytes : ℕ → ℕ → List ℕ
-bytes zero x = []
-bytes (suc n) x = (x % 256) ∷ bytes n (x / 256)
-
--- the records of cells, each with its value
-abbrev filed : List (ℕ × ℕ) → List ℕ
-filed [] = []
-filed (c ∷ cs) = bytes 2 12 ++ bytes 2 1 ++ bytes 2 (c .0) ++ bytes 8 (c .1) ++ filed cs
-
--- the sheets, with the rate of a month and of a column
-abbrev yieldSheet : (ℕ → ℕ) → List ℕ
-yieldSheet rate = bytes 2 242 ++ bytes 2 2 ++ joined (tableFrom 1 120 (λ (t : ℕ). bytes 2 (rate t)))
-
-abbrev rateSheet : (ℕ → ℕ) → List ℕ
-rateSheet rate = bytes 2 8 ++ bytes 2 3 ++ joined (tableFrom 1 3 (λ (j : ℕ). bytes 2 (rate j)))
-
--- a record of tiers, each an edge and a withdrawal
-abbrev pairs : List (ℕ × ℕ) → List ℕ
-pairs [] = []
-pairs (x ∷ xs) = bytes 2 (x .0) ++ bytes 2 (x .1) ++ pairs xs
-
-abbrev tierSheet : List (ℕ × ℕ) → List ℕ
-tierSheet xs = bytes 2 (4 + 4 * length xs) ++ bytes 2 4 ++ bytes 2 (length xs) ++ pairs xs
-
--- a filing of cells with both sheets, which take 254 bytes
-abbrev complete : List (ℕ × ℕ) → List ℕ
-complete cells = yieldSheet (λ (t : ℕ). 10 * t) ++ rateSheet (λ (j : ℕ). 100 * j) ++ filed cells
-
--- a filing and the verdict on it
-record Case : Type 0 where
-  input : List ℕ
-  verdict : Verdict
-
-abbrev gives : List ℕ → Verdict → Case
-gives s v = record { input = s; verdict = v }
 
 -- 1 and 2: the shortest inputs, a length below 2, a record that runs past the end, and a length that is not the kind's
 abbrev shape-cases : List Case
@@ -209,7 +172,7 @@ cases = shape-cases ++ cell-cases ++ sheet-cases ++ tier-cases ++ months-cases +
 
 -- every case holds
 verdicts-hold : map (λ (c : Case). filingVerdict (c .input)) cases ≡ map (λ (c : Case). c .verdict) cases
-unfolding numberAt nextRecord searchRecords firstRecord sheetOf sheetKinds sheetKind sheetLength dueLength sameItem recordItem firstWith incomplete repeated anyBelow numberOver overLimit unfitTier unsoundTiers cellClass classLimit contains position positions brokeredCell penaltyBalanceCell penaltyMonthsCell unusedCells firstFaulty sheetOffset sheetMissing filingVerdict refused cellOffset cellValue contentsOf tiersAt tierNumber cellIn monthsOutside columnBalances balances aboveColumn totalDiffers sum those inColumn withinRow sheetVerdict positionVerdict monthsVerdict columnVerdict columnsVerdict totalVerdict cellsVerdict recordVerdict recordsVerdict accepted refusedIf firstRefusal firstOf tableFrom joined
+unfolding numberAt nextRecord searchRecords firstRecord sheetOf sheetKinds sheetKind sheetLength dueLength sameItem recordItem firstWith incomplete repeated sheetBefore pathBesideFlat anyBelow numberOver overLimit unfitTier unsoundTiers cellClass classLimit contains position positions brokeredCell penaltyBalanceCell penaltyMonthsCell unusedCells firstFaulty sheetOffset sheetMissing filingVerdict refused cellOffset cellValue contentsOf rateNumber tiersAt tierNumber cellIn monthsOutside columnBalances balances aboveColumn totalDiffers sum those inColumn withinRow sheetVerdict positionVerdict monthsVerdict columnVerdict columnsVerdict totalVerdict cellsVerdict recordVerdict recordsVerdict accepted refusedIf firstRefusal firstOf tableFrom joined
 verdicts-hold = refl
 
 -- what a filing says: cells that are present and absent, the ends of the yields and of the rates, and reads beyond them
@@ -218,11 +181,11 @@ sample = contentsOf (complete ((601, 10) ∷ (661, 20) ∷ []) ++ tierSheet ((0,
 
 contents-hold :
     cell sample 600 ∷ cell sample 601 ∷ cell sample 602 ∷ cell sample 661 ∷ cell sample 662
-    ∷ cdYield sample 1 ∷ cdYield sample 120 ∷ cdYield sample 121 ∷ retailRate sample 1
-    ∷ retailRate sample 3 ∷ sample .tiers .count ∷ getD (sample .tiers .edges) 1 0 ∷ getD (sample .tiers .withdrawals) 0 0
+    ∷ cdYield sample 1 ∷ cdYield sample 120 ∷ cdYield sample 121 ∷ retailRate sample 1 1
+    ∷ retailRate sample 3 120 ∷ sample .tiers .count ∷ getD (sample .tiers .edges) 1 0 ∷ getD (sample .tiers .withdrawals) 0 0
     ∷ getD (sample .tiers .withdrawals) 2 0 ∷ []
     ≡ 0 ∷ 10 ∷ 0 ∷ 20 ∷ 0 ∷ 10 ∷ 1200 ∷ 0 ∷ 100 ∷ 300 ∷ 2 ∷ 100 ∷ 40 ∷ 0 ∷ []
-unfolding numberAt nextRecord searchRecords firstRecord sheetOf sheetKinds sheetKind sheetLength dueLength sameItem recordItem firstWith cellClass contains position positions brokeredCell penaltyBalanceCell penaltyMonthsCell unusedCells cellOffset cellValue sheetOffset contentsOf tiersAt tierNumber cellIn cdYield retailRate tableFrom joined
+unfolding numberAt nextRecord searchRecords firstRecord sheetOf sheetKinds sheetKind sheetLength dueLength sameItem recordItem firstWith cellClass contains position positions brokeredCell penaltyBalanceCell penaltyMonthsCell unusedCells cellOffset cellValue sheetOffset contentsOf tiersAt tierNumber cellIn cdYield pathRate rateNumber tableFrom joined
 contents-hold = refl
 
 -- 10 comes before the verdict on the filing, at the list's length

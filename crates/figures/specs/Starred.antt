@@ -14,13 +14,13 @@ use Rattle.pricing.specs.Rounding.{down, up}
 use Rattle.pricing.specs.Run.{priceBy, valueBy}
 use Rattle.deposits.specs.DepositTerms.{termsOf}
 
--- the terms of a deposit with coupon c, penalty p, retail rate r and T months, under the house's tiers
-unfoldable pub houseTerms : Bool → (c p r T : ℕ) → Terms
-houseTerms isBrokered c p r T = termsOf houseTiers (record { brokered = isBrokered; coupon = c; penalty = p; months = T }) r
-
--- one yield in every month
+-- one yield, or one retail rate, in every month
 unfoldable pub flat : ℕ → ℕ → ℕ
 flat z month = z
+
+-- the terms of a deposit with coupon c, penalty p, retail rate r and T months, under the house's tiers
+unfoldable pub houseTerms : Bool → (c p r T : ℕ) → Terms
+houseTerms isBrokered c p r T = termsOf houseTiers (record { brokered = isBrokered; coupon = c; penalty = p; months = T }) (flat r)
 
 pub record StarredFigures : Type 0 where
   -- balances 100, 50, 0, brokered 31

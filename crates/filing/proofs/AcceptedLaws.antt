@@ -1,47 +1,67 @@
 -- What an accepted filing says is valid.
 -- Assumes nothing.
-use Prim.Native.Nat.{ℕ, _-_, _≤_, _<_}
+use Prim.Native.Nat.{ℕ, _+_, _-_, _*_, _/_, _≤_, _<_}
 use native.Mathlib.Omega.{arith}
+use mathlib.Core.Path.{_≡_, refl, sym, _∙_}
+use mathlib.Core.Bool.{Bool, true, false, cond, _&&_}
 use mathlib.Core.List.{List}
-use borrow.Author.Tests.{leb-false}
-use lib.Dec.{leb, lit<}
+use borrow.Author.Tests.{leb-false, le-leb, ltb-true, ltb-false}
+use lib.Dec.{leb, ltb, lit<}
 use lib.ListN.{length}
 use Rattle.lists.specs.Sums.{sum}
 use Rattle.lists.proofs.TableLaws.{table-le}
 use Rattle.schedule.specs.Cells.{positionAt, brokeredCell, penaltyBalanceCell, penaltyMonthsCell}
-use Rattle.schedule.specs.Limits.{classLimit, rateLimit}
+use Rattle.schedule.specs.Limits.{classLimit, monthsLimit, rateLimit}
+use Rattle.schedule.specs.Shift.{pathRate}
 use Rattle.schedule.proofs.CellLaws.{coupon-cell, months-cell, penalty-months-cell}
 use Rattle.records.specs.Records.{sheetNumber}
-use Rattle.records.specs.Kinds.{sheetOf, sheetKinds, sheetKind}
+use Rattle.records.specs.Kinds.{flatRatesKind, ratePathKind, sheetOf, sheetKinds, sheetKind}
 use Rattle.bodies.proofs.BodyLaws.{neither}
-use Rattle.filing.specs.Contents.{sheetOffset, contentsOf, cell, cdYield, retailRate}
+use Rattle.filing.specs.Contents.{sheetOffset, rateCount, rateNumber, contentsOf, cell, cdYield, retailRate}
 use Rattle.conditions.specs.Conditions.{columnBalances}
 use Rattle.filing.specs.Verdict.{sheetMissing, Accepted}
 use Rattle.filing.specs.Valid.{Valid}
 use Rattle.conditions.proofs.SumLaws.{by-column}
-use Rattle.filing.proofs.SoundLaws.{cell-within, balances-within, sheet-limit, tier-count-within, tier-withdrawal-within}
+use Rattle.filing.proofs.SoundLaws.{cell-within, balances-within, sheet-limit, tier-count-within, tier-edges-rise, tier-withdrawal-within}
 use Rattle.filing.proofs.VerdictLaws.{accepted-passed}
 use Rattle.conditions.proofs.CellVerdictLaws.{months-hold, column-holds, total-holds}
 
 module _ (s : List ℕ) (a : Accepted s) where
-  -- both sheets are present
-  sheets-present : (sheetOffset s 2 < length s) × (sheetOffset s 3 < length s)
+  -- the yields are present, and so are the rates that no path replaces
+  missing : (leb (length s) (sheetOffset s 2) ≡ false) × ((leb (length s) (sheetOffset s flatRatesKind) && leb (length s) (sheetOffset s ratePathKind)) ≡ false)
   unfolding sheetMissing
-  sheets-present =
-      let missing = neither (leb (length s) (sheetOffset s 2)) (leb (length s) (sheetOffset s 3)) (accepted-passed s a .none-missing) in
-      (leb-false (length s) (sheetOffset s 2) (missing .0), leb-false (length s) (sheetOffset s 3) (missing .1))
+  missing = neither (leb (length s) (sheetOffset s 2)) _ (accepted-passed s a .none-missing)
+
+  flat-present : length s ≤ sheetOffset s ratePathKind → sheetOffset s flatRatesKind < length s
+  flat-present h = leb-false (length s) (sheetOffset s flatRatesKind) (first-false _ (missing .1))
+    where
+      first-false : (b : Bool) → (b && leb (length s) (sheetOffset s ratePathKind)) ≡ false → b ≡ false
+      first-false true e = sym (le-leb (length s) (sheetOffset s ratePathKind) h) ∙ e
+      first-false false e = refl
+
+  limit : (kind : ℕ) → sheetOffset s kind < length s
+      → (i : ℕ) → 1 ≤ i → i ≤ sheetKind kind .numbers → sheetNumber s (sheetOffset s kind) i ≤ sheetKind kind .limit
+  limit = sheet-limit s (accepted-passed s a .none-faulty)
 
   yield-within : (t : ℕ) → cdYield (contentsOf s) t ≤ rateLimit
   unfolding cdYield contentsOf sheetOf sheetKinds sheetKind
   yield-within t =
       table-le 1 120 (sheetNumber s (sheetOffset s 2)) rateLimit
-      (λ j l u. sheet-limit s (accepted-passed s a .none-faulty) 2 (sheets-present .0) j l (omega arith)) (t - 1)
+      (λ j l u. limit 2 (leb-false (length s) (sheetOffset s 2) (missing .0)) j l (omega arith)) (t - 1)
 
-  rate-within : (j : ℕ) → retailRate (contentsOf s) j ≤ rateLimit
-  unfolding retailRate contentsOf sheetOf sheetKinds sheetKind
-  rate-within j =
-      table-le 1 3 (sheetNumber s (sheetOffset s 3)) rateLimit
-      (λ j l u. sheet-limit s (accepted-passed s a .none-faulty) 3 (sheets-present .1) j l (omega arith)) (j - 1)
+  number-within : (i : ℕ) → i < rateCount → rateNumber s i ≤ rateLimit
+  unfolding rateNumber sheetOf sheetKinds sheetKind
+  number-within i h = by (ltb (sheetOffset s ratePathKind) (length s)) refl
+    where
+      by : (b : Bool) → ltb (sheetOffset s ratePathKind) (length s) ≡ b
+          → cond b (sheetNumber s (sheetOffset s ratePathKind) (i + 1)) (sheetNumber s (sheetOffset s flatRatesKind) (i / monthsLimit + 1)) ≤ rateLimit
+      by true e = limit ratePathKind (ltb-true (sheetOffset s ratePathKind) (length s) e) (i + 1) (omega arith) (omega arith)
+      by false e =
+          limit flatRatesKind (flat-present (ltb-false (sheetOffset s ratePathKind) (length s) e)) (i / monthsLimit + 1) (omega arith) (omega arith)
+
+  rate-within : (j t : ℕ) → retailRate (contentsOf s) j t ≤ rateLimit
+  unfolding pathRate contentsOf
+  rate-within j t = table-le 0 rateCount (rateNumber s) rateLimit (λ i l u. number-within i (omega arith)) (monthsLimit * (j - 1) + (t - 1))
 
   -- what an accepted filing says is valid
   pub accepted-valid : Valid (contentsOf s)
@@ -49,14 +69,14 @@ module _ (s : List ℕ) (a : Accepted s) where
   accepted-valid =
       let k = contentsOf s in
       let passed = accepted-passed s a in
-      let limit = cell-within s (passed .none-faulty) in
+      let within = cell-within s (passed .none-faulty) in
       let column = column-holds (k .cells) (passed .cells) in
       record {
         balance-limit = balances-within s (passed .none-faulty);
-        coupon-limit = λ i h. limit (positionAt i .coupon) 2 (coupon-cell i h);
-        months-limit = λ i h. limit (positionAt i .months) 3 (months-cell i h);
+        coupon-limit = λ i h. within (positionAt i .coupon) 2 (coupon-cell i h);
+        months-limit = λ i h. within (positionAt i .months) 3 (months-cell i h);
         months-in-row = months-hold (k .cells) (passed .cells);
-        penalty-limit = λ j l u. limit (penaltyMonthsCell j) 5 (penalty-months-cell j l u);
+        penalty-limit = λ j l u. within (penaltyMonthsCell j) 5 (penalty-months-cell j l u);
         brokered-within =
             by-column (λ (j : ℕ). cell k (brokeredCell j) ≤ sum (columnBalances (k .cells) j)) (column 0 (lit< tt)) (column 1 (lit< tt)) (column 2 (lit< tt));
         penalized-within =
@@ -65,5 +85,6 @@ module _ (s : List ℕ) (a : Accepted s) where
         yield-limit = yield-within;
         rate-limit = rate-within;
         tier-count-limit = tier-count-within s (passed .none-faulty);
+        edges-rise = tier-edges-rise s (passed .none-faulty);
         withdrawal-limit = tier-withdrawal-within s (passed .none-faulty);
       }

@@ -1,13 +1,14 @@
--- What a filing says: its cells, its CD yields, its retail rates (01:6-11) and its tiers (02:CR 1). Definitions only.
-use Prim.Native.Nat.{ℕ, _+_, _*_, _-_}
+-- What a filing says: its cells, its CD yields, its retail rates (01:6-11; by month, 02:CR 3) and its tiers (02:CR 1). Definitions only.
+use Prim.Native.Nat.{ℕ, _+_, _*_, _-_, _/_}
 use mathlib.Core.Bool.{cond}
 use mathlib.Core.List.{List}
 use lib.ListN.{length, getD}
 use lib.Dec.{ltb}
 use Rattle.lists.specs.Tables.{table, tableFrom}
-use Rattle.schedule.specs.Limits.{tierLimit}
+use Rattle.schedule.specs.Limits.{monthsLimit, tierLimit}
+use Rattle.schedule.specs.Shift.{pathRate}
 use Rattle.records.specs.Records.{recordValue, sheetNumber, tierCount}
-use Rattle.records.specs.Kinds.{tiersKind}
+use Rattle.records.specs.Kinds.{flatRatesKind, tiersKind, ratePathKind}
 use Rattle.records.specs.declared.items.Item.the-variants.{Cell, Sheet}
 use Rattle.records.specs.Items.{firstWith}
 use Rattle.conditions.specs.Conditions.{cellIn}
@@ -26,6 +27,17 @@ cellValue s n = cond (ltb (cellOffset s n) (length s)) (recordValue s (cellOffse
 unfoldable pub sheetOffset : List ℕ → ℕ → ℕ
 sheetOffset s kind = firstWith s (Sheet kind) (length s)
 
+-- how many retail rates a filing says: three columns of 120 months
+abbrev pub rateCount : ℕ
+rateCount = 360
+
+-- the i-th retail rate, from 0, column by column (02:CR 3): the number of kind 5, or, where there is none, the flat rate of kind 3 in each month of its
+-- column, hundredths of a percent a year
+unfoldable pub rateNumber : List ℕ → ℕ → ℕ
+rateNumber s i =
+    cond (ltb (sheetOffset s ratePathKind) (length s)) (sheetNumber s (sheetOffset s ratePathKind) (i + 1))
+    (sheetNumber s (sheetOffset s flatRatesKind) (i / monthsLimit + 1))
+
 -- of a record of kind 4 with `count` tiers (02:CR 1): every second number from `first` on, one for the i-th tier, from 0; 0 past the last tier
 unfoldable pub tierNumber : List ℕ → ℕ → ℕ → ℕ → ℕ → ℕ
 tierNumber s at count first i = cond (ltb i count) (sheetNumber s at (first + 2 * i)) 0
@@ -40,13 +52,13 @@ tiersAt s at =
       withdrawals = table tierLimit (tierNumber s at (tierCount s at) 3);
     }
 
--- the cells from 601 on, the yields of kind 2 by month from 1 on, the retail rates of kind 3 by column from 1 on, the tiers of kind 4
+-- the cells from 601 on, the yields of kind 2 by month from 1 on, the retail rates of kinds 3 and 5 column by column, the tiers of kind 4
 unfoldable pub contentsOf : List ℕ → Contents
 contentsOf s =
     record {
       cells = tableFrom 601 61 (cellValue s);
       yields = tableFrom 1 120 (sheetNumber s (sheetOffset s 2));
-      rates = tableFrom 1 3 (sheetNumber s (sheetOffset s 3));
+      rates = table rateCount (rateNumber s);
       tiers = tiersAt s (sheetOffset s tiersKind);
     }
 
@@ -58,6 +70,6 @@ cell k n = cellIn (k .cells) n
 unfoldable pub cdYield : Contents → ℕ → ℕ
 cdYield k month = getD (k .yields) (month - 1) 0
 
--- the retail rate of a column, 1 to 3, hundredths of a percent a year
-unfoldable pub retailRate : Contents → ℕ → ℕ
-retailRate k column = getD (k .rates) (column - 1) 0
+-- the retail rate of a column, 1 to 3, in a month, 1 to 120, hundredths of a percent a year
+abbrev pub retailRate : Contents → ℕ → ℕ → ℕ
+retailRate k column month = pathRate (k .rates) column month

@@ -6,14 +6,18 @@ use records::fields::record_value;
 use records::fields::sheet_number;
 use records::fields::tier_count;
 use records::items::Noted;
+use records::kinds::FLAT_RATES_KIND;
+use records::kinds::RATE_PATH_KIND;
+use records::kinds::TIERS_KIND;
 ghost use mathlib.Core.Path.{_≡_};
 ghost use Prim.Native.Nat.{_≤_, _<_};
 ghost use lib.ListN.{length};
 ghost use Rattle.lists.specs.Tables.{table, tableFrom};
 ghost use Rattle.schedule.specs.Limits.{tierLimit};
 ghost use Rattle.records.specs.Records.{sheetNumber};
+ghost use Rattle.records.specs.Kinds.{flatRatesKind, ratePathKind};
 ghost use Rattle.records.specs.Inner.Notes.{notedBefore};
-ghost use Rattle.filing.specs.Contents.{tierNumber, tiersAt, contentsOf};
+ghost use Rattle.filing.specs.Contents.{sheetOffset, rateCount, rateNumber, tierNumber, tiersAt, contentsOf};
 
 // What a filing says, from where all its records stand.
 pub(crate) fn contents_of(s: &[u8], noted: Noted) -> Contents
@@ -23,9 +27,12 @@ pub(crate) fn contents_of(s: &[u8], noted: Noted) -> Contents
     let cells = cell_values(s, &noted.cells);
     let mut yields = [0; 120];
     fill_numbers(s, noted.sheets[2], &mut yields);
-    let mut rates = [0; 3];
-    fill_numbers(s, noted.sheets[3], &mut rates);
-    let tiers = tiers_at(s, noted.sheets[4]);
+    let rates = rate_numbers(
+        s,
+        noted.sheets[FLAT_RATES_KIND],
+        noted.sheets[RATE_PATH_KIND],
+    );
+    let tiers = tiers_at(s, noted.sheets[TIERS_KIND]);
     Contents {
         cells,
         yields,
@@ -56,6 +63,33 @@ fn fill_numbers(s: &[u8], at: usize, numbers: &mut [u16])
     while i < numbers.len() {
         numbers[i] = sheet_number(s, at, i + 1);
         i += 1;
+    }
+}
+
+// The retail rates column by column, by the sheets of flat ones and of those by month.
+fn rate_numbers(s: &[u8], flat: usize, path: usize) -> [u16; 360]
+    requires { ⌜ (flat ≡ sheetOffset (now s) flatRatesKind) × (path ≡ sheetOffset (now s) ratePathKind) ⌝ }
+    ensures { λ r. ⌜ r ≡ contentsOf (now (s .entry)) .rates ⌝ }
+{
+    let mut rates = [0; 360];
+    let mut i = 0;
+    while i < 360 {
+        rates[i] = rate_number(s, flat, path, i);
+        i += 1;
+    }
+    rates
+}
+
+// The i-th retail rate, from 0: without rates by month, the flat one of its column.
+fn rate_number(s: &[u8], flat: usize, path: usize, i: usize) -> u16
+    requires { ⌜ (flat ≡ sheetOffset (now s) flatRatesKind) × (path ≡ sheetOffset (now s) ratePathKind) ⌝ }
+    requires { ⌜ i < rateCount ⌝ }
+    ensures { λ r. ⌜ r ≡ rateNumber (now (s .entry)) i ⌝ }
+{
+    if path < s.len() {
+        sheet_number(s, path, i + 1)
+    } else {
+        sheet_number(s, flat, i / 120 + 1)
     }
 }
 

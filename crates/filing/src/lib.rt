@@ -66,12 +66,12 @@ fn refusal(answer: Answer) -> Reading
     Reading { answer, contents }
 }
 
-// What an accepted filing says: the values of cells 601 to 661, the CD yields of months 1 to 120, the retail rates of columns 1 to 3, and its tiers of
-// annual withdrawal. Cells are in their own units, yields and rates in hundredths of a percent a year.
+// What an accepted filing says: the values of cells 601 to 661, the CD yields of months 1 to 120, the retail rates of months 1 to 120 column by column, and
+// its tiers of annual withdrawal. Cells are in their own units, yields and rates in hundredths of a percent a year.
 pub struct Contents {
     pub cells: [u64; 61],
     pub yields: [u16; 120],
-    pub rates: [u16; 3],
+    pub rates: [u16; 360],
     pub tiers: FiledTiers,
 }
 

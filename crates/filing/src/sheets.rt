@@ -1,6 +1,8 @@
 // The sheets that a filing must have: refusal 6.
 use answers::Answer;
 use records::KINDS;
+use records::kinds::FLAT_RATES_KIND;
+use records::kinds::RATE_PATH_KIND;
 ghost use mathlib.Core.Path.{_≡_};
 ghost use lib.ListN.{length};
 ghost use Rattle.answers.specs.Answers.{verdictOf};
@@ -15,8 +17,11 @@ pub(crate) fn check_sheets(s: &[u8], sheets: &[usize; KINDS]) -> Answer
     if s.len() <= sheets[2] {
         return Answer::SheetMissing(s.len());
     }
-    if s.len() <= sheets[3] {
-        return Answer::SheetMissing(s.len());
+    if sheets[FLAT_RATES_KIND] < s.len() {
+        return Answer::Accepted;
     }
-    Answer::Accepted
+    if sheets[RATE_PATH_KIND] < s.len() {
+        return Answer::Accepted;
+    }
+    Answer::SheetMissing(s.len())
 }

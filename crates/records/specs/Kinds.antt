@@ -1,4 +1,4 @@
--- The kinds of record (01:7-9; 02:CR 1): what a sheet of each kind holds, and the length that a record is to have. Definitions only.
+-- The kinds of record (01:7-9; 02:CR 1, CR 3): what a sheet of each kind holds, and the length that a record is to have. Definitions only.
 use Prim.Native.Nat.{ℕ, _+_, _*_}
 use mathlib.Core.Bool.{cond}
 use mathlib.Core.List.{List, [], _∷_}
@@ -10,14 +10,14 @@ use Rattle.records.specs.Records.{recordKind, tierCount}
 
 -- the kinds are below this number
 abbrev pub kindCount : ℕ
-kindCount = 5
+kindCount = 6
 
 -- a sheet of so many numbers, 2 bytes each, up to a limit
 unfoldable pub sheetOf : ℕ → ℕ → SheetKind
 sheetOf numbers limit = record { numbers = numbers; limit = limit }
 
--- The sheets by kind (01:8-9, 01:24): 2, the CD yields of months 1 to 120; 3, the retail rates of columns 1 to 3. A kind that is no sheet holds
--- no number
+-- The sheets by kind (01:8-9, 01:24; 02:CR 3): 2, the CD yields of months 1 to 120; 3, the flat retail rates of columns 1 to 3; 5, the retail rates of
+-- months 1 to 120, column by column. A kind that is no sheet holds no number
 unfoldable pub sheetKinds : List SheetKind
 sheetKinds =
     sheetOf 0 0
@@ -25,6 +25,7 @@ sheetKinds =
     ∷ sheetOf 120 rateLimit
     ∷ sheetOf 3 rateLimit
     ∷ sheetOf 0 0
+    ∷ sheetOf 360 rateLimit
     ∷ []
 
 unfoldable pub sheetKind : ℕ → SheetKind
@@ -33,6 +34,13 @@ sheetKind kind = getD sheetKinds kind (sheetOf 0 0)
 -- the length of a sheet, bytes: its kind and its numbers; 0, which no complete record has, where the kind is no sheet
 unfoldable pub sheetLength : ℕ → ℕ
 sheetLength numbers = cond (eqb numbers 0) 0 (2 + 2 * numbers)
+
+-- the kinds of the retail rates, flat (01:9) and by month (02:CR 3)
+abbrev pub flatRatesKind : ℕ
+flatRatesKind = 3
+
+abbrev pub ratePathKind : ℕ
+ratePathKind = 5
 
 -- the kind of the tiers (02:CR 1)
 abbrev pub tiersKind : ℕ

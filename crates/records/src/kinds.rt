@@ -5,8 +5,12 @@ use crate::fields::tier_count;
 ghost use mathlib.Core.Path.{_≡_};
 ghost use Rattle.records.specs.Kinds.{sheetKind, dueLength};
 
-// The kind of the tiers.
+// The kind of the flat retail rates, of the tiers, and of the retail rates by month.
+pub const FLAT_RATES_KIND: usize = 3;
+
 pub const TIERS_KIND: usize = 4;
+
+pub const RATE_PATH_KIND: usize = 5;
 
 // A kind of sheet: how many numbers it holds, 2 bytes each, and the largest that each may be. One that is no sheet holds none.
 pub struct SheetKind {
@@ -34,6 +38,10 @@ const SHEET_KINDS: [SheetKind; KINDS] = [
     SheetKind {
         numbers: 0,
         limit: 0,
+    },
+    SheetKind {
+        numbers: 360,
+        limit: 2_500,
     },
 ];
 

@@ -50,7 +50,7 @@ fn run_month(
     run: Run,
 ) -> Run {
     let left = sub(part.months, month);
-    let rate = shifted(retail_rate(s, part.column), scenario);
+    let rate = shifted(retail_rate(s, part.column, month), scenario);
     let q = month_survival(s, survivals, part, rate, left);
     let after = balance_after(run.balance, part.coupon, q, up);
     let flow = add(

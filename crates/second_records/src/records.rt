@@ -3,6 +3,7 @@
 use second_numbers::arith::add;
 use second_numbers::arith::least;
 use second_numbers::arith::mul;
+use second_numbers::arith::sub;
 use second_numbers::bytes::quad;
 use second_numbers::bytes::size;
 use second_numbers::bytes::word;
@@ -15,14 +16,21 @@ pub const RATES: u64 = 3;
 
 pub const TIERS: u64 = 4;
 
+pub const PATH: u64 = 5;
+
 // A cell's value, 0 where the filing does not have the cell.
 pub fn value(s: &[u8], cell: u64) -> u64 {
     quad(s, add(found(s, size(s), CELL, cell), 6))
 }
 
-// The retail rate of a column from 1 to 3.
-pub fn retail_rate(s: &[u8], column: u64) -> u64 {
-    sheet_number(s, RATES, column)
+// The retail rate of a column from 1 to 3 in a month from 1 to 120. The path has the months of
+// column 1, then those of column 2 and of column 3.
+pub fn retail_rate(s: &[u8], column: u64, month: u64) -> u64 {
+    if lacks(s, PATH) {
+        sheet_number(s, RATES, column)
+    } else {
+        sheet_number(s, PATH, add(mul(120, sub(column, 1)), month))
+    }
 }
 
 // The n-th number, from 1 on, of the sheet of a kind.

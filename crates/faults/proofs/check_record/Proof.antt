@@ -31,29 +31,37 @@ repeated-requires c κs = search needs
 or-refused-requires-3 : tie.Need-or-refused-requires-3
 or-refused-requires-3 c κs = search needs
 
-over-limit-requires : tie.Need-over-limit-requires
-over-limit-requires c κs = search needs
+path-beside-flat-requires : tie.Need-path-beside-flat-requires
+path-beside-flat-requires c κs = search needs
 
 or-refused-requires-4 : tie.Need-or-refused-requires-4
 or-refused-requires-4 c κs = search needs
 
-unsound-tiers-requires : tie.Need-unsound-tiers-requires
-unsound-tiers-requires c κs = search needs
+over-limit-requires : tie.Need-over-limit-requires
+over-limit-requires c κs = search needs
 
 or-refused-requires-5 : tie.Need-or-refused-requires-5
 or-refused-requires-5 c κs = search needs
 
+unsound-tiers-requires : tie.Need-unsound-tiers-requires
+unsound-tiers-requires c κs = search needs
+
+or-refused-requires-6 : tie.Need-or-refused-requires-6
+or-refused-requires-6 c κs = search needs
+
 returns : tie.Need-returns
 returns c =
     let limit = c .before .before in
-    let repetition = limit .before .before in
+    let path = limit .before .before in
+    let repetition = path .before .before in
     let listing = repetition .before .before in
     let shape = listing .before .before in
     let end = shape .before .before in
     let start = end .before .before .before in
     let at = start .args .at in
-    row-next 11 at (c .or-refused5 .ensures)
-    (row-next 5 at (limit .or-refused4 .ensures)
+    row-next 11 at (c .or-refused6 .ensures)
+    (row-next 5 at (limit .or-refused5 .ensures)
+    (row-next 12 at (path .or-refused4 .ensures)
     (row-next 4 at (repetition .or-refused3 .ensures)
     (row-next 3 at (listing .or-refused2 .ensures)
     (row-next 2 at (shape .or-refused .ensures)
@@ -61,6 +69,7 @@ returns c =
     (shape .before .misshapen .ensures))
     (listing .before .unlisted .ensures))
     (repetition .before .repeated .ensures))
+    (path .before .path-beside-flat .ensures))
     (limit .before .over-limit .ensures))
     (c .before .unsound-tiers .ensures)
     ∙ sym (verdict-rows (start .args .s .now) at)
@@ -77,8 +86,10 @@ check-record-spec =
     or-refused-requires-2
     repeated-requires
     or-refused-requires-3
-    over-limit-requires
+    path-beside-flat-requires
     or-refused-requires-4
-    unsound-tiers-requires
+    over-limit-requires
     or-refused-requires-5
+    unsound-tiers-requires
+    or-refused-requires-6
     returns)

@@ -6,7 +6,7 @@ use lib.Dec.{lit<}
 use lib.ListN.{getD}
 use borrow.Author.Needs.{needs}
 use Rattle.records.specs.declared.items.Noted.{Noted}
-use Rattle.records.specs.Kinds.{kindCount, tiersKind}
+use Rattle.records.specs.Kinds.{kindCount, flatRatesKind, tiersKind, ratePathKind}
 use Rattle.filing.specs.Contents.{sheetOffset, contentsOf}
 use Rattle.filing.proofs.ContentsLaws.{sheet-noted}
 use Rattle.filing.proofs.decode.contents_of.Statement.{statement}
@@ -28,14 +28,16 @@ slice-aggregate-fill-numbers c = search needs
 fill-numbers-requires : tie.Need-fill-numbers-requires
 fill-numbers-requires c κs = search needs
 
-element-copy-out-fill-numbers-2 : tie.Need-element-copy-out-fill-numbers-2
-element-copy-out-fill-numbers-2 c = search needs
+element-copy-out-rate-numbers : tie.Need-element-copy-out-rate-numbers
+element-copy-out-rate-numbers c = search needs
 
-slice-aggregate-fill-numbers-2 : tie.Need-slice-aggregate-fill-numbers-2
-slice-aggregate-fill-numbers-2 c = search needs
+element-copy-out-rate-numbers-2 : tie.Need-element-copy-out-rate-numbers-2
+element-copy-out-rate-numbers-2 c = search needs
 
-fill-numbers-requires-2 : tie.Need-fill-numbers-requires-2
-fill-numbers-requires-2 c κs = search needs
+rate-numbers-requires : tie.Need-rate-numbers-requires
+rate-numbers-requires c κs =
+    let start = c .before .before .before .before .before .before .before .before .before .before in
+    (sheet-is start flatRatesKind (lit< tt), sheet-is start ratePathKind (lit< tt))
 
 element-copy-out-tiers-at : tie.Need-element-copy-out-tiers-at
 element-copy-out-tiers-at c = search needs
@@ -46,16 +48,16 @@ tiers-at-requires c κs = search needs
 returns : tie.Need-returns
 unfolding contentsOf
 returns c =
-    let rates = c .before .before .before in
-    let cells = rates .before .before .before .before .before .before .before in
+    let rates = c .before .before in
+    let yields = rates .before .before .before .before in
+    let cells = yields .before .before .before in
     let start = cells .before .before .before .before in
     rw (
       cells .cell-values .ensures,
-      rates .before .before .before .before .fill-numbers .ensures,
-      rates .fill-numbers2 .ensures,
+      yields .fill-numbers .ensures,
+      rates .rate-numbers .ensures,
       c .tiers-at .ensures,
       sheet-is start 2 (lit< tt),
-      sheet-is start 3 (lit< tt),
       sheet-is start tiersKind (lit< tt),
     )
 
@@ -67,9 +69,9 @@ contents-of-spec =
     element-copy-out-fill-numbers
     slice-aggregate-fill-numbers
     fill-numbers-requires
-    element-copy-out-fill-numbers-2
-    slice-aggregate-fill-numbers-2
-    fill-numbers-requires-2
+    element-copy-out-rate-numbers
+    element-copy-out-rate-numbers-2
+    rate-numbers-requires
     element-copy-out-tiers-at
     tiers-at-requires
     returns)

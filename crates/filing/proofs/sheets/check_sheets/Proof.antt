@@ -9,7 +9,7 @@ use lib.ListN.{length, getD}
 use Rattle.answers.specs.Verdict.{accepted, refused}
 use Rattle.answers.specs.Answers.{verdictOf}
 use Rattle.answers.proofs.VerdictLaws.{condition-holds, condition-passes}
-use Rattle.records.specs.Kinds.{kindCount}
+use Rattle.records.specs.Kinds.{kindCount, flatRatesKind, ratePathKind}
 use Rattle.filing.specs.Contents.{sheetOffset}
 use Rattle.filing.specs.Verdict.{sheetMissing, sheetVerdict}
 use Rattle.filing.proofs.ContentsLaws.{sheet-noted}
@@ -34,27 +34,53 @@ element-copy-out-if2 : tie.Need-element-copy-out-if2
 element-copy-out-if2 c = search needs
 
 returns-2 : tie.Need-returns-2
-unfolding verdictOf refused sheetVerdict sheetMissing
-returns-2 c =
-    let start = c .before .before .before .before in
-    let s = start .args .s .now in
-    condition-holds _ 6 (length s)
-    (simp (
-      lt-leb (length s) (sheetOffset s 2) (rw (sheet-is start 2 (lit< tt)) at (c .before .before .if1 .left)),
-      le-leb (length s) (sheetOffset s 3) (rw (sheet-is start 3 (lit< tt)) at (c .if2 .taken)),
-    ))
-
-returns-3 : tie.Need-returns-3
 unfolding verdictOf accepted sheetVerdict sheetMissing
-returns-3 c =
+returns-2 c =
     let start = c .before .before .before .before in
     let s = start .args .s .now in
     condition-passes _ 6 (length s)
     (simp (
       lt-leb (length s) (sheetOffset s 2) (rw (sheet-is start 2 (lit< tt)) at (c .before .before .if1 .left)),
-      lt-leb (length s) (sheetOffset s 3) (rw (sheet-is start 3 (lit< tt)) at (c .if2 .left)),
+      lt-leb (length s) (sheetOffset s flatRatesKind) (rw (sheet-is start flatRatesKind (lit< tt)) at (c .if2 .taken)),
+    ))
+
+element-copy-out-if3 : tie.Need-element-copy-out-if3
+element-copy-out-if3 c = search needs
+
+returns-3 : tie.Need-returns-3
+unfolding verdictOf accepted sheetVerdict sheetMissing
+returns-3 c =
+    let flat = c .before .before in
+    let start = flat .before .before .before .before in
+    let s = start .args .s .now in
+    condition-passes _ 6 (length s)
+    (simp (
+      lt-leb (length s) (sheetOffset s 2) (rw (sheet-is start 2 (lit< tt)) at (flat .before .before .if1 .left)),
+      le-leb (length s) (sheetOffset s flatRatesKind) (rw (sheet-is start flatRatesKind (lit< tt)) at (flat .if2 .left)),
+      lt-leb (length s) (sheetOffset s ratePathKind) (rw (sheet-is start ratePathKind (lit< tt)) at (c .if3 .taken)),
+    ))
+
+returns-4 : tie.Need-returns-4
+unfolding verdictOf refused sheetVerdict sheetMissing
+returns-4 c =
+    let flat = c .before .before in
+    let start = flat .before .before .before .before in
+    let s = start .args .s .now in
+    condition-holds _ 6 (length s)
+    (simp (
+      lt-leb (length s) (sheetOffset s 2) (rw (sheet-is start 2 (lit< tt)) at (flat .before .before .if1 .left)),
+      le-leb (length s) (sheetOffset s flatRatesKind) (rw (sheet-is start flatRatesKind (lit< tt)) at (flat .if2 .left)),
+      le-leb (length s) (sheetOffset s ratePathKind) (rw (sheet-is start ratePathKind (lit< tt)) at (c .if3 .left)),
     ))
 
 pub check-sheets-spec : {M : Type 1} → statement M
 check-sheets-spec =
-    tie.close (tie.spec element-copy-out-if1 returns element-copy-out-if2 returns-2 returns-3)
+    tie.close
+    (tie.spec
+    element-copy-out-if1
+    returns
+    element-copy-out-if2
+    returns-2
+    element-copy-out-if3
+    returns-3
+    returns-4)
