@@ -1,7 +1,7 @@
 -- From the verdict on a list of certificates to the answer of the call. Assumes nothing.
-use Prim.Native.Nat.{ℕ, _+_, _*_, _≤_, _<_}
+use Prim.Native.Nat.{ℕ, _*_, _≤_, _<_}
 use native.Mathlib.Omega.{arith}
-use mathlib.Core.Path.{_≡_, refl, sym, ap, _∙_}
+use mathlib.Core.Path.{_≡_, sym, ap, _∙_}
 use mathlib.Core.Logic.{⊎-elim}
 use mathlib.Core.Bool.{Bool, true, false, cond, not}
 use mathlib.Core.List.{List, []}
@@ -14,22 +14,22 @@ use Rattle.lists.proofs.RangeLaws.{within-is, within-below, within-above}
 use Rattle.lists.proofs.TableLaws.{table-length, table-getD, table-le}
 use Rattle.schedule.specs.Limits.{balanceLimit, couponLimit, monthsLimit}
 use Rattle.answers.specs.declared.Answer.{Answer}
-use Rattle.answers.specs.declared.Answer.the-variants.{Accepted}
-use Rattle.answers.specs.Verdict.{Verdict, accepted, refused, refusedIf}
+use Rattle.answers.specs.Verdict.{Verdict, accepted, refused}
 use Rattle.answers.specs.Answers.{numberOf, verdictOf}
 use Rattle.answers.proofs.VerdictLaws.{first-none, first-passed, first-refused, tried-none, condition-holds, condition-refuses, condition-none}
 use Rattle.calendar.specs.declared.Date.{Date}
-use Rattle.certificates.specs.declared.Totals.{Totals}
-use Rattle.certificates.specs.declared.Cells.{Cells}
-use Rattle.lists.specs.Ranges.{within}
-use Rattle.certificates.specs.Certificates.{certificateCount}
+use Rattle.certificate_terms.specs.Terms.{certificateCount}
+use Rattle.filled_cells.specs.declared.Totals.{Totals}
+use Rattle.filled_cells.specs.declared.Cells.{Cells}
+use Rattle.filled_cells.specs.Cells.{cellsOf}
+use Rattle.filled_cells.specs.Inner.Listing.{Bounded, listedCells}
 use Rattle.certificates.specs.Sums.{positionSum, balanceOf, weightedCoupon, weightedMonths, totalsOf}
 use Rattle.certificates.specs.Verdict.{countVerdict, certificateVerdict, eachVerdict, certificatesVerdict}
-use Rattle.certificates.specs.Cells.{cellsOf, filledCells, inPlaces}
+use Rattle.certificates.specs.Filled.{filledCells}
 use Rattle.certificates.specs.Promise.{Converted}
-use Rattle.certificates.specs.Inner.Totals.{Bounded}
-use Rattle.certificates.specs.Inner.Answers.{noCells, listedCells}
-use Rattle.certificates.proofs.ListingLaws.{cells-count}
+use Rattle.certificates.specs.Inner.Answers.{noCells}
+use Rattle.lists.specs.Ranges.{within}
+use Rattle.filled_cells.proofs.ListingLaws.{cells-count}
 use Rattle.certificates.proofs.SumLaws.{Passed, balance-sum-le, coupon-sum-le, months-sum-le}
 
 module _ (v : Date) (s : List ℕ) where

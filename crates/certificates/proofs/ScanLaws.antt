@@ -1,30 +1,28 @@
 -- The scan of the certificates, step by step: what it has found and summed before certificate k, and how it goes on. Assumes nothing.
 use Prim.Native.Nat.{ℕ, suc, _+_, _*_, _≤_, _<_}
 use native.Mathlib.Nat.{not-suc-le-zero, le-antisymm}
-use native.Mathlib.Numerals.{add-one}
-use native.Mathlib.Omega.{arith}
 use borrow.Author.Count.{below-more}
 use borrow.Author.Tests.{lt-ltb, le-ltb}
-use mathlib.Core.Path.{_≡_, refl, sym, ap, subst, _∙_}
-use mathlib.Core.Bool.{Bool, true, false}
+use mathlib.Core.Path.{_≡_, refl, sym, ap, _∙_}
+use mathlib.Core.Bool.{true, false}
 use mathlib.Core.List.{List}
-use lib.Dec.{ltb}
 use lib.ListN.{getD, replicate}
 use Rattle.lists.specs.Sums.{sumWhere}
 use Rattle.lists.specs.Tables.{tableFrom, table}
 use Rattle.lists.proofs.TableLaws.{table-getD}
 use Rattle.schedule.specs.Limits.{balanceLimit, couponLimit, monthsLimit}
-use Rattle.answers.specs.Verdict.{Verdict, accepted, refused, refusedIf, firstRefusal}
+use Rattle.answers.specs.Verdict.{Verdict, accepted, refused, refusedIf}
 use Rattle.answers.proofs.VerdictLaws.{Untried, tried-start, tried-here, tried-next, tried-all, first-passed, first-refused, condition-holds, condition-refuses, condition-none}
 use Rattle.calendar.specs.declared.Date.{Date}
-use Rattle.certificates.specs.declared.Certificate.{Certificate}
-use Rattle.certificates.specs.declared.Totals.{Totals}
-use Rattle.certificates.specs.Certificates.{certificateCount, certificateAt, remainingMonths, positionOf}
+use Rattle.certificate_terms.specs.declared.Certificate.{Certificate}
+use Rattle.certificate_terms.specs.Terms.{certificateCount, certificateAt, remainingMonths, positionOf}
+use Rattle.certificate_terms.specs.Faults.{ownVerdict}
+use Rattle.filled_cells.specs.declared.Totals.{Totals}
 use Rattle.certificates.specs.Sums.{positionSum, balanceOf, weightedCoupon, weightedMonths, totalsOf}
-use Rattle.certificates.specs.Verdict.{ownVerdict, sumOverLimit, certificateVerdict, eachVerdict}
+use Rattle.certificates.specs.Verdict.{sumOverLimit, certificateVerdict, eachVerdict}
 use Rattle.certificates.specs.Inner.Totals.{totalsWith}
-use Rattle.certificates.proofs.FaultLaws.{Sound, own-sound, sound-position}
-use Rattle.certificates.proofs.SumLaws.{Passed, sum-none, sum-here, balance-sum-le, coupon-sum-le, months-sum-le, totals-suc}
+use Rattle.certificate_terms.proofs.FaultLaws.{Sound, own-sound, sound-position}
+use Rattle.certificates.proofs.SumLaws.{Passed, sum-here, balance-sum-le, coupon-sum-le, months-sum-le, totals-suc}
 
 module _ (v : Date) (s : List ℕ) where
   -- before certificate k: no certificate is refused, and the sums are those of the certificates before it

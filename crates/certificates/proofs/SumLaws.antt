@@ -1,30 +1,29 @@
 -- The sums of the positions, certificate by certificate: one more, their limits, and the tables that the scan keeps. Assumes nothing.
 use Prim.Native.Nat.{ℕ, zero, suc, _+_, _*_, _≤_, _<_}
-use native.Mathlib.Nat.{lt-suc-self, lt-trans, mul-le-mul-left, mul-comm}
+use native.Mathlib.Nat.{lt-suc-self, lt-trans, mul-le-mul-left}
 use native.Mathlib.Numerals.{add-one}
 use native.Mathlib.Omega.{arith}
-use mathlib.Core.Path.{_≡_, refl, sym, ap, subst, _∙_}
-use mathlib.Core.Logic.{⊎-elim}
+use mathlib.Core.Path.{_≡_, refl, sym, subst, _∙_}
 use mathlib.Core.Bool.{Bool, true, false, cond}
 use mathlib.Core.List.{List}
 use borrow.Author.Tests.{eqb-true, eqb-false, eq-eqb, ne-eqb, ltb-false}
-use lib.Dec.{eqb, ltb}
-use lib.ListN.{length, getD, set, length-set}
+use lib.Dec.{eqb}
+use lib.ListN.{length, getD, length-set}
 use lib.Seq.{getD-set-same, getD-set-other, ext-getD}
 use Rattle.lists.specs.Sums.{sumWhere}
 use Rattle.lists.specs.Tables.{table}
 use Rattle.lists.proofs.SumLaws.{sumWhere-mono, sumWhere-mul}
-use Rattle.lists.proofs.TableLaws.{table-length, table-getD, table-ext}
+use Rattle.lists.proofs.TableLaws.{table-length, table-getD}
 use Rattle.schedule.specs.Limits.{balanceLimit, couponLimit, monthsLimit}
-use Rattle.answers.specs.Verdict.{refusedIf}
 use Rattle.answers.proofs.VerdictLaws.{first-none, condition-fails}
 use Rattle.calendar.specs.declared.Date.{Date}
-use Rattle.certificates.specs.declared.Certificate.{Certificate}
-use Rattle.certificates.specs.Certificates.{certificateAt, remainingMonths, positionOf}
+use Rattle.certificate_terms.specs.declared.Certificate.{Certificate}
+use Rattle.certificate_terms.specs.Terms.{certificateAt, remainingMonths, positionOf}
+use Rattle.certificate_terms.specs.Faults.{ownVerdict}
 use Rattle.certificates.specs.Sums.{standsAt, positionSum, balanceOf, weightedCoupon, weightedMonths, totalsOf}
-use Rattle.certificates.specs.Verdict.{ownVerdict, sumOverLimit, certificateVerdict}
+use Rattle.certificates.specs.Verdict.{sumOverLimit, certificateVerdict}
 use Rattle.certificates.specs.Inner.Totals.{addedAt, totalsWith}
-use Rattle.certificates.proofs.FaultLaws.{Sound, own-sound}
+use Rattle.certificate_terms.proofs.FaultLaws.{Sound, own-sound}
 
 module _ (v : Date) (s : List ℕ) where
   -- one certificate more

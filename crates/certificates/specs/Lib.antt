@@ -1,6 +1,5 @@
-pub mod Certificates
 pub mod Sums
 pub mod Verdict
-pub mod Cells
-pub mod Inner
+pub mod Filled
 pub mod Promise
+pub mod Inner

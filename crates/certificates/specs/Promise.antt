@@ -5,9 +5,10 @@ use Prim.Native.Nat.{ℕ}
 use lib.ListN.{length}
 use Rattle.answers.specs.Answers.{verdictOf}
 use Rattle.calendar.specs.declared.Date.{Date}
-use Rattle.certificates.specs.declared.Cells.{Cells}
+use Rattle.filled_cells.specs.declared.Cells.{Cells}
+use Rattle.filled_cells.specs.Cells.{inPlaces}
 use Rattle.certificates.specs.Verdict.{certificatesVerdict}
-use Rattle.certificates.specs.Cells.{filledCells, inPlaces}
+use Rattle.certificates.specs.Filled.{filledCells}
 
 pub record Converted (valuation : Date) (s : List ℕ) (r : Cells) : Type 0 where
   -- acceptance, or the first refusal's number and place

@@ -1,19 +1,18 @@
 // The certificates in turn: each is tested, and added to the sums of its position.
-use crate::Certificate;
-use crate::Totals;
-use crate::faults::check_certificate;
-use crate::terms::certificate_at;
-use crate::terms::position_of;
 use answers::Answer;
 use answers::number;
 use calendar::Date;
 use calendar::months_between;
+use certificate_terms::certificate_at;
+use certificate_terms::faults::check_certificate;
+use certificate_terms::position_of;
+use filled_cells::Totals;
 ghost use mathlib.Core.Path.{_≡_};
 ghost use Prim.Native.Nat.{_≤_, _<_, _+_, _*_};
 ghost use lib.ListN.{getD};
 ghost use Rattle.schedule.specs.Limits.{balanceLimit, couponLimit, monthsLimit};
 ghost use Rattle.answers.specs.Answers.{numberOf, verdictOf};
-ghost use Rattle.certificates.specs.Certificates.{certificateCount, certificateNumbers};
+ghost use Rattle.certificate_terms.specs.Terms.{certificateCount};
 ghost use Rattle.certificates.specs.Verdict.{eachVerdict};
 ghost use Rattle.certificates.specs.Sums.{totalsOf};
 ghost use Rattle.certificates.specs.Inner.Totals.{totalsWith};

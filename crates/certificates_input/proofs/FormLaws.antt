@@ -12,8 +12,8 @@ use lib.Dec.{ltb, eqb, leb}
 use lib.ListN.{length, List·getD-eq-default}
 use Rattle.lists.specs.Ranges.{firstFrom}
 use Rattle.lists.proofs.LogicLaws.{and-both, lt-or-le}
-use Rattle.lists.proofs.RangeLaws.{search-here, search-next, search-end, least-le, least-fails}
-use Rattle.certificates_input.specs.Numerals.{byteAt, isDigit, numberEnd, numberAt, isNumber}
+use Rattle.lists.proofs.RangeLaws.{search-here, search-next, search-end, least-fails}
+use Rattle.certificates_input.specs.Numerals.{byteAt, isDigit, numberEnd, isNumber}
 use Rattle.certificates_input.specs.Lines.{hasForm, formNumbers, formEnd}
 use Rattle.certificates_input.specs.Texts.{lineEnd}
 use Rattle.certificates_input.proofs.NumeralLaws.{number-end-le}

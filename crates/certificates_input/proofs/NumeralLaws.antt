@@ -1,15 +1,12 @@
 -- Decimal numbers in a text: their bytes, their value digit by digit, and where they end. Assumes nothing.
 use Prim.Native.Nat.{ℕ, zero, suc, _+_, _*_, _-_, _^_, _≤_, _<_}
 use native.Mathlib.Nat.{not-suc-le-zero, le-of-suc-le-suc, add-zero, add-suc}
-use native.Mathlib.Numerals.{add-one}
 use native.Mathlib.Omega.{arith}
-use mathlib.Core.Path.{_≡_, refl, sym, ap, _∙_}
-use mathlib.Core.Bool.{Bool, true, false, not, _&&_}
+use mathlib.Core.Path.{_≡_, refl, sym}
+use mathlib.Core.Bool.{not}
 use mathlib.Core.List.{List, [], _∷_}
 use borrow.Author.Tests.{lt-ltb, le-ltb}
-use lib.Dec.{ltb}
 use lib.ListN.{length, getD}
-use Rattle.lists.specs.Ranges.{firstFrom}
 use Rattle.lists.proofs.RangeLaws.{least-le}
 use Rattle.certificates_input.specs.declared.numerals.Whole.the-variants.{Value, TooLarge}
 use Rattle.certificates_input.specs.Numerals.{byteAt, isDigit, numberEnd, decimal}

@@ -3,20 +3,18 @@ use Prim.Native.Nat.{ℕ, zero, suc, _+_, _^_, _≤_, _<_}
 use native.Mathlib.Nat.{zero-add}
 use native.Mathlib.Numerals.{add-one}
 use native.Mathlib.Omega.{arith}
-use mathlib.Core.Path.{_≡_, refl, sym, ap, _∙_}
-use mathlib.Core.List.{List, [], _∷_, map, _++_}
+use mathlib.Core.Path.{_≡_, sym, _∙_}
+use mathlib.Core.List.{List, [], _∷_, _++_}
 use borrow.Author.Tests.{lt-ltb, le-ltb, eq-eqb, ne-eqb}
 use lib.ListN.{length, getD, take, drop, length-append, drop-of-length-le}
 use lib.Seq.{take-at, drop-at, drop-cons, length-take-le, getD-take}
 use Rattle.lists.specs.Tables.{joined}
-use Rattle.answers.specs.declared.Answer.{Answer}
-use Rattle.answers.specs.Verdict.{Verdict}
 use Rattle.answers.specs.Answers.{numberOf, placeOf, verdictOf}
 use Rattle.calendar.specs.declared.Date.{Date}
-use Rattle.certificates.specs.declared.CellValue.{CellValue}
-use Rattle.certificates.specs.declared.Cells.{Cells}
-use Rattle.certificates.specs.Verdict.{certificatesVerdict}
-use Rattle.certificates.specs.Cells.{filledCells, inPlaces}
+use Rattle.filled_cells.specs.declared.CellValue.{CellValue}
+use Rattle.filled_cells.specs.declared.Cells.{Cells}
+use Rattle.filled_cells.specs.Cells.{inPlaces}
+use Rattle.certificates.specs.Filled.{filledCells}
 use Rattle.certificates.specs.Promise.{Converted}
 use Rattle.certificates.proofs.CallLaws.{filled-count}
 use Rattle.text.specs.Decimal.{decimal}

@@ -7,11 +7,10 @@ use mathlib.Core.List.{List, [], _∷_, map, _++_}
 use lib.ListN.{length, take, drop}
 use lib.Dec.{ltb, eqb}
 use Rattle.lists.specs.Tables.{joined}
-use Rattle.answers.specs.Verdict.{Verdict}
 use Rattle.calendar.specs.declared.Date.{Date}
-use Rattle.certificates.specs.declared.CellValue.{CellValue}
+use Rattle.filled_cells.specs.declared.CellValue.{CellValue}
 use Rattle.certificates.specs.Verdict.{certificatesVerdict}
-use Rattle.certificates.specs.Cells.{filledCells}
+use Rattle.certificates.specs.Filled.{filledCells}
 use Rattle.text.specs.Decimal.{decimal}
 use Rattle.text.specs.Lines.{restOfLine, refusalLine}
 use Rattle.certificates_input.specs.Texts.{unreadableLine, valuationOf, certificatesOf}

@@ -2,9 +2,9 @@
 use answers::number;
 use answers::place;
 use calendar::Date;
-use certificates::Cells;
 use certificates::to_cells;
 use certificates_input::read_text;
+use filled_cells::Cells;
 use text::append;
 use text::append_line;
 use text::append_number;

@@ -1,22 +1,25 @@
 -- Closed cases of the verdict on certificates and of the cells that they fill, so that a wrong clause of a definition breaks a case: each limit and the
 -- number after it, the order of the tests, and the means. Each is computed. Assumes nothing.
-use Prim.Native.Nat.{ℕ, _^_}
+use Prim.Native.Nat.{ℕ}
 use mathlib.Core.Path.{_≡_, refl}
 use mathlib.Core.List.{List, [], _∷_, _++_, map}
 use lib.ListN.{replicate}
 use Rattle.lists.specs.Ranges.{within, firstFrom}
 use Rattle.lists.specs.Sums.{sum, sumWhere}
-use Rattle.lists.specs.Tables.{tableFrom, table, joined, those, contains}
+use Rattle.lists.specs.Tables.{tableFrom, joined, those, contains}
 use Rattle.schedule.specs.Cells.{position, positions, positionAt, withinRow, brokeredCell, penaltyBalanceCell, penaltyMonthsCell, unusedCells}
 use Rattle.schedule.specs.Limits.{cellClass}
 use Rattle.answers.specs.Verdict.{Verdict, accepted, refused, refusedIf, firstRefusal, firstOf}
 use Rattle.calendar.specs.declared.Date.{Date}
 use Rattle.calendar.specs.Dates.{isLeap, lastDay, isDate, onOrAfter, dayIn, movedOn, monthsBetween}
-use Rattle.certificates.specs.declared.CellValue.{CellValue}
-use Rattle.certificates.specs.Certificates.{certificateCount, dateAt, certificateAt, columnOf, positionFor, positionOf, overLimit, noSuchDay, notOutstanding, tooManyMonths}
-use Rattle.certificates.specs.Sums.{standsAt, positionSum, mean, totalsOf, balanceAt, couponAt, monthsAt}
-use Rattle.certificates.specs.Verdict.{countVerdict, ownVerdict, sumOverLimit, certificateVerdict, eachVerdict, certificatesVerdict}
-use Rattle.certificates.specs.Cells.{isFilled, positionWith, formCell, formCells, isPresent, valueOf, cellValue, cellsOf, filledCells}
+use Rattle.certificate_terms.specs.Terms.{certificateCount, dateAt, certificateAt, columnOf, positionFor, positionOf}
+use Rattle.certificate_terms.specs.Faults.{overLimit, noSuchDay, notOutstanding, tooManyMonths, ownVerdict}
+use Rattle.filled_cells.specs.declared.CellValue.{CellValue}
+use Rattle.filled_cells.specs.Means.{mean, balanceAt, couponAt, monthsAt}
+use Rattle.filled_cells.specs.Cells.{isFilled, positionWith, formCell, formCells, isPresent, valueOf, cellValue, cellsOf}
+use Rattle.certificates.specs.Sums.{standsAt, positionSum, totalsOf}
+use Rattle.certificates.specs.Verdict.{countVerdict, sumOverLimit, certificateVerdict, eachVerdict, certificatesVerdict}
+use Rattle.certificates.specs.Filled.{filledCells}
 
 abbrev date : ℕ → ℕ → ℕ → Date
 date y m d = record { year = y; month = m; day = d }

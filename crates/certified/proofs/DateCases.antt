@@ -1,12 +1,12 @@
 -- Closed cases of the dates and of the means, so that a wrong clause of a definition breaks a case. Each is computed. Assumes nothing.
 use Prim.Native.Nat.{ℕ, _^_}
 use mathlib.Core.Path.{_≡_, refl}
-use mathlib.Core.Bool.{Bool, true, false}
-use mathlib.Core.List.{List, [], _∷_, map}
+use mathlib.Core.Bool.{true, false}
+use mathlib.Core.List.{[], _∷_, map}
 use Rattle.lists.specs.Ranges.{within, firstFrom}
 use Rattle.calendar.specs.declared.Date.{Date}
 use Rattle.calendar.specs.Dates.{isLeap, lastDay, isDate, onOrAfter, dayIn, movedOn, monthsBetween}
-use Rattle.certificates.specs.Sums.{mean}
+use Rattle.filled_cells.specs.Means.{mean}
 
 abbrev date : ℕ → ℕ → ℕ → Date
 date y m d = record { year = y; month = m; day = d }

@@ -1,28 +1,24 @@
 -- The cells that accepted certificates fill: each within document 01's limits, each WARM within its row, each mean between the least and the greatest
 -- of its certificates, and no balance lost. Assumes nothing.
-use Prim.Native.Nat.{ℕ, zero, suc, _+_, _*_, _≤_, _<_}
-use native.Mathlib.Omega.{arith}
-use mathlib.Core.Path.{_≡_, refl, sym, ap, _∙_}
-use mathlib.Core.Bool.{Bool, true, false, cond, _&&_}
+use Prim.Native.Nat.{ℕ, _≤_, _<_}
+use mathlib.Core.Path.{_≡_}
+use mathlib.Core.Bool.{true}
 use mathlib.Core.List.{List}
 use borrow.Author.Tests.{leb-true, le-leb, eqb-true}
-use lib.Dec.{leb, eqb}
-use lib.ListN.{getD}
-use Rattle.lists.specs.Sums.{sum}
-use Rattle.lists.specs.Tables.{table}
+use lib.Dec.{leb}
 use Rattle.lists.proofs.TableLaws.{table-getD}
 use Rattle.schedule.specs.Cells.{positionAt, withinRow, leastMonths, mostMonths}
-use Rattle.schedule.specs.Limits.{balanceLimit, couponLimit, monthsLimit, totalLimit}
+use Rattle.schedule.specs.Limits.{balanceLimit, couponLimit, monthsLimit}
 use Rattle.calendar.specs.declared.Date.{Date}
-use Rattle.certificates.specs.declared.Certificate.{Certificate}
-use Rattle.certificates.specs.declared.Totals.{Totals}
-use Rattle.certificates.specs.Certificates.{certificateCount, certificateAt, remainingMonths, originalMonths, columnOf, positionFor, positionOf}
-use Rattle.certificates.specs.Sums.{standsAt, positionSum, balanceOf, weightedCoupon, weightedMonths, mean, totalsOf, balanceAt, couponAt, monthsAt}
+use Rattle.certificate_terms.specs.Terms.{certificateCount, certificateAt, remainingMonths, originalMonths, columnOf, positionFor, positionOf}
+use Rattle.filled_cells.specs.declared.Totals.{Totals}
+use Rattle.filled_cells.specs.Means.{mean, balanceAt, couponAt, monthsAt}
+use Rattle.certificates.specs.Sums.{standsAt, positionSum, balanceOf, weightedCoupon, weightedMonths, totalsOf}
 use Rattle.certificates.specs.Verdict.{certificatesVerdict}
 use Rattle.lists.proofs.LogicLaws.{and-both}
 use Rattle.lists.proofs.RangeLaws.{least-passes}
-use Rattle.certificates.proofs.FaultLaws.{Sound, sound-position}
-use Rattle.certificates.proofs.SumLaws.{Passed, passed-sound, balance-sum-le}
+use Rattle.certificate_terms.proofs.FaultLaws.{Sound, sound-position}
+use Rattle.certificates.proofs.SumLaws.{passed-sound, balance-sum-le}
 use Rattle.certified.proofs.WeightedLaws.{AtMost, AtLeast, mean-at-most, mean-at-least}
 use Rattle.certificates.proofs.CallLaws.{all-passed}
 

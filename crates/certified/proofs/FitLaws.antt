@@ -6,22 +6,22 @@ use mathlib.Core.Bool.{Bool, true, false, cond, not, _&&_, _||_}
 use mathlib.Core.List.{List, map}
 use borrow.Author.Tests.{ne-eqb, eqb-true, eqb-false}
 use lib.Dec.{T, leb, eqb, leb→le, eqb→eq}
-use lib.ListN.{getD}
 use Rattle.lists.specs.Ranges.{within, firstFrom}
 use Rattle.lists.specs.Sums.{sum}
 use Rattle.lists.specs.Tables.{tableFrom, table, contains}
 use Rattle.lists.proofs.TestLaws.{both, allFrom, all-at}
 use Rattle.lists.proofs.TableLaws.{table-ext, table-getD}
 use Rattle.schedule.specs.declared.Position.{Position}
-use Rattle.schedule.specs.Cells.{position, positions, positionAt, withinRow, totalCell, brokeredCell, penaltyBalanceCell, penaltyMonthsCell, unusedCells}
-use Rattle.schedule.specs.Limits.{balanceLimit, couponLimit, monthsLimit, totalLimit, cellClass}
+use Rattle.schedule.specs.Cells.{position, positions, positionAt, totalCell, brokeredCell, penaltyBalanceCell, penaltyMonthsCell}
+use Rattle.schedule.specs.Limits.{couponLimit, monthsLimit, cellClass}
 use Rattle.calendar.specs.declared.Date.{Date}
-use Rattle.certificates.specs.declared.Totals.{Totals}
-use Rattle.certificates.specs.declared.FormCell.{FormCell}
-use Rattle.certificates.specs.Certificates.{certificateCount}
-use Rattle.certificates.specs.Sums.{positionSum, balanceOf, totalsOf, balanceAt, couponAt, monthsAt}
+use Rattle.certificate_terms.specs.Terms.{certificateCount}
+use Rattle.filled_cells.specs.declared.Totals.{Totals}
+use Rattle.filled_cells.specs.Means.{balanceAt, couponAt, monthsAt}
+use Rattle.filled_cells.specs.Cells.{isFilled, positionWith, formCell, isPresent, valueOf, cellsOf}
+use Rattle.certificates.specs.Sums.{positionSum, balanceOf, totalsOf}
 use Rattle.certificates.specs.Verdict.{certificatesVerdict}
-use Rattle.certificates.specs.Cells.{isFilled, positionWith, formCell, isPresent, valueOf, cellsOf, filledCells}
+use Rattle.certificates.specs.Filled.{filledCells}
 use Rattle.certificates.proofs.CallLaws.{filled-some}
 use Rattle.certified.specs.Fit.{valueIn, Fit}
 use Rattle.certified.proofs.LookUpLaws.{value-filled}

@@ -2,18 +2,16 @@
 use Prim.Native.Nat.{ℕ, zero, suc, _+_, _≤_, _<_}
 use native.Mathlib.Nat.{eq-or-lt-of-le}
 use native.Mathlib.Omega.{arith}
-use mathlib.Core.Path.{_≡_, refl, sym, ap, subst, _∙_}
+use mathlib.Core.Path.{_≡_, refl, sym, subst, _∙_}
 use mathlib.Core.Logic.{⊎-elim}
 use mathlib.Core.Bool.{Bool, true, false, cond, not}
 use mathlib.Core.List.{List, [], _∷_, map}
-use borrow.Author.Tests.{eq-eqb, ne-eqb, eqb-true}
+use borrow.Author.Tests.{eq-eqb, ne-eqb}
 use lib.Dec.{eqb}
 use Rattle.lists.specs.Tables.{tableFrom, those}
-use Rattle.certificates.specs.declared.Totals.{Totals}
-use Rattle.certificates.specs.declared.FormCell.{FormCell}
-use Rattle.certificates.specs.declared.CellValue.{CellValue}
+use Rattle.filled_cells.specs.declared.Totals.{Totals}
+use Rattle.filled_cells.specs.Cells.{isFilled, formCell, formCells, isPresent, valueOf, cellValue, cellsOf}
 use Rattle.certified.specs.Fit.{valueIn}
-use Rattle.certificates.specs.Cells.{isFilled, formCell, formCells, isPresent, valueOf, cellValue, cellsOf}
 
 module _ (t : Totals) where
   -- what the cells among some numbers say of cell m

@@ -1,12 +1,12 @@
 -- Moving on is monotone, in the date and in the months. Assumes nothing.
-use Prim.Native.Nat.{ℕ, _+_, _≤_, _<_}
+use Prim.Native.Nat.{ℕ, _≤_}
 use native.Mathlib.Nat.{eq-or-lt-of-le}
 use native.Mathlib.Omega.{arith}
-use mathlib.Core.Path.{_≡_, refl, sym, ap}
+use mathlib.Core.Path.{_≡_}
 use mathlib.Core.Logic.{⊎-elim, inl, inr}
 use mathlib.Core.Bool.{true}
 use Rattle.calendar.specs.declared.Date.{Date}
-use Rattle.calendar.specs.Dates.{monthIndex, onOrAfter, movedOn}
+use Rattle.calendar.specs.Dates.{onOrAfter, movedOn}
 use Rattle.calendar.proofs.DateLaws.{on-or-after, after, moved-index, moved-on-mono}
 
 -- a later date is moved on to no earlier one

@@ -4,27 +4,20 @@ use native.Mathlib.Nat.{lt-suc-self, lt-trans, eq-or-lt-of-le}
 use native.Mathlib.Omega.{arith}
 use mathlib.Core.Path.{_≡_, refl, sym, ap, _∙_}
 use mathlib.Core.Logic.{⊎-elim}
-use mathlib.Core.Bool.{Bool, true, false, cond, _&&_}
-use mathlib.Core.List.{List, [], _∷_}
+use mathlib.Core.Bool.{cond}
+use mathlib.Core.List.{List}
 use borrow.Author.Tests.{eq-eqb, ne-eqb}
-use lib.Dec.{T, ltb, eqb, ltb→lt}
+use lib.Dec.{eqb}
 use Rattle.lists.specs.Sums.{sum, sumWhere, everywhere}
-use Rattle.lists.specs.Tables.{tableFrom, table, those, contains}
-use Rattle.lists.proofs.TestLaws.{both}
+use Rattle.lists.specs.Tables.{tableFrom, table, those}
 use Rattle.lists.proofs.TableLaws.{table-ext}
-use Rattle.schedule.specs.Cells.{position, positions, positionAt, brokeredCell, penaltyBalanceCell, penaltyMonthsCell, unusedCells}
-use Rattle.schedule.specs.Limits.{balanceLimit, totalLimit, cellClass}
+use Rattle.schedule.specs.Limits.{balanceLimit, totalLimit}
 use Rattle.calendar.specs.declared.Date.{Date}
-use Rattle.certificates.specs.declared.Totals.{Totals}
-use Rattle.certificates.specs.declared.FormCell.{FormCell}
-use Rattle.certificates.specs.declared.CellValue.{CellValue}
-use Rattle.lists.specs.Ranges.{firstFrom}
-use Rattle.lists.specs.Ranges.{within}
-use Rattle.certificates.specs.Certificates.{certificateCount, certificateAt, positionOf}
+use Rattle.certificate_terms.specs.Terms.{certificateCount, certificateAt, positionOf}
 use Rattle.certificates.specs.Sums.{positionSum, balanceOf, totalsOf}
 use Rattle.certificates.specs.Verdict.{certificatesVerdict}
-use Rattle.certificates.specs.Cells.{isFilled, positionWith, formCells, isPresent, cellValue, cellsOf}
-use Rattle.certificates.proofs.FaultLaws.{sound-position}
+use Rattle.lists.specs.Ranges.{within}
+use Rattle.certificate_terms.proofs.FaultLaws.{sound-position}
 use Rattle.certificates.proofs.SumLaws.{Passed, passed-sound, sum-none, sum-suc, balance-sum-le}
 use Rattle.certificates.proofs.CallLaws.{all-passed}
 

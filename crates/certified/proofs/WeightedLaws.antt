@@ -2,14 +2,15 @@
 use Prim.Native.Nat.{ℕ, zero, suc, _+_, _*_, _/_, _≤_, _<_}
 use native.Mathlib.Nat.{lt-suc-self, lt-trans, mul-le-mul-left, div-lt-iff-lt-mul, le-div-iff-mul-le}
 use native.Mathlib.Omega.{arith}
-use mathlib.Core.Path.{_≡_, refl, sym, ap, _∙_}
+use mathlib.Core.Path.{_≡_, refl}
 use mathlib.Core.Bool.{Bool, true, false, cond}
 use mathlib.Core.List.{List}
 use lib.Dec.{eqb}
 use Rattle.calendar.specs.declared.Date.{Date}
-use Rattle.certificates.specs.declared.Certificate.{Certificate}
-use Rattle.certificates.specs.Certificates.{certificateAt, positionOf}
-use Rattle.certificates.specs.Sums.{standsAt, positionSum, balanceOf, mean}
+use Rattle.certificate_terms.specs.declared.Certificate.{Certificate}
+use Rattle.certificate_terms.specs.Terms.{certificateAt, positionOf}
+use Rattle.filled_cells.specs.Means.{mean}
+use Rattle.certificates.specs.Sums.{standsAt, positionSum, balanceOf}
 use Rattle.certificates.proofs.SumLaws.{sum-none, sum-suc}
 
 -- a weighted sum of at most so many times the weight has at most that mean, one of at least so many times at least

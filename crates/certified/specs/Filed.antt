@@ -4,7 +4,7 @@ use Prim.Native.Nat.{ℕ, zero, suc, _/_, _%_}
 use mathlib.Core.List.{List, [], _∷_, _++_, map}
 use lib.ListN.{length}
 use Rattle.lists.specs.Tables.{tableFrom, joined}
-use Rattle.certificates.specs.declared.CellValue.{CellValue}
+use Rattle.filled_cells.specs.declared.CellValue.{CellValue}
 
 -- n bytes of a number, the least first
 unfoldable pub bytes : ℕ → ℕ → List ℕ

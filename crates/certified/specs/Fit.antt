@@ -8,7 +8,7 @@ use Rattle.lists.specs.Sums.{sum}
 use Rattle.schedule.specs.declared.Position.{Position}
 use Rattle.schedule.specs.Cells.{positions, positionAt, withinRow, totalCell}
 use Rattle.schedule.specs.Limits.{balanceLimit, couponLimit, monthsLimit, totalLimit}
-use Rattle.certificates.specs.declared.CellValue.{CellValue}
+use Rattle.filled_cells.specs.declared.CellValue.{CellValue}
 
 -- what a list of cells says of cell n
 unfoldable pub valueIn : List CellValue → ℕ → ℕ

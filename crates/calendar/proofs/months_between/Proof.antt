@@ -1,7 +1,7 @@
 -- `months_between` meets its contract: where the first date's day falls short, the month after the second date's is the first that is reached.
 -- Assumes nothing.
 use native.Mathlib.Omega.{arith}
-use mathlib.Core.Path.{_≡_, sym, _∙_}
+use mathlib.Core.Path.{sym, _∙_}
 use mathlib.Core.Logic.{inl, inr, ⊎-elim}
 use borrow.Author.Tests.{lt-ltb, le-ltb}
 use Rattle.calendar.specs.Inner.Days.{Day}

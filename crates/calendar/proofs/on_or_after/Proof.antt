@@ -1,7 +1,6 @@
 -- `on_or_after` meets its contract. Assumes nothing.
 use mathlib.Core.Path.{sym, _∙_}
 use Rattle.calendar.proofs.DateLaws.{date-day, same-month, other-month}
-use borrow.Author.Needs.{needs}
 use Rattle.calendar.proofs.on_or_after.Statement.{statement}
 use Rattle.calendar.proofs.on_or_after.Tie as tie
 

@@ -1,6 +1,6 @@
 -- `refusal` meets its contract. Assumes nothing.
 use mathlib.Core.Path.{refl}
-use Rattle.certificates.specs.Cells.{inPlaces}
+use Rattle.filled_cells.specs.Cells.{inPlaces}
 use Rattle.certificates.specs.Inner.Answers.{noCells}
 use Rattle.certificates.proofs.refusal.Statement.{statement}
 use Rattle.certificates.proofs.refusal.Tie as tie

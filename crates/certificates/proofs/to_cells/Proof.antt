@@ -1,10 +1,10 @@
 -- `to_cells` meets its contract: the count, then the certificates in turn, then the cells of their sums. Assumes nothing.
 use native.Mathlib.Omega.{arith}
 use mathlib.Core.Path.{_≡_, sym, ap, _∙_}
-use Rattle.answers.specs.Verdict.{Verdict, accepted, refused}
+use Rattle.answers.specs.Verdict.{Verdict, refused}
 use Rattle.answers.specs.Answers.{verdictOf}
 use Rattle.answers.proofs.AnswerLaws.{accepted-answer}
-use Rattle.certificates.specs.Certificates.{certificateCount}
+use Rattle.certificate_terms.specs.Terms.{certificateCount}
 use Rattle.certificates.specs.Sums.{totalsOf}
 use Rattle.certificates.specs.Verdict.{eachVerdict, certificatesVerdict}
 use Rattle.certificates.proofs.SumLaws.{Passed}

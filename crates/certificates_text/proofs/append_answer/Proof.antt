@@ -1,7 +1,7 @@
 -- `append_answer` meets its contract: the line of the refusal, or the lines of the cells. Assumes nothing.
 use Prim.Native.Nat.{_≤_}
 use native.Mathlib.Omega.{arith}
-use mathlib.Core.Path.{sym, _∙_}
+use mathlib.Core.Path.{sym}
 use lib.ListN.{length}
 use Rattle.text.specs.Lines.{refusalLine}
 use Rattle.text.proofs.LineLaws.{refusal-short}

@@ -2,7 +2,7 @@
 use Prim.Native.Nat.{_*_, _-_, _≤_}
 use native.Mathlib.Omega.{arith}
 use mathlib.Core.Path.{refl}
-use lib.ListN.{length, take, drop}
+use lib.ListN.{take, drop}
 use Rattle.text.proofs.AppendLaws.{Remaining, remaining-all, remaining-less, remaining-last}
 use Rattle.certificates_text.specs.Printed.{cellLine, cellLines}
 use Rattle.certificates_text.proofs.PrintingLaws.{lines-next, lines-end}

@@ -1,6 +1,6 @@
 -- `write_cells` meets its contract: an input that is too long, one with an unreadable line, and the answer on the certificates. Assumes nothing.
 use native.Mathlib.Omega.{arith}
-use mathlib.Core.Path.{sym, ap, _∙_}
+use mathlib.Core.Path.{sym, _∙_}
 use lib.Seq.{length-take-le}
 use Rattle.certificates_text.specs.Printed.{tooLong}
 use Rattle.certificates_text.proofs.PrintingLaws.{text-too-long, text-unreadable, text-readable, printed}

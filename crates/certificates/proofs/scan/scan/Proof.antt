@@ -5,9 +5,9 @@ use mathlib.Core.Path.{_≡_, sym, ap, _∙_}
 use lib.ListN.{length, getD}
 use Rattle.answers.specs.Verdict.{Verdict, accepted, refused}
 use Rattle.answers.specs.Answers.{verdictOf}
-use Rattle.certificates.specs.Certificates.{certificateCount, positionOf}
-use Rattle.certificates.specs.Verdict.{ownVerdict}
-use Rattle.certificates.proofs.FaultLaws.{Sound, remaining-one, remaining-le-original, sound-position}
+use Rattle.certificate_terms.specs.Terms.{certificateCount, positionOf}
+use Rattle.certificate_terms.specs.Faults.{ownVerdict}
+use Rattle.certificate_terms.proofs.FaultLaws.{Sound, remaining-one, remaining-le-original, sound-position}
 use Rattle.certificates.proofs.ScanLaws.{Scanning, scan-start, scan-all, balance-at-le, coupon-at-le, months-at-le, scan-own, scan-sound, scan-over, scan-next}
 use Rattle.certificates.proofs.scan.scan.Statement.{statement}
 use Rattle.certificates.proofs.scan.scan.Tie as tie

@@ -1,10 +1,9 @@
 -- `digits_value` meets its contract. The loop's invariant: the value of the digits so far. Assumes nothing.
-use Prim.Native.Nat.{ℕ, _+_, _*_, _-_, _^_, _≤_, _<_}
+use Prim.Native.Nat.{_+_, _*_, _-_, _^_, _≤_, _<_}
 use native.Mathlib.Omega.{arith}
 use mathlib.Core.Path.{_≡_, sym, ap, _∙_}
-use lib.ListN.{length}
 use Rattle.certificates_input.specs.declared.numerals.Whole.the-variants.{Value}
-use Rattle.certificates_input.specs.Numerals.{byteAt, decimal}
+use Rattle.certificates_input.specs.Numerals.{decimal}
 use Rattle.certificates_input.proofs.NumeralLaws.{byte-inside, decimal-suc, whole-value, whole-large}
 use Rattle.certificates_input.proofs.numerals.digits_value.Statement.{statement}
 use Rattle.certificates_input.proofs.numerals.digits_value.Tie as tie
