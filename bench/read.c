@@ -38,16 +38,18 @@ static uint64_t number(const uint8_t *p, int width)
 
 static uint64_t cell(const struct contents *k, int n) { return k->cell[n - 601]; }
 
-/* Kind 1. */
-static int read_cell(const uint8_t *body, size_t length, struct contents *k, struct seen *seen)
+/* Kind 1, or kind 6 where `fine`: coupons alone, in thousandths. */
+static int read_cell(const uint8_t *body, size_t length, int fine, struct contents *k, struct seen *seen)
 {
     if (length != 12) return 2;
     uint64_t n = number(body, 2), v = number(body + 2, 8);
     if (n < 601 || n > 661 || limit[n - 601] == 0) return 3;
+    int coupon = limit[n - 601] == 1500;
+    if (fine && !coupon) return 3;
     if (seen->cell[n - 601]) return 4;
-    if (v > limit[n - 601]) return 5;
+    if (v > (fine ? 15000 : limit[n - 601])) return 5;
     seen->cell[n - 601] = 1;
-    k->cell[n - 601] = v;
+    k->cell[n - 601] = coupon && !fine ? 10 * v : v;
     return 0;
 }
 
@@ -111,11 +113,12 @@ static int read_records(const uint8_t *s, size_t size, struct contents *k, uint6
         const uint8_t *body = s + at + 4;
         int fault = 2;
         switch (number(s + at + 2, 2)) {
-        case 1: fault = read_cell(body, length, k, &seen); break;
+        case 1: fault = read_cell(body, length, 0, k, &seen); break;
         case 2: fault = read_sheet(body, length, 120, &seen.kind[2], 0, k->yield); break;
         case 3: fault = read_flat_rates(body, length, &seen, k); break;
         case 4: fault = read_tiers(body, length, &seen.kind[4], &k->tiers); break;
         case 5: fault = read_sheet(body, length, 360, &seen.kind[5], seen.kind[3], k->rate[0]); break;
+        case 6: fault = read_cell(body, length, 1, k, &seen); break;
         }
         if (fault != 0) return fault;
         at += 2 + length;

@@ -1,7 +1,7 @@
 """What the calls do with the lists lent, and the listing's text. Each entry has a name."""
 from accepted import paper_figures
 from monthly_rates import DOWN, NO_PATH, SAW, UP
-from records import LISTING, RISING, SHEETS, cell, cells, deposits, filing, flat, middle_month, path_filing, record, shared, tiers, yields
+from records import LISTING, RISING, SHEETS, cell, cells, deposits, filing, fine_cells, flat, middle_month, path_filing, rates, record, shared, tiers, yields
 from refused import refusal_table
 
 # The numbers of the calls. UNKNOWN is of none.
@@ -36,6 +36,7 @@ def both_lists():
 def listed():
     yield "all positions, all four kinds", WHOLE
     yield "the same with own tiers", WHOLE + tiers((0, 0), (90, 300), (110, 600))
+    yield "coupons in thousandths", fine_cells(VALUES) + yields(RISING) + rates((400, 500, 600))
     yield "a path of retail rates", path_filing(VALUES, RISING, UP, DOWN, SAW)
     yield "sheets alone", filing({})
     yield from paper_figures()

@@ -11,6 +11,7 @@ sys.dont_write_bytecode = True
 
 import accepted
 import calls
+import fine_coupons
 import monthly_rates
 import own_tiers
 import refused
@@ -24,9 +25,14 @@ MOST_NUMBERS = 600
 MOST_PLACES = 40
 
 
+FILINGS = (
+    accepted.FAMILIES + refused.FAMILIES + own_tiers.FAMILIES + monthly_rates.FAMILIES + fine_coupons.FAMILIES + calls.FAMILIES
+)
+
+
 def entries():
     """Each entry's name and its bytes."""
-    for family in accepted.FAMILIES + refused.FAMILIES + own_tiers.FAMILIES + monthly_rates.FAMILIES + calls.FAMILIES:
+    for family in FILINGS:
         for name, data, *lists in family():
             yield name, entry(calls.VALUE_AND_SPLIT, data, *lists)
     for family in calls.LISTINGS:

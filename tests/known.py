@@ -5,6 +5,7 @@ import sys
 sys.dont_write_bytecode = True
 
 import filings
+import fine_coupons
 import monthly_rates
 import searches
 
@@ -21,12 +22,13 @@ def printed():
 
 def check():
     texts = printed()
-    figures = monthly_rates.FIGURES | searches.known()
+    figures = monthly_rates.FIGURES | fine_coupons.FIGURES | searches.known()
+    pairs = monthly_rates.SAME + fine_coupons.SAME
     for name, line in figures.items():
         assert f"{line}\n" in texts[name], f"{name}: no line {line}"
-    for one, other in monthly_rates.SAME:
+    for one, other in pairs:
         assert texts[one] == texts[other], f"{one}, {other}: different lines"
-    print(f"{len(figures)} known figures, {len(monthly_rates.SAME)} pairs of entries that mean the same")
+    print(f"{len(figures)} known figures, {len(pairs)} pairs of entries that mean the same")
 
 
 check()

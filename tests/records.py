@@ -48,8 +48,19 @@ def cell(number, value):
     return record(1, struct.pack("<HQ", number, value))
 
 
+def fine(number, value):
+    """A coupon in thousandths of a percent."""
+    return record(6, struct.pack("<HQ", number, value))
+
+
 def cells(values):
     return b"".join(cell(number, value) for number, value in values.items())
+
+
+def fine_cells(values):
+    """The cells with the coupons, which are thousandths here, in records of kind 6."""
+    coupons = {place.coupon for place in POSITIONS}
+    return b"".join((fine if number in coupons else cell)(number, value) for number, value in values.items())
 
 
 def yields(values):

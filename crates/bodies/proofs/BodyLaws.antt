@@ -2,17 +2,17 @@
 -- Assumes nothing.
 use Prim.Native.Nat.{ℕ, suc, _-_, _≤_, _<_}
 use native.Mathlib.Omega.{arith}
-use mathlib.Core.Path.{_≡_, refl, ap}
-use mathlib.Core.Bool.{Bool, true, false, cond, _||_}
+use mathlib.Core.Path.{_≡_, refl, sym, ap}
+use mathlib.Core.Bool.{Bool, true, false, cond, _||_, true≢false}
 use mathlib.Core.List.{List}
 use borrow.Author.Tests.{leb-false, ltb-false, eqb-true, eq-eqb, ne-eqb}
 use lib.Dec.{leb, ltb, eqb}
 use Rattle.lists.specs.Tables.{anyBelow}
 use Rattle.lists.proofs.TestLaws.{any-fails}
-use Rattle.schedule.specs.Limits.{cellClass, classLimit, tierLimit, withdrawalLimit}
-use Rattle.records.specs.Records.{recordKind, recordCell, recordValue, sheetNumber, tierCount, tierEdge, tierWithdrawal}
-use Rattle.records.specs.Kinds.{sheetOf, sheetKinds, sheetKind, tiersKind}
-use Rattle.bodies.specs.Bodies.{numberOver, overLimit, unfitTier, unsoundTiers}
+use Rattle.schedule.specs.Limits.{tierLimit, withdrawalLimit}
+use Rattle.records.specs.Records.{recordKind, recordValue, sheetNumber, tierCount, tierEdge, tierWithdrawal}
+use Rattle.records.specs.Kinds.{cellKind, fineCouponKind, givesCell, sheetOf, sheetKinds, sheetKind, tiersKind}
+use Rattle.bodies.specs.Bodies.{valueLimit, numberOver, overLimit, unfitTier, unsoundTiers}
 use Rattle.bodies.proofs.SheetLaws.{none-over}
 
 -- neither of two tests passes
@@ -41,25 +41,33 @@ tier-rises s at i h =
     leb-false (tierEdge s at (suc i)) (tierEdge s at i)
     (neither (leb (tierEdge s at (suc i)) (tierEdge s at i)) (ltb (tierWithdrawal s at (suc i)) (tierWithdrawal s at i)) rest .0)
 
+-- a kind that gives a cell its value is no sheet
+cell-no-sheet : (kind : ℕ) → givesCell kind ≡ true → sheetKind kind .numbers ≡ 0
+unfolding givesCell sheetOf sheetKinds sheetKind
+cell-no-sheet kind = by (eqb kind cellKind) (eqb kind fineCouponKind) refl refl
+  where
+    by : (one fine : Bool) → eqb kind cellKind ≡ one → eqb kind fineCouponKind ≡ fine → (one || fine) ≡ true → sheetKind kind .numbers ≡ 0
+    by true fine e f h = ap (λ (k : ℕ). sheetKind k .numbers) (eqb-true kind cellKind e)
+    by false true e f h = ap (λ (k : ℕ). sheetKind k .numbers) (eqb-true kind fineCouponKind f)
+    by false false e f h = absurd (true≢false (sym h))
+
 module _ (s : List ℕ) (at : ℕ) where
-  -- 5 does not hold at a cell: the value is within the limit of the cell's class
-  pub value-within : overLimit s at ≡ false → recordKind s at ≡ 1 → recordValue s at ≤ classLimit (cellClass (recordCell s at))
+  -- 5 does not hold at a cell: the value is within its limit
+  pub value-within : overLimit s at ≡ false → givesCell (recordKind s at) ≡ true → recordValue s at ≤ valueLimit s at
   unfolding overLimit
-  value-within h e = ltb-false (classLimit (cellClass (recordCell s at))) (recordValue s at) (simp (eq-eqb (recordKind s at) 1 e) at h)
+  value-within h e = ltb-false (valueLimit s at) (recordValue s at) (simp e at h)
 
   -- 5 does not hold at a sheet: each of its numbers is within the limit
   pub numbers-within : overLimit s at ≡ false → (i : ℕ) → 1 ≤ i → i ≤ sheetKind (recordKind s at) .numbers
       → sheetNumber s at i ≤ sheetKind (recordKind s at) .limit
-  unfolding overLimit sheetOf sheetKinds sheetKind
-  numbers-within h i l u = by (eqb (recordKind s at) 1) refl h
+  unfolding overLimit
+  numbers-within h i l u = by (givesCell (recordKind s at)) refl h
     where
-      by : (b : Bool) → eqb (recordKind s at) 1 ≡ b
-          → cond b (ltb (classLimit (cellClass (recordCell s at))) (recordValue s at))
+      by : (b : Bool) → givesCell (recordKind s at) ≡ b
+          → cond b (ltb (valueLimit s at) (recordValue s at))
           (numberOver s at (sheetKind (recordKind s at) .limit) (sheetKind (recordKind s at) .numbers)) ≡ false
           → sheetNumber s at i ≤ sheetKind (recordKind s at) .limit
-      by true e h =
-          let none : sheetKind (recordKind s at) .numbers ≡ 0 = ap (λ (k : ℕ). sheetKind k .numbers) (eqb-true (recordKind s at) 1 e) in
-          absurd (omega arith)
+      by true e h = absurd (omega (arith, cell-no-sheet (recordKind s at) e))
       by false e h = none-over s at (sheetKind (recordKind s at) .limit) (sheetKind (recordKind s at) .numbers) h i l u
 
   -- 11 does not hold: the tiers load

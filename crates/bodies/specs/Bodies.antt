@@ -1,22 +1,26 @@
--- What can be wrong with the body of a record: refusals 5 (01:35) and 11 (02:CR 1). Definitions only.
+-- What can be wrong with the body of a record: refusals 5 (01:35; 02:CR 4) and 11 (02:CR 1). Definitions only.
 use Prim.Native.Nat.{ℕ, suc, _-_}
 use mathlib.Core.Bool.{Bool, cond, not, _||_, _&&_}
 use mathlib.Core.List.{List}
 use lib.Dec.{leb, ltb, eqb}
 use Rattle.lists.specs.Tables.{anyBelow}
-use Rattle.schedule.specs.Limits.{cellClass, classLimit, tierLimit, withdrawalLimit}
+use Rattle.schedule.specs.Limits.{couponLimit, cellClass, classLimit, tierLimit, withdrawalLimit}
 use Rattle.records.specs.Records.{recordKind, recordCell, recordValue, sheetNumber, tierCount, tierEdge, tierWithdrawal}
-use Rattle.records.specs.Kinds.{sheetKind, tiersKind}
+use Rattle.records.specs.Kinds.{fineCouponKind, givesCell, sheetKind, tiersKind}
 
 -- one of a sheet's first n numbers is over the limit
 unfoldable pub numberOver : List ℕ → ℕ → ℕ → ℕ → Bool
 numberOver s at limit n = anyBelow (λ (i : ℕ). ltb limit (sheetNumber s at (suc i))) n
 
+-- the largest value of a record's cell: of kind 6 a coupon's in thousandths (02:CR 4), else its class's
+unfoldable pub valueLimit : List ℕ → ℕ → ℕ
+valueLimit s at = cond (eqb (recordKind s at) fineCouponKind) couponLimit (classLimit (cellClass (recordCell s at)))
+
 -- 5: a value is over its limit
 unfoldable pub overLimit : List ℕ → ℕ → Bool
 overLimit s at =
     let sheet = sheetKind (recordKind s at) in
-    cond (eqb (recordKind s at) 1) (ltb (classLimit (cellClass (recordCell s at))) (recordValue s at))
+    cond (givesCell (recordKind s at)) (ltb (valueLimit s at) (recordValue s at))
     (numberOver s at (sheet .limit) (sheet .numbers))
 
 -- The i-th tier, from 0, does not load (02:CR 1): its withdrawal is above 600; the first edge is not 0; a later edge does not rise above the one

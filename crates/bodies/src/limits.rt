@@ -3,22 +3,37 @@ use records::fields::record_cell;
 use records::fields::record_kind;
 use records::fields::record_value;
 use records::fields::sheet_number;
+use records::kinds::FINE_COUPON_KIND;
+use records::kinds::gives_cell;
 use records::kinds::sheet_kind;
 use schedule::tables::cell_class;
 use schedule::tables::class_limit;
 ghost use mathlib.Core.Path.{_≡_};
-ghost use Rattle.bodies.specs.Bodies.{numberOver, overLimit};
+ghost use Rattle.bodies.specs.Bodies.{valueLimit, numberOver, overLimit};
+
+// The largest coupon, in thousandths of a percent a year.
+const COUPON_LIMIT: u64 = 15_000;
 
 // 5: a value is over its limit.
 pub fn over_limit(s: &[u8], at: usize) -> bool
     ensures { λ r. ⌜ r ≡ overLimit (now (s .entry)) at ⌝ }
 {
     let kind = record_kind(s, at);
-    if kind == 1 {
-        return class_limit(cell_class(record_cell(s, at))) < record_value(s, at);
+    if gives_cell(kind) {
+        return value_limit(s, at) < record_value(s, at);
     }
     let sheet = sheet_kind(kind);
     number_over(s, at, sheet.limit, sheet.numbers as usize)
+}
+
+// The largest value of a record's cell: of a coupon in thousandths, or its class's.
+fn value_limit(s: &[u8], at: usize) -> u64
+    ensures { λ r. ⌜ r ≡ valueLimit (now (s .entry)) at ⌝ }
+{
+    if record_kind(s, at) == FINE_COUPON_KIND {
+        return COUPON_LIMIT;
+    }
+    class_limit(cell_class(record_cell(s, at)))
 }
 
 // One of a sheet's first n numbers is over the limit.

@@ -5,7 +5,7 @@ pub mod values;
 
 use pricing::Run;
 
-// A deposit as its cash flows see it: coupon in hundredths of a percent a year, penalty in hundredths of a month, remaining months.
+// A deposit as its cash flows see it: coupon in thousandths of a percent a year, penalty in hundredths of a month, remaining months.
 pub struct Deposit {
     pub brokered: bool,
     pub coupon: u64,

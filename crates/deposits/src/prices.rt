@@ -25,8 +25,8 @@ ghost use Rattle.deposits.specs.Inner.Prices.{listedPrices, listedRuns, 
 // The months of a column's path of rates.
 const MONTHS: usize = 120;
 
-// The growth of a coupon of one hundredth of a percent a year, in units of 1 / (3 × 10^9) of the balance (01:56).
-const COUPON_GROWTH: u64 = 25_000;
+// The growth of a coupon of one thousandth of a percent a year, in units of 1 / (3 × 10^9) of the balance (01:56; 02:CR 4).
+const COUPON_GROWTH: u64 = 2_500;
 
 // Lower and upper price in a scenario in billionths, at the retail rates of a column, 1 to 3, which are not shifted. In the last month nothing is withdrawn
 // early, and the balance is paid.

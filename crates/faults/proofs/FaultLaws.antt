@@ -8,13 +8,12 @@ use mathlib.Core.List.{List}
 use borrow.Author.Tests.{ltb-false, eqb-true, eqb-false, ne-eqb, not-false}
 use lib.Dec.{ltb, eqb}
 use lib.ListN.{length}
-use Rattle.schedule.specs.Limits.{cellClass, classLimit}
 use Rattle.answers.specs.Verdict.{Verdict, accepted, refused, refusedIf, firstRefusal, firstOf}
 use Rattle.answers.proofs.VerdictLaws.{first-passed, first-refused, first-none, condition-fails}
-use Rattle.records.specs.Records.{recordLength, recordKind, recordCell, recordValue, sheetNumber, nextRecord}
-use Rattle.records.specs.Kinds.{sheetOf, sheetKinds, sheetKind, sheetLength, tiersKind, dueLength}
+use Rattle.records.specs.Records.{recordLength, recordKind, recordValue, sheetNumber, nextRecord}
+use Rattle.records.specs.Kinds.{givesCell, sheetOf, sheetKinds, sheetKind, sheetLength, tiersKind, dueLength}
 use Rattle.records.proofs.ItemLaws.{OfSheet}
-use Rattle.bodies.specs.Bodies.{overLimit, unsoundTiers}
+use Rattle.bodies.specs.Bodies.{valueLimit, overLimit, unsoundTiers}
 use Rattle.bodies.proofs.BodyLaws.{neither, SoundTiers, value-within, numbers-within, tiers-load}
 use Rattle.faults.specs.Faults.{incomplete, misshapen, unlisted, repeated, pathBesideFlat}
 use Rattle.faults.specs.RecordVerdicts.{recordVerdict}
@@ -34,7 +33,7 @@ pub record Faultless (s : List ℕ) (at : ℕ) : Type 0 where
 pub record Sound (s : List ℕ) (at : ℕ) : Type 0 where
   pub complete : nextRecord s at ≤ length s
   pub shaped : recordLength s at ≡ dueLength s at
-  pub value-limit : recordKind s at ≡ 1 → recordValue s at ≤ classLimit (cellClass (recordCell s at))
+  pub value-limit : givesCell (recordKind s at) ≡ true → recordValue s at ≤ valueLimit s at
   pub number-limit : (i : ℕ) → 1 ≤ i → i ≤ sheetKind (recordKind s at) .numbers → sheetNumber s at i ≤ sheetKind (recordKind s at) .limit
   pub tiers : recordKind s at ≡ tiersKind → SoundTiers s at
 
@@ -88,7 +87,7 @@ module _ (s : List ℕ) (at : ℕ) where
   sheet-due kind of some =
       rw (of .kind-is)
       (simp (
-        ne-eqb kind 1 (of .not-one),
+        of .no-cell,
         ne-eqb kind tiersKind (λ e. some (ap (λ (k : ℕ). sheetKind k .numbers) e)),
         ne-eqb (sheetKind kind .numbers) 0 some,
       ))

@@ -1,14 +1,13 @@
--- What can be wrong with one record before its body is looked at: refusals 1 to 4 (01:31-34) and 12 (02:CR 3), in that order. Definitions only.
+-- What can be wrong with one record before its body is looked at: refusals 1 to 4 (01:31-34; 02:CR 4) and 12 (02:CR 3), in that order. Definitions only.
 use Prim.Native.Nat.{ℕ, _+_}
 use mathlib.Core.Bool.{Bool, false, cond, not, _||_, _&&_}
 use mathlib.Core.List.{List}
 use lib.ListN.{length}
 use lib.Dec.{ltb, eqb}
-use Rattle.schedule.specs.Limits.{cellClass}
-use Rattle.records.specs.Records.{recordLength, recordKind, recordCell, nextRecord}
+use Rattle.records.specs.Records.{recordLength, recordKind, nextRecord}
 use Rattle.records.specs.declared.items.Item.the-variants.{Sheet}
-use Rattle.records.specs.Kinds.{flatRatesKind, ratePathKind, dueLength}
-use Rattle.records.specs.Items.{recordItem, firstWith}
+use Rattle.records.specs.Kinds.{givesCell, flatRatesKind, ratePathKind, dueLength}
+use Rattle.records.specs.Items.{recordClass, recordItem, firstWith}
 
 -- 1: the record runs past the end, its length or itself, or its length is below 2
 unfoldable pub incomplete : List ℕ → ℕ → Bool
@@ -18,9 +17,9 @@ incomplete s at = ltb (length s) (at + 2) || (ltb (recordLength s at) 2 || ltb (
 abbrev pub misshapen : List ℕ → ℕ → Bool
 misshapen s at = not (eqb (recordLength s at) (dueLength s at))
 
--- 3: the cell is not listed
+-- 3: the cell is not listed for a record of its kind
 abbrev pub unlisted : List ℕ → ℕ → Bool
-unlisted s at = eqb (recordKind s at) 1 && eqb (cellClass (recordCell s at)) 0
+unlisted s at = givesCell (recordKind s at) && eqb (recordClass s at) 0
 
 -- 4: the cell, or the kind of sheet, stands in an earlier record
 unfoldable pub repeated : List ℕ → ℕ → Bool

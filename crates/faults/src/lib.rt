@@ -4,16 +4,16 @@ use answers::first_refusal;
 use bodies::limits::over_limit;
 use bodies::tiers::unsound_tiers;
 use records::FIRST_CELL;
-use records::fields::record_cell;
 use records::fields::record_kind;
 use records::fields::record_length;
 use records::items::Item;
 use records::items::Noted;
+use records::items::record_class;
 use records::items::record_item;
 use records::kinds::FLAT_RATES_KIND;
 use records::kinds::RATE_PATH_KIND;
 use records::kinds::due_length;
-use schedule::tables::cell_class;
+use records::kinds::gives_cell;
 ghost use mathlib.Core.Path.{_≡_};
 ghost use Prim.Native.Nat.{_≤_};
 ghost use lib.ListN.{length};
@@ -74,11 +74,11 @@ fn misshapen(s: &[u8], at: usize) -> bool
     record_length(s, at) != due_length(s, at)
 }
 
-// 3: the cell is not listed.
+// 3: the cell is not listed for a record of its kind.
 fn unlisted(s: &[u8], at: usize) -> bool
     ensures { λ r. ⌜ r ≡ faults.unlisted (now (s .entry)) at ⌝ }
 {
-    (record_kind(s, at) == 1) & (cell_class(record_cell(s, at)) == 0)
+    gives_cell(record_kind(s, at)) & (record_class(s, at) == 0)
 }
 
 // 4: the cell, or the kind of sheet, stands in an earlier record.

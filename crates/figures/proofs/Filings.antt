@@ -16,6 +16,11 @@ abbrev pub filed : List (ℕ × ℕ) → List ℕ
 filed [] = []
 filed (c ∷ cs) = bytes 2 12 ++ bytes 2 1 ++ bytes 2 (c .0) ++ bytes 8 (c .1) ++ filed cs
 
+-- the records of coupons in thousandths, each with its value
+abbrev pub fined : List (ℕ × ℕ) → List ℕ
+fined [] = []
+fined (c ∷ cs) = bytes 2 12 ++ bytes 2 6 ++ bytes 2 (c .0) ++ bytes 8 (c .1) ++ fined cs
+
 -- the sheets, with the rate of a month and of a column
 abbrev pub yieldSheet : (ℕ → ℕ) → List ℕ
 yieldSheet rate = bytes 2 242 ++ bytes 2 2 ++ joined (tableFrom 1 120 (λ (t : ℕ). bytes 2 (rate t)))

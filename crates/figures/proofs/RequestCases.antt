@@ -1,7 +1,7 @@
--- Closed cases of what the requests add to a filing (02:CR 3): the verdict on each record at its limits and beyond, the order of its tests, and what an
+-- Closed cases of what the requests add to a filing (02:CR 3, CR 4): the verdict on each record at its limits and beyond, the order of its tests, and what an
 -- accepted filing says. Each is computed.
 -- Assumes nothing.
-use Prim.Native.Nat.{ℕ, _+_}
+use Prim.Native.Nat.{ℕ, _+_, _-_, _^_}
 use mathlib.Core.Path.{_≡_, refl}
 use mathlib.Core.List.{List, [], _∷_, _++_, map}
 use Rattle.lists.specs.Sums.{sum}
@@ -12,17 +12,17 @@ use Rattle.schedule.specs.Shift.{pathRate}
 use Rattle.answers.specs.Verdict.{accepted, refused, refusedIf, firstRefusal, firstOf}
 use Rattle.records.specs.Bytes.{numberAt}
 use Rattle.records.specs.Records.{nextRecord, searchRecords, firstRecord}
-use Rattle.records.specs.Kinds.{sheetOf, sheetKinds, sheetKind, sheetLength, dueLength}
-use Rattle.records.specs.Items.{sameItem, recordItem, firstWith}
-use Rattle.bodies.specs.Bodies.{numberOver, overLimit, unfitTier, unsoundTiers}
+use Rattle.records.specs.Kinds.{givesCell, sheetOf, sheetKinds, sheetKind, sheetLength, dueLength}
+use Rattle.records.specs.Items.{sameItem, recordClass, recordItem, firstWith}
+use Rattle.bodies.specs.Bodies.{valueLimit, numberOver, overLimit, unfitTier, unsoundTiers}
 use Rattle.faults.specs.Faults.{incomplete, repeated, sheetBefore, pathBesideFlat}
 use Rattle.faults.specs.RecordVerdicts.{firstFaulty, recordVerdict, recordsVerdict}
 use Rattle.conditions.specs.Conditions.{cellIn, monthsOutside, columnBalances, balances, aboveColumn, totalDiffers}
 use Rattle.conditions.specs.CellVerdicts.{positionVerdict, monthsVerdict, columnVerdict, columnsVerdict, totalVerdict, cellsVerdict}
 use Rattle.filing.specs.declared.Contents.{Contents}
-use Rattle.filing.specs.Contents.{cellOffset, cellValue, sheetOffset, rateNumber, tierNumber, tiersAt, contentsOf, retailRate}
+use Rattle.filing.specs.Contents.{amountAt, cellOffset, cellValue, sheetOffset, rateNumber, tierNumber, tiersAt, contentsOf, cell, retailRate}
 use Rattle.filing.specs.Verdict.{sheetMissing, sheetVerdict, filingVerdict}
-use Rattle.figures.proofs.Filings.{bytes, filed, yieldSheet, rateSheet, pathSheet, Case, gives}
+use Rattle.figures.proofs.Filings.{bytes, filed, yieldSheet, rateSheet, pathSheet, fined, complete, Case, gives}
 
 -- 2, 4, 12, 5 and 6 at the retail rates by month: a length that is not 722, the path twice, beside flat rates in both orders and over the limit besides, each
 -- number at its limit and one over, and which sheets must be there
@@ -44,9 +44,34 @@ path-cases =
     ∷ gives (yieldSheet (λ (t : ℕ). 0) ++ pathSheet (λ (i : ℕ). 0) ++ filed ((645, 1) ∷ [])) (refused 9 645)
     ∷ []
 
+-- 2 to 5 at the coupons in thousandths: a length that is not 12, every cell but the nine coupons, a coupon twice and by both kinds, its limit and one over
+abbrev coupon-cases : List Case
+coupon-cases =
+    gives (bytes 2 11 ++ bytes 2 6 ++ bytes 9 605) (refused 2 0)
+    ∷ gives (bytes 2 13 ++ bytes 2 6 ++ bytes 11 605) (refused 2 0)
+    ∷ gives (fined ((600, 0) ∷ [])) (refused 3 0)
+    ∷ gives (fined ((601, 0) ∷ (601, 0) ∷ [])) (refused 3 0)
+    ∷ gives (fined ((604, 0) ∷ [])) (refused 3 0)
+    ∷ gives (fined ((608, 0) ∷ [])) (refused 3 0)
+    ∷ gives (fined ((645, 2 ^ 64 - 1) ∷ [])) (refused 3 0)
+    ∷ gives (fined ((650, 0) ∷ [])) (refused 3 0)
+    ∷ gives (fined ((656, 0) ∷ [])) (refused 3 0)
+    ∷ gives (fined ((605, 15000) ∷ [])) (refused 6 14)
+    ∷ gives (fined ((605, 15001) ∷ [])) (refused 5 0)
+    ∷ gives (fined ((643, 2 ^ 64 - 1) ∷ [])) (refused 5 0)
+    ∷ gives (filed ((605, 1501) ∷ [])) (refused 5 0)
+    ∷ gives (fined ((605, 0) ∷ (605, 15001) ∷ [])) (refused 4 14)
+    ∷ gives (filed ((605, 0) ∷ []) ++ fined ((605, 0) ∷ [])) (refused 4 14)
+    ∷ gives (fined ((605, 0) ∷ []) ++ filed ((605, 1501) ∷ [])) (refused 4 14)
+    ∷ gives (complete ((601, 10) ∷ (608, 1) ∷ (645, 10) ∷ []) ++ fined ((605, 12345) ∷ (606, 15000) ∷ [])) accepted
+    ∷ []
+
+abbrev cases : List Case
+cases = path-cases ++ coupon-cases
+
 -- every case holds
-verdicts-hold : map (λ (c : Case). filingVerdict (c .input)) path-cases ≡ map (λ (c : Case). c .verdict) path-cases
-unfolding numberAt nextRecord searchRecords firstRecord sheetOf sheetKinds sheetKind sheetLength dueLength sameItem recordItem firstWith incomplete repeated sheetBefore pathBesideFlat anyBelow numberOver overLimit unfitTier unsoundTiers cellClass classLimit contains position positions brokeredCell penaltyBalanceCell penaltyMonthsCell unusedCells firstFaulty sheetOffset sheetMissing filingVerdict refused cellOffset cellValue contentsOf rateNumber tiersAt tierNumber cellIn monthsOutside columnBalances balances aboveColumn totalDiffers sum those inColumn withinRow sheetVerdict positionVerdict monthsVerdict columnVerdict columnsVerdict totalVerdict cellsVerdict recordVerdict recordsVerdict accepted refusedIf firstRefusal firstOf tableFrom joined
+verdicts-hold : map (λ (c : Case). filingVerdict (c .input)) cases ≡ map (λ (c : Case). c .verdict) cases
+unfolding numberAt nextRecord searchRecords firstRecord givesCell sheetOf sheetKinds sheetKind sheetLength dueLength sameItem recordClass recordItem firstWith incomplete repeated sheetBefore pathBesideFlat anyBelow valueLimit numberOver overLimit unfitTier unsoundTiers cellClass classLimit contains position positions brokeredCell penaltyBalanceCell penaltyMonthsCell unusedCells firstFaulty sheetOffset sheetMissing filingVerdict refused amountAt cellOffset cellValue contentsOf rateNumber tiersAt tierNumber cellIn monthsOutside columnBalances balances aboveColumn totalDiffers sum those inColumn withinRow sheetVerdict positionVerdict monthsVerdict columnVerdict columnsVerdict totalVerdict cellsVerdict recordVerdict recordsVerdict accepted refusedIf firstRefusal firstOf tableFrom joined
 verdicts-hold = refl
 
 -- the retail rates that a path says, at both ends of each column, and those of flat rates
@@ -60,5 +85,13 @@ rates-hold :
     retailRate by-month 1 1 ∷ retailRate by-month 1 120 ∷ retailRate by-month 2 1 ∷ retailRate by-month 2 120 ∷ retailRate by-month 3 1
     ∷ retailRate by-month 3 120 ∷ retailRate by-month 3 121 ∷ retailRate flat 1 1 ∷ retailRate flat 1 120 ∷ retailRate flat 2 1 ∷ retailRate flat 3 120 ∷ []
     ≡ 1000 ∷ 1119 ∷ 1120 ∷ 1239 ∷ 1240 ∷ 1359 ∷ 0 ∷ 1001 ∷ 1001 ∷ 1002 ∷ 1003 ∷ []
-unfolding numberAt nextRecord searchRecords firstRecord sheetOf sheetKinds sheetKind sheetLength dueLength sameItem recordItem firstWith cellClass contains position positions brokeredCell penaltyBalanceCell penaltyMonthsCell unusedCells cellOffset cellValue sheetOffset contentsOf rateNumber tiersAt tierNumber pathRate tableFrom joined
+unfolding numberAt nextRecord searchRecords firstRecord givesCell sheetOf sheetKinds sheetKind sheetLength dueLength sameItem recordClass recordItem firstWith cellClass contains position positions brokeredCell penaltyBalanceCell penaltyMonthsCell unusedCells amountAt cellOffset cellValue sheetOffset contentsOf rateNumber tiersAt tierNumber pathRate tableFrom joined
 rates-hold = refl
+
+-- coupons by both kinds, in thousandths, beside other cells
+abbrev coupons : Contents
+coupons = contentsOf (filed ((601, 10) ∷ (605, 1234) ∷ (608, 3) ∷ []) ++ fined ((606, 1234) ∷ []))
+
+coupons-hold : cell coupons 601 ∷ cell coupons 605 ∷ cell coupons 606 ∷ cell coupons 607 ∷ cell coupons 608 ∷ [] ≡ 10 ∷ 12340 ∷ 1234 ∷ 0 ∷ 3 ∷ []
+unfolding numberAt nextRecord searchRecords firstRecord givesCell sheetOf sheetKinds sheetKind sheetLength dueLength sameItem recordClass recordItem firstWith cellClass contains position positions brokeredCell penaltyBalanceCell penaltyMonthsCell unusedCells amountAt cellOffset cellValue sheetOffset contentsOf rateNumber tiersAt tierNumber cellIn tableFrom joined
+coupons-hold = refl

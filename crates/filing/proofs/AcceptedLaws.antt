@@ -11,7 +11,7 @@ use lib.ListN.{length}
 use Rattle.lists.specs.Sums.{sum}
 use Rattle.lists.proofs.TableLaws.{table-le}
 use Rattle.schedule.specs.Cells.{positionAt, brokeredCell, penaltyBalanceCell, penaltyMonthsCell}
-use Rattle.schedule.specs.Limits.{classLimit, monthsLimit, rateLimit}
+use Rattle.schedule.specs.Limits.{classLimit, heldLimit, monthsLimit, rateLimit}
 use Rattle.schedule.specs.Shift.{pathRate}
 use Rattle.schedule.proofs.CellLaws.{coupon-cell, months-cell, penalty-months-cell}
 use Rattle.records.specs.Records.{sheetNumber}
@@ -65,7 +65,7 @@ module _ (s : List ℕ) (a : Accepted s) where
 
   -- what an accepted filing says is valid
   pub accepted-valid : Valid (contentsOf s)
-  unfolding classLimit brokeredCell penaltyBalanceCell
+  unfolding heldLimit classLimit brokeredCell penaltyBalanceCell
   accepted-valid =
       let k = contentsOf s in
       let passed = accepted-passed s a in

@@ -2,30 +2,32 @@
 -- Assumes nothing.
 use Prim.Native.Nat.{ℕ, suc, _+_, _*_, _-_, _≤_, _<_}
 use native.Mathlib.Omega.{arith}
-use mathlib.Core.Path.{_≡_, refl, ap, _∙_}
-use mathlib.Core.Bool.{Bool, true, false, cond, not}
+use mathlib.Core.Path.{_≡_, refl, sym, ap, _∙_}
+use mathlib.Core.Bool.{Bool, true, false, cond, not, true≢false}
 use mathlib.Core.List.{List}
-use borrow.Author.Tests.{le-leb, lt-ltb, ltb-true, ltb-false, eqb-true, not-false}
+use borrow.Author.Tests.{le-leb, lt-ltb, ltb-true, ltb-false, eqb-true, eq-eqb, not-false}
 use lib.Dec.{ltb, eqb}
 use lib.ListN.{length, getD}
 use Rattle.lists.specs.Tables.{table}
 use Rattle.lists.proofs.TableLaws.{tableFrom-getD, table-getD, table-le}
 use Rattle.schedule.specs.Cells.{positionAt}
-use Rattle.schedule.specs.Limits.{cellClass, classLimit, tierLimit, withdrawalLimit}
+use Rattle.schedule.specs.Limits.{couponClass, couponLimit, cellClass, classLimit, heldLimit, tierLimit, withdrawalLimit}
 use Rattle.schedule.proofs.CellLaws.{CellOf, balance-cell}
 use Rattle.records.specs.declared.items.Item.{Item}
 use Rattle.records.specs.declared.items.Item.the-variants.{Cell, Sheet}
-use Rattle.records.specs.Records.{recordValue, sheetNumber, tierCount}
-use Rattle.records.specs.Kinds.{sheetKind, tiersKind}
+use Rattle.records.specs.Records.{recordKind, recordCell, recordValue, sheetNumber, tierCount}
+use Rattle.records.specs.Kinds.{fineCouponKind, sheetKind, tiersKind}
 use Rattle.records.specs.Items.{sameItem, recordItem, firstWith}
 use Rattle.faults.specs.RecordVerdicts.{firstFaulty, recordVerdict}
 use Rattle.records.proofs.ByteLaws.{number-past}
 use Rattle.records.proofs.RecordLaws.{first-fails}
 use Rattle.records.proofs.ItemLaws.{with-passes, record-of-cell, record-of-sheet}
+use Rattle.bodies.specs.Bodies.{valueLimit}
 use Rattle.bodies.proofs.BodyLaws.{SoundTiers, tier-fits, tier-rises}
 use Rattle.faults.proofs.FaultLaws.{Sound, faultless-sound}
 use Rattle.conditions.specs.Conditions.{cellIn}
-use Rattle.filing.specs.Contents.{cellOffset, cellValue, sheetOffset, tierNumber, tiersAt, contentsOf, cell}
+use Rattle.filing.specs.Contents.{amountAt, cellOffset, cellValue, sheetOffset, tierNumber, tiersAt, contentsOf, cell}
+use Rattle.filing.proofs.ContentsLaws.{amount-past}
 use Rattle.conditions.specs.Inner.Sums.{BalancesWithin}
 
 -- a cell of 601 to 661, as read from the contents
@@ -46,27 +48,53 @@ module _ (s : List ℕ) (none : firstFaulty s ≡ length s) where
       (not-false (eqb (recordVerdict s at .number) 0)
       (first-fails s (λ (i : ℕ). not (eqb (recordVerdict s i .number) 0)) (λ (i : ℕ). sameItem (recordItem s i) item) (length s) (omega (arith, none)) h)))
 
-  present-cell-limit : (n : ℕ) → cellOffset s n < length s → recordValue s (cellOffset s n) ≤ classLimit (cellClass n)
-  unfolding cellOffset
-  present-cell-limit n h =
-      let is-cell = record-of-cell s (cellOffset s n) n (with-passes s (Cell n) (length s) h) in
-      rw (is-cell .cell-is) at (item-sound (Cell n) h .value-limit (is-cell .kind-is))
+  -- a record's value, within its limit, gives its cell no more than what a filing may say
+  amount-limit : (at : ℕ) (fine coupon : Bool) → eqb (recordKind s at) fineCouponKind ≡ fine → eqb (cellClass (recordCell s at)) couponClass ≡ coupon
+      → (fine ≡ true → cellClass (recordCell s at) ≡ couponClass)
+      → recordValue s at ≤ cond fine couponLimit (classLimit (cellClass (recordCell s at)))
+      → cond fine (recordValue s at) (cond coupon (10 * recordValue s at) (recordValue s at))
+      ≤ cond coupon couponLimit (classLimit (cellClass (recordCell s at)))
+  unfolding classLimit
+  amount-limit at true true e f c h = h
+  amount-limit at true false e f c h = absurd (true≢false (sym (eq-eqb (cellClass (recordCell s at)) couponClass (c refl)) ∙ f))
+  amount-limit at false true e f c h = omega (arith, rw (eqb-true (cellClass (recordCell s at)) couponClass f) at h)
+  amount-limit at false false e f c h = h
 
-  cell-limit : (n : ℕ) → cellValue s n ≤ classLimit (cellClass n)
-  unfolding cellValue
-  cell-limit n = by-presence (ltb (cellOffset s n) (length s)) refl
+  present-limit : (n : ℕ) → cellOffset s n < length s → amountAt s (cellOffset s n) ≤ heldLimit (cellClass (recordCell s (cellOffset s n)))
+  unfolding cellOffset amountAt heldLimit valueLimit
+  present-limit n h =
+      let at = cellOffset s n in
+      let is-cell = record-of-cell s at n (with-passes s (Cell n) (length s) h) in
+      amount-limit at (eqb (recordKind s at) fineCouponKind) (eqb (cellClass (recordCell s at)) couponClass) refl refl
+      (λ e. rw (is-cell .cell-is) (is-cell .coupon (eqb-true (recordKind s at) fineCouponKind e)))
+      (item-sound (Cell n) h .value-limit (is-cell .gives))
+
+  pub offset-limit : (n : ℕ) → amountAt s (cellOffset s n) ≤ heldLimit (cellClass (recordCell s (cellOffset s n)))
+  offset-limit n = by (ltb (cellOffset s n) (length s)) refl
     where
-      by-presence : (b : Bool) → ltb (cellOffset s n) (length s) ≡ b → cond b (recordValue s (cellOffset s n)) 0 ≤ classLimit (cellClass n)
-      by-presence true e = present-cell-limit n (ltb-true (cellOffset s n) (length s) e)
-      by-presence false e = omega arith
+      by : (b : Bool) → ltb (cellOffset s n) (length s) ≡ b → amountAt s (cellOffset s n) ≤ heldLimit (cellClass (recordCell s (cellOffset s n)))
+      by true e = present-limit n (ltb-true (cellOffset s n) (length s) e)
+      by false e = omega (arith, amount-past s (cellOffset s n) (ltb-false (cellOffset s n) (length s) e))
+
+  present-cell : (n : ℕ) → cellOffset s n < length s → recordCell s (cellOffset s n) ≡ n
+  unfolding cellOffset
+  present-cell n h = record-of-cell s (cellOffset s n) n (with-passes s (Cell n) (length s) h) .cell-is
+
+  cell-limit : (n : ℕ) → cellValue s n ≤ heldLimit (cellClass n)
+  unfolding cellValue
+  cell-limit n = by (ltb (cellOffset s n) (length s)) refl
+    where
+      by : (b : Bool) → ltb (cellOffset s n) (length s) ≡ b → cond b (amountAt s (cellOffset s n)) 0 ≤ heldLimit (cellClass n)
+      by true e = rw (present-cell n (ltb-true (cellOffset s n) (length s) e)) at (offset-limit n)
+      by false e = omega arith
 
   -- a cell is within the limit of its class
-  pub cell-within : (n class : ℕ) → CellOf n class → cell (contentsOf s) n ≤ classLimit class
+  pub cell-within : (n class : ℕ) → CellOf n class → cell (contentsOf s) n ≤ heldLimit class
   cell-within n class c = rw (cell-read s n (c .from-601) (c .to-661), ← c .in-class) (cell-limit n)
 
   -- so no sum of balances wraps
   pub balances-within : BalancesWithin (contentsOf s .cells)
-  unfolding classLimit
+  unfolding heldLimit classLimit
   balances-within i h = cell-within (positionAt i .balance) 1 (balance-cell i h)
 
   -- each number of a sheet that is present is within the limit of its kind

@@ -1,14 +1,14 @@
--- What a filing says: its cells, its CD yields, its retail rates (01:6-11; by month, 02:CR 3) and its tiers (02:CR 1). Definitions only.
+-- What a filing says: its cells (coupons in thousandths, 02:CR 4), its CD yields, its retail rates (01:6-11; by month, 02:CR 3) and its tiers (02:CR 1). Definitions only.
 use Prim.Native.Nat.{ℕ, _+_, _*_, _-_, _/_}
 use mathlib.Core.Bool.{cond}
 use mathlib.Core.List.{List}
 use lib.ListN.{length, getD}
-use lib.Dec.{ltb}
+use lib.Dec.{ltb, eqb}
 use Rattle.lists.specs.Tables.{table, tableFrom}
-use Rattle.schedule.specs.Limits.{monthsLimit, tierLimit}
+use Rattle.schedule.specs.Limits.{couponClass, cellClass, monthsLimit, tierLimit}
 use Rattle.schedule.specs.Shift.{pathRate}
-use Rattle.records.specs.Records.{recordValue, sheetNumber, tierCount}
-use Rattle.records.specs.Kinds.{flatRatesKind, tiersKind, ratePathKind}
+use Rattle.records.specs.Records.{recordKind, recordCell, recordValue, sheetNumber, tierCount}
+use Rattle.records.specs.Kinds.{flatRatesKind, tiersKind, ratePathKind, fineCouponKind}
 use Rattle.records.specs.declared.items.Item.the-variants.{Cell, Sheet}
 use Rattle.records.specs.Items.{firstWith}
 use Rattle.conditions.specs.Conditions.{cellIn}
@@ -19,9 +19,16 @@ use Rattle.filing.specs.declared.FiledTiers.{FiledTiers}
 unfoldable pub cellOffset : List ℕ → ℕ → ℕ
 cellOffset s n = firstWith s (Cell n) (length s)
 
--- the value of a cell, in the cell's unit; an absent cell is 0
+-- the value that a record gives its cell in what the filing says, in the cell's unit. Coupons are in thousandths of a percent a year there (02:CR 4): kind 6
+-- gives them so, and one by another kind, in hundredths, counts tenfold
+unfoldable pub amountAt : List ℕ → ℕ → ℕ
+amountAt s at =
+    cond (eqb (recordKind s at) fineCouponKind) (recordValue s at)
+    (cond (eqb (cellClass (recordCell s at)) couponClass) (10 * recordValue s at) (recordValue s at))
+
+-- the value of a cell; an absent cell is 0
 unfoldable pub cellValue : List ℕ → ℕ → ℕ
-cellValue s n = cond (ltb (cellOffset s n) (length s)) (recordValue s (cellOffset s n)) 0
+cellValue s n = cond (ltb (cellOffset s n) (length s)) (amountAt s (cellOffset s n)) 0
 
 -- the offset of a kind of sheet, or the input's length where there is none
 unfoldable pub sheetOffset : List ℕ → ℕ → ℕ

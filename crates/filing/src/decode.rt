@@ -2,26 +2,32 @@
 use crate::Contents;
 use crate::FiledTiers;
 use records::CELLS;
+use records::fields::record_cell;
+use records::fields::record_kind;
 use records::fields::record_value;
 use records::fields::sheet_number;
 use records::fields::tier_count;
 use records::items::Noted;
+use records::kinds::FINE_COUPON_KIND;
 use records::kinds::FLAT_RATES_KIND;
 use records::kinds::RATE_PATH_KIND;
 use records::kinds::TIERS_KIND;
+use schedule::tables::COUPON_CLASS;
+use schedule::tables::cell_class;
 ghost use mathlib.Core.Path.{_≡_};
 ghost use Prim.Native.Nat.{_≤_, _<_};
 ghost use lib.ListN.{length};
 ghost use Rattle.lists.specs.Tables.{table, tableFrom};
-ghost use Rattle.schedule.specs.Limits.{tierLimit};
-ghost use Rattle.records.specs.Records.{sheetNumber};
+ghost use Rattle.schedule.specs.Limits.{cellClass, heldLimit, tierLimit};
+ghost use Rattle.records.specs.Records.{recordCell, sheetNumber};
 ghost use Rattle.records.specs.Kinds.{flatRatesKind, ratePathKind};
 ghost use Rattle.records.specs.Inner.Notes.{notedBefore};
-ghost use Rattle.filing.specs.Contents.{sheetOffset, rateCount, rateNumber, tierNumber, tiersAt, contentsOf};
+ghost use Rattle.faults.specs.RecordVerdicts.{firstFaulty};
+ghost use Rattle.filing.specs.Contents.{amountAt, sheetOffset, rateCount, rateNumber, tierNumber, tiersAt, contentsOf};
 
-// What a filing says, from where all its records stand.
+// What a filing says whose records are sound, from where all of them stand.
 pub(crate) fn contents_of(s: &[u8], noted: Noted) -> Contents
-    requires { ⌜ noted ≡ notedBefore (now s) (length (now s)) ⌝ }
+    requires { ⌜ (firstFaulty (now s) ≡ length (now s)) × (noted ≡ notedBefore (now s) (length (now s))) ⌝ }
     ensures { λ r. ⌜ r ≡ contentsOf (now (s .entry)) ⌝ }
 {
     let cells = cell_values(s, &noted.cells);
@@ -43,16 +49,31 @@ pub(crate) fn contents_of(s: &[u8], noted: Noted) -> Contents
 
 // The values of cells 601 to 661.
 fn cell_values(s: &[u8], offsets: &[usize; CELLS]) -> [u64; CELLS]
-    requires { ⌜ now offsets ≡ notedBefore (now s) (length (now s)) .cells ⌝ }
+    requires { ⌜ (firstFaulty (now s) ≡ length (now s)) × (now offsets ≡ notedBefore (now s) (length (now s)) .cells) ⌝ }
     ensures { λ r. ⌜ r ≡ contentsOf (now (s .entry)) .cells ⌝ }
 {
     let mut cells = [0; CELLS];
     let mut i = 0;
     while i < CELLS {
-        cells[i] = record_value(s, offsets[i]);
+        cells[i] = amount_at(s, offsets[i]);
         i += 1;
     }
     cells
+}
+
+// The value that the record at an offset gives its cell: a coupon that is not filed in thousandths counts tenfold.
+fn amount_at(s: &[u8], at: usize) -> u64
+    requires { ⌜ amountAt (now s) at ≤ heldLimit (cellClass (recordCell (now s) at)) ⌝ }
+    ensures { λ r. ⌜ r ≡ amountAt (now (s .entry)) at ⌝ }
+{
+    let value = record_value(s, at);
+    if record_kind(s, at) == FINE_COUPON_KIND {
+        return value;
+    }
+    if cell_class(record_cell(s, at)) == COUPON_CLASS {
+        return 10 * value;
+    }
+    value
 }
 
 // Fills in the numbers of the sheet at an offset, from the first on.

@@ -56,18 +56,26 @@ fn read_contents(filing: &[u8], noted: Noted) -> Reading
     Reading { answer, contents }
 }
 
-// The reading of a refused filing: its contents are those of an empty one.
+// The reading of a refused filing: its contents are those of an empty one, all 0.
 fn refusal(answer: Answer) -> Reading
     ensures { λ r. ⌜ (r .answer ≡ answer) × (r .contents ≡ emptyContents) ⌝ }
 {
-    let empty = b"";
-    let scanned = scan(empty);
-    let contents = contents_of(empty, scanned.noted);
+    let contents = Contents {
+        cells: [0; 61],
+        yields: [0; 120],
+        rates: [0; 360],
+        tiers: FiledTiers {
+            count: 0,
+            edges: [0; 16],
+            withdrawals: [0; 16],
+        },
+    };
     Reading { answer, contents }
 }
 
 // What an accepted filing says: the values of cells 601 to 661, the CD yields of months 1 to 120, the retail rates of months 1 to 120 column by column, and
-// its tiers of annual withdrawal. Cells are in their own units, yields and rates in hundredths of a percent a year.
+// its tiers of annual withdrawal. Cells are in their own units, coupons among them in
+// thousandths of a percent a year, yields and rates in hundredths.
 pub struct Contents {
     pub cells: [u64; 61],
     pub yields: [u16; 120],

@@ -5,16 +5,16 @@ use native.Mathlib.Omega.{arith}
 use mathlib.Core.Path.{_≡_, refl, sym, ap}
 use mathlib.Core.Bool.{Bool, true, false, cond, true≢false}
 use mathlib.Core.List.{List}
-use borrow.Author.Tests.{ltb-true, ltb-false, eqb-true, eqb-false, ne-eqb}
+use borrow.Author.Tests.{ltb-true, ltb-false, eqb-true, eqb-false, eq-eqb, ne-eqb}
 use lib.Dec.{ltb, eqb}
 use lib.ListN.{List·getD-eq-default}
-use Rattle.schedule.specs.Limits.{cellClass}
+use Rattle.schedule.specs.Limits.{couponClass, cellClass}
 use Rattle.schedule.proofs.ClassLaws.{class-listed}
 use Rattle.records.specs.declared.items.Item.{Item}
 use Rattle.records.specs.declared.items.Item.the-variants.{Cell, Sheet, Nothing}
 use Rattle.records.specs.Records.{recordKind, recordCell}
-use Rattle.records.specs.Kinds.{kindCount, sheetOf, sheetKinds, sheetKind, sheetLength, tiersKind, dueLength}
-use Rattle.records.specs.Items.{sameItem, recordItem, firstWith}
+use Rattle.records.specs.Kinds.{kindCount, cellKind, fineCouponKind, givesCell, sheetOf, sheetKinds, sheetKind, sheetLength, tiersKind, dueLength}
+use Rattle.records.specs.Items.{sameItem, recordClass, recordItem, firstWith}
 use Rattle.records.specs.Inner.Notes.{firstCell, cellCount}
 use Rattle.records.proofs.RecordLaws.{first-passes}
 
@@ -44,10 +44,11 @@ with-passes s item end h =
 
 -- a kind that is not known has no length
 unknown-due : (s : List ℕ) (at : ℕ) → kindCount ≤ recordKind s at → dueLength s at ≡ 0
-unfolding sheetKinds sheetKind sheetOf sheetLength dueLength
+unfolding givesCell sheetKinds sheetKind sheetOf sheetLength dueLength
 unknown-due s at h =
     simp (
-      ne-eqb (recordKind s at) 1 (λ e. omega arith),
+      ne-eqb (recordKind s at) cellKind (λ e. omega arith),
+      ne-eqb (recordKind s at) fineCouponKind (λ e. omega arith),
       ne-eqb (recordKind s at) tiersKind (λ e. omega arith),
       List·getD-eq-default sheetKinds (sheetOf 0 0) {n = recordKind s at} h,
     )
@@ -60,36 +61,56 @@ kind-known s at h = by (ltb (recordKind s at) kindCount) refl
     by true e = ltb-true (recordKind s at) kindCount e
     by false e = absurd (h (unknown-due s at (ltb-false (recordKind s at) kindCount e)))
 
--- a record of a cell: it is of kind 1 and holds that cell, which is listed
+-- a record of a cell: its kind gives a cell its value, and it holds that cell, which is listed; one of kind 6 holds a coupon
 pub record OfCell (s : List ℕ) (at cell : ℕ) : Type 0 where
-  pub kind-is : recordKind s at ≡ 1
+  pub gives : givesCell (recordKind s at) ≡ true
   pub cell-is : recordCell s at ≡ cell
   pub from-first : firstCell ≤ cell
   pub to-last : cell < firstCell + cellCount
+  pub coupon : recordKind s at ≡ fineCouponKind → cellClass cell ≡ couponClass
 
 -- a record of a sheet: it is of that kind, which is one of the kinds
 pub record OfSheet (s : List ℕ) (at kind : ℕ) : Type 0 where
   pub kind-is : recordKind s at ≡ kind
-  pub not-one : kind ≡ 1 → ⊥
+  pub no-cell : givesCell kind ≡ false
   pub known : kind < kindCount
 
-module _ (s : List ℕ) (at : ℕ) where
-  -- the item by the tests: the kind is 1, the cell is not listed, the kind is not known
-  abbrev itemBy : Bool → Bool → Bool → Item
-  itemBy one off none = cond one (cond off Nothing (Cell (recordCell s at))) (cond none Nothing (Sheet (recordKind s at)))
+-- a class that is listed: the class of the cell itself, and for kind 6 a coupon's
+listed-class : (class : ℕ) (fine coupon : Bool) → eqb class couponClass ≡ coupon → (cond fine (cond coupon couponClass 0) class ≡ 0 → ⊥)
+    → (class ≡ 0 → ⊥) × (fine ≡ true → class ≡ couponClass)
+listed-class class true true e h = (λ z. omega (arith, eqb-true class couponClass e), λ f. eqb-true class couponClass e)
+listed-class class true false e h = absurd (h refl)
+listed-class class false coupon e h = (h, λ f. absurd (true≢false (sym f)))
 
-  of-cell : (cell : ℕ) (one off none : Bool) → eqb (recordKind s at) 1 ≡ one → eqb (cellClass (recordCell s at)) 0 ≡ off
-      → itemBy one off none ≡ Cell cell → OfCell s at cell
+module _ (s : List ℕ) (at : ℕ) where
+  -- the item by the tests: the kind gives a cell, the cell is not listed, the kind is not known
+  abbrev itemBy : Bool → Bool → Bool → Item
+  itemBy gives off none = cond gives (cond off Nothing (Cell (recordCell s at))) (cond none Nothing (Sheet (recordKind s at)))
+
+  class-is : (recordClass s at ≡ 0 → ⊥)
+      → (cellClass (recordCell s at) ≡ 0 → ⊥) × (eqb (recordKind s at) fineCouponKind ≡ true → cellClass (recordCell s at) ≡ couponClass)
+  unfolding recordClass
+  class-is = listed-class (cellClass (recordCell s at)) (eqb (recordKind s at) fineCouponKind) (eqb (cellClass (recordCell s at)) couponClass) refl
+
+  of-cell : (cell : ℕ) (gives off none : Bool) → givesCell (recordKind s at) ≡ gives → eqb (recordClass s at) 0 ≡ off
+      → itemBy gives off none ≡ Cell cell → OfCell s at cell
   of-cell cell true true none a b e = let z : _≡_ {A = ℕ} 0 1 = cc in absurd (omega arith)
   of-cell cell true false none a b e =
       let is : recordCell s at ≡ cell = cc in
-      let listed = class-listed (recordCell s at) (eqb-false (cellClass (recordCell s at)) 0 b) in
-      record { kind-is = eqb-true (recordKind s at) 1 a; cell-is = is; from-first = omega (arith, listed .0); to-last = omega (arith, listed .1) }
+      let class = class-is (eqb-false (recordClass s at) 0 b) in
+      let listed = class-listed (recordCell s at) (class .0) in
+      record {
+        gives = a;
+        cell-is = is;
+        from-first = omega (arith, listed .0);
+        to-last = omega (arith, listed .1);
+        coupon = λ k. rw is at (class .1 (eq-eqb (recordKind s at) fineCouponKind k));
+      }
   of-cell cell false off true a b e = let z : _≡_ {A = ℕ} 0 1 = cc in absurd (omega arith)
   of-cell cell false off false a b e = let z : _≡_ {A = ℕ} 0 1 = cc in absurd (omega arith)
 
-  of-sheet : (kind : ℕ) (one off none : Bool) → eqb (recordKind s at) 1 ≡ one → eqb (dueLength s at) 0 ≡ none
-      → itemBy one off none ≡ Sheet kind → OfSheet s at kind
+  of-sheet : (kind : ℕ) (gives off none : Bool) → givesCell (recordKind s at) ≡ gives → eqb (dueLength s at) 0 ≡ none
+      → itemBy gives off none ≡ Sheet kind → OfSheet s at kind
   of-sheet kind true true none a b e = let z : _≡_ {A = ℕ} 0 1 = cc in absurd (omega arith)
   of-sheet kind true false none a b e = let z : _≡_ {A = ℕ} 0 1 = cc in absurd (omega arith)
   of-sheet kind false off true a b e = let z : _≡_ {A = ℕ} 0 1 = cc in absurd (omega arith)
@@ -97,16 +118,16 @@ module _ (s : List ℕ) (at : ℕ) where
       let is : recordKind s at ≡ kind = cc in
       record {
         kind-is = is;
-        not-one = rw (← is) (eqb-false (recordKind s at) 1 a);
+        no-cell = rw is at a;
         known = rw (← is) (kind-known s at (eqb-false (dueLength s at) 0 b));
       }
 
   pub record-of-cell : (cell : ℕ) → recordItem s at ≡ Cell cell → OfCell s at cell
   unfolding recordItem
   record-of-cell cell e =
-      of-cell cell (eqb (recordKind s at) 1) (eqb (cellClass (recordCell s at)) 0) (eqb (dueLength s at) 0) refl refl e
+      of-cell cell (givesCell (recordKind s at)) (eqb (recordClass s at) 0) (eqb (dueLength s at) 0) refl refl e
 
   pub record-of-sheet : (kind : ℕ) → recordItem s at ≡ Sheet kind → OfSheet s at kind
   unfolding recordItem
   record-of-sheet kind e =
-      of-sheet kind (eqb (recordKind s at) 1) (eqb (cellClass (recordCell s at)) 0) (eqb (dueLength s at) 0) refl refl e
+      of-sheet kind (givesCell (recordKind s at)) (eqb (recordClass s at) 0) (eqb (dueLength s at) 0) refl refl e

@@ -1,6 +1,6 @@
--- The kinds of record (01:7-9; 02:CR 1, CR 3): what a sheet of each kind holds, and the length that a record is to have. Definitions only.
+-- The kinds of record (01:7-9; 02:CR 1, CR 3, CR 4): what a sheet of each kind holds, and the length that a record is to have. Definitions only.
 use Prim.Native.Nat.{ℕ, _+_, _*_}
-use mathlib.Core.Bool.{cond}
+use mathlib.Core.Bool.{Bool, cond, _||_}
 use mathlib.Core.List.{List, [], _∷_}
 use lib.ListN.{getD}
 use lib.Dec.{eqb}
@@ -10,7 +10,7 @@ use Rattle.records.specs.Records.{recordKind, tierCount}
 
 -- the kinds are below this number
 abbrev pub kindCount : ℕ
-kindCount = 6
+kindCount = 7
 
 -- a sheet of so many numbers, 2 bytes each, up to a limit
 unfoldable pub sheetOf : ℕ → ℕ → SheetKind
@@ -26,6 +26,7 @@ sheetKinds =
     ∷ sheetOf 3 rateLimit
     ∷ sheetOf 0 0
     ∷ sheetOf 360 rateLimit
+    ∷ sheetOf 0 0
     ∷ []
 
 unfoldable pub sheetKind : ℕ → SheetKind
@@ -34,6 +35,16 @@ sheetKind kind = getD sheetKinds kind (sheetOf 0 0)
 -- the length of a sheet, bytes: its kind and its numbers; 0, which no complete record has, where the kind is no sheet
 unfoldable pub sheetLength : ℕ → ℕ
 sheetLength numbers = cond (eqb numbers 0) 0 (2 + 2 * numbers)
+
+-- the kinds that give a cell its value: any cell (01:7), and a coupon in thousandths (02:CR 4)
+abbrev pub cellKind : ℕ
+cellKind = 1
+
+abbrev pub fineCouponKind : ℕ
+fineCouponKind = 6
+
+unfoldable pub givesCell : ℕ → Bool
+givesCell kind = eqb kind cellKind || eqb kind fineCouponKind
 
 -- the kinds of the retail rates, flat (01:9) and by month (02:CR 3)
 abbrev pub flatRatesKind : ℕ
@@ -49,6 +60,6 @@ tiersKind = 4
 -- the length that a record is to have, by its kind: the tiers' goes by their count
 unfoldable pub dueLength : List ℕ → ℕ → ℕ
 dueLength s at =
-    cond (eqb (recordKind s at) 1) 12
+    cond (givesCell (recordKind s at)) 12
     (cond (eqb (recordKind s at) tiersKind) (4 + 4 * tierCount s at)
     (sheetLength (sheetKind (recordKind s at) .numbers)))

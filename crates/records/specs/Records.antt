@@ -13,7 +13,7 @@ recordLength s at = numberAt s at 2
 abbrev pub recordKind : List ℕ → ℕ → ℕ
 recordKind s at = numberAt s (at + 2) 2
 
--- kind 1: the cell and its value, in the cell's unit
+-- a record that gives a cell its value: the cell, and the value in that kind's unit
 abbrev pub recordCell : List ℕ → ℕ → ℕ
 recordCell s at = numberAt s (at + 4) 2
 

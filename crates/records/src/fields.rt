@@ -19,14 +19,14 @@ pub fn record_kind(s: &[u8], at: usize) -> usize
     field_at(s, at, 2, 2) as usize
 }
 
-// The cell of a record of kind 1.
+// The cell of a record that gives a cell its value.
 pub fn record_cell(s: &[u8], at: usize) -> u64
     ensures { λ r. ⌜ r ≡ recordCell (now (s .entry)) at ⌝ }
 {
     field_at(s, at, 4, 2)
 }
 
-// The value of a record of kind 1, in its cell's unit.
+// The value of a record that gives a cell its value, in that kind's unit.
 pub fn record_value(s: &[u8], at: usize) -> u64
     ensures { λ r. ⌜ r ≡ recordValue (now (s .entry)) at ⌝ }
 {

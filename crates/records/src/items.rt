@@ -4,10 +4,13 @@ use crate::FIRST_CELL;
 use crate::KINDS;
 use crate::fields::record_cell;
 use crate::fields::record_kind;
+use crate::kinds::FINE_COUPON_KIND;
 use crate::kinds::due_length;
+use crate::kinds::gives_cell;
+use schedule::tables::COUPON_CLASS;
 use schedule::tables::cell_class;
 ghost use mathlib.Core.Path.{_≡_};
-ghost use Rattle.records.specs.Items.{recordItem};
+ghost use Rattle.records.specs.Items.{recordClass, recordItem};
 ghost use Rattle.records.specs.Inner.Notes.{noteItem};
 
 // What a record is one of.
@@ -26,22 +29,32 @@ pub struct Noted {
     pub cells: [usize; CELLS],
 }
 
-// The item of a record: kind 1 of its cell, where that is listed; another kind that is known of its kind.
+// The item of a record: of its cell, where that is listed; another kind that is known of its kind.
 pub fn record_item(s: &[u8], at: usize) -> Item
     ensures { λ r. ⌜ r ≡ recordItem (now (s .entry)) at ⌝ }
 {
     let kind = record_kind(s, at);
-    if kind == 1 {
-        let cell = record_cell(s, at);
-        if cell_class(cell) == 0 {
+    if gives_cell(kind) {
+        if record_class(s, at) == 0 {
             return Item::Nothing;
         }
-        return Item::Cell(cell);
+        return Item::Cell(record_cell(s, at));
     }
     if due_length(s, at) == 0 {
         return Item::Nothing;
     }
     Item::Sheet(kind)
+}
+
+// The class of a record's cell, 0 where it is not listed: for a coupon in thousandths a coupon alone is.
+pub fn record_class(s: &[u8], at: usize) -> usize
+    ensures { λ r. ⌜ r ≡ recordClass (now (s .entry)) at ⌝ }
+{
+    let class = cell_class(record_cell(s, at));
+    if record_kind(s, at) != FINE_COUPON_KIND {
+        return class;
+    }
+    if class == COUPON_CLASS { class } else { 0 }
 }
 
 // The record at an offset is noted.

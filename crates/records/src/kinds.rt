@@ -3,14 +3,18 @@ use crate::KINDS;
 use crate::fields::record_kind;
 use crate::fields::tier_count;
 ghost use mathlib.Core.Path.{_≡_};
-ghost use Rattle.records.specs.Kinds.{sheetKind, dueLength};
+ghost use Rattle.records.specs.Kinds.{givesCell, sheetKind, dueLength};
 
-// The kind of the flat retail rates, of the tiers, and of the retail rates by month.
+// The kinds: a cell, flat retail rates, tiers, retail rates by month, a coupon in thousandths.
+pub const CELL_KIND: usize = 1;
+
 pub const FLAT_RATES_KIND: usize = 3;
 
 pub const TIERS_KIND: usize = 4;
 
 pub const RATE_PATH_KIND: usize = 5;
+
+pub const FINE_COUPON_KIND: usize = 6;
 
 // A kind of sheet: how many numbers it holds, 2 bytes each, and the largest that each may be. One that is no sheet holds none.
 pub struct SheetKind {
@@ -43,6 +47,10 @@ const SHEET_KINDS: [SheetKind; KINDS] = [
         numbers: 360,
         limit: 2_500,
     },
+    SheetKind {
+        numbers: 0,
+        limit: 0,
+    },
 ];
 
 // The sheet of a kind.
@@ -59,12 +67,19 @@ pub fn sheet_kind(kind: usize) -> SheetKind
     }
 }
 
+// A kind that gives a cell its value.
+pub fn gives_cell(kind: usize) -> bool
+    ensures { λ r. ⌜ r ≡ givesCell kind ⌝ }
+{
+    (kind == CELL_KIND) | (kind == FINE_COUPON_KIND)
+}
+
 // The length that a record is to have by its kind: 0 where the kind is unknown.
 pub fn due_length(s: &[u8], at: usize) -> usize
     ensures { λ r. ⌜ r ≡ dueLength (now (s .entry)) at ⌝ }
 {
     let kind = record_kind(s, at);
-    if kind == 1 {
+    if gives_cell(kind) {
         return 12;
     }
     if kind == TIERS_KIND {

@@ -6,7 +6,7 @@ pub mod items;
 pub mod kinds;
 
 // The kinds of record are below this number.
-pub const KINDS: usize = 6;
+pub const KINDS: usize = 7;
 
 // The cells that are noted: so many from the first on.
 pub const FIRST_CELL: u64 = 601;

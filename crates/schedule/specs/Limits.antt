@@ -1,4 +1,4 @@
--- Classes of cells and the limits of their values (01:22-24). Definitions only.
+-- Classes of cells and the limits of their values (01:22-24; 02:CR 4). Definitions only.
 use Prim.Native.Nat.{ℕ, _^_, _-_}
 use mathlib.Core.Bool.{cond}
 use mathlib.Core.List.{List, [], _∷_, map}
@@ -25,7 +25,11 @@ cellClass cell =
     columns : List ℕ
     columns = 1 ∷ 2 ∷ 3 ∷ []
 
--- the limits of 01:24, inclusive: balance, brokered or penalty balance and total in thousands of dollars, WAC, yield and retail rate in hundredths of a
+-- the class of a coupon
+abbrev pub couponClass : ℕ
+couponClass = 2
+
+-- the limits of 01:24, inclusive: balance, brokered or penalty balance and total in thousands of dollars, yield and retail rate in hundredths of a
 -- percent a year, WARM in months, penalty in hundredths of a month
 abbrev pub balanceLimit : ℕ
 balanceLimit = 999999999
@@ -36,8 +40,12 @@ columnLimit = 3999999996
 abbrev pub totalLimit : ℕ
 totalLimit = 8999999991
 
+-- the coupon (WAC): as filed, in hundredths of a percent a year (01:24), and in what a filing says, in thousandths (02:CR 4)
+abbrev pub filedCouponLimit : ℕ
+filedCouponLimit = 1500
+
 abbrev pub couponLimit : ℕ
-couponLimit = 1500
+couponLimit = 15000
 
 abbrev pub monthsLimit : ℕ
 monthsLimit = 120
@@ -58,13 +66,13 @@ edgeLimit = 65535
 abbrev pub withdrawalLimit : ℕ
 withdrawalLimit = 600
 
--- the largest value of a class. An unused cell takes any 8-byte value
+-- the largest value of a class, as filed. An unused cell takes any 8-byte value
 unfoldable pub classLimit : ℕ → ℕ
 classLimit class =
     getD
     (0
     ∷ balanceLimit
-    ∷ couponLimit
+    ∷ filedCouponLimit
     ∷ monthsLimit
     ∷ columnLimit
     ∷ penaltyLimit
@@ -72,3 +80,7 @@ classLimit class =
     ∷ (2 ^ 64 - 1)
     ∷ [])
     class 0
+
+-- the largest value of a class in what a filing says: a coupon is in thousandths there
+unfoldable pub heldLimit : ℕ → ℕ
+heldLimit class = cond (eqb class couponClass) couponLimit (classLimit class)

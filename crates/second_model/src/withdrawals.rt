@@ -1,6 +1,6 @@
 // How much of a balance stays on in a month that is not the last, from the gain of withdrawing and
-// its cost, n months before maturity. Coupon c, penalty p and shifted retail rate r as in the
-// filing. What the gain takes off stands apart, so that no figure is negative.
+// its cost, n months before maturity. Coupon c in thousandths, penalty p and shifted retail rate r as
+// in the filing. What the gain takes off stands apart, so that no figure is negative.
 use crate::shares::SubBalance;
 use second_numbers::arith::add;
 use second_numbers::arith::mul;
@@ -51,9 +51,9 @@ pub fn tier(s: &[u8], at: u64, earned: u64, lost: u64, cost: u64) -> u64 {
     tier
 }
 
-// (12,000,000 - c × p) × r × n, what the gain adds.
+// (120,000,000 - c × p) × r × n, what the gain adds.
 fn earned(part: SubBalance, r: u64, n: u64) -> u64 {
-    let kept = sub(12000000, mul(part.coupon, part.penalty));
+    let kept = sub(120000000, mul(part.coupon, part.penalty));
     mul(kept, mul(r, n))
 }
 

@@ -6,15 +6,18 @@ use second_numbers::bytes::size;
 use second_numbers::bytes::word;
 use second_numbers::cells::TOTAL;
 use second_numbers::cells::balance_cell;
+use second_numbers::cells::fine_limit;
 use second_numbers::cells::is_within;
 use second_numbers::cells::limit;
 use second_numbers::cells::warm_cell;
 use second_records::columns::column_sum;
 use second_records::records::CELL;
+use second_records::records::FINE;
 use second_records::records::PATH;
 use second_records::records::RATES;
 use second_records::records::YIELDS;
 use second_records::records::found;
+use second_records::records::has_cell;
 use second_records::records::lacks;
 use second_records::records::next;
 use second_records::records::value;
@@ -86,11 +89,11 @@ fn record_fault(s: &[u8], at: u64) -> Refusal {
 
 // Faults 3, 4, 12, 5 and 11 of a record of a known kind, in this order.
 fn body_fault(s: &[u8], at: u64, kind: u64, cell: u64) -> Refusal {
-    let most = limit(cell);
+    let most = most(kind, cell);
     first(
         first(
-            refused_if((kind == CELL) & (most == 0), 3, at),
-            refused_if(found(s, at, kind, cell) < at, 4, at),
+            refused_if(has_cell(kind) & (most == 0), 3, at),
+            refused_if(is_repeated(s, at, kind, cell), 4, at),
         ),
         first(
             refused_if(is_beside_other(s, at, kind), 12, at),
@@ -100,6 +103,25 @@ fn body_fault(s: &[u8], at: u64, kind: u64, cell: u64) -> Refusal {
             ),
         ),
     )
+}
+
+// The largest value of a cell in a record of the kind; 0 for a cell that the kind may not have.
+fn most(kind: u64, cell: u64) -> u64 {
+    match kind {
+        1 => limit(cell),
+        6 => fine_limit(cell),
+        _ => 0,
+    }
+}
+
+// Whether the cell of the record at `at`, or its kind, stands before it. Kinds 1 and 6 have their
+// cells in common.
+fn is_repeated(s: &[u8], at: u64, kind: u64, cell: u64) -> bool {
+    if has_cell(kind) {
+        (found(s, at, CELL, cell) < at) | (found(s, at, FINE, cell) < at)
+    } else {
+        found(s, at, kind, 0) < at
+    }
 }
 
 // Whether one of kinds 3 and 5 stands at `at` and the other before it.
@@ -124,6 +146,7 @@ fn length_of(s: &[u8], at: u64, kind: u64) -> u64 {
         3 => 8,
         4 => add(4, mul(4, own_count(s, at))),
         5 => 722,
+        6 => 12,
         _ => 0,
     }
 }
@@ -132,6 +155,7 @@ fn length_of(s: &[u8], at: u64, kind: u64) -> u64 {
 fn is_over(s: &[u8], at: u64, kind: u64, most: u64) -> bool {
     match kind {
         1 => most < quad(s, add(at, 6)),
+        6 => most < quad(s, add(at, 6)),
         2 => is_rate_over(s, add(at, 4), 120),
         3 => is_rate_over(s, add(at, 4), 3),
         5 => is_rate_over(s, add(at, 4), 360),

@@ -7,8 +7,8 @@ ghost use Rattle.schedule.specs.Limits.{couponLimit, penaltyLimit, monthsLimit}
 ghost use Rattle.schedule.specs.Shift.{shiftedLimit};
 ghost use Rattle.withdrawal.specs.Inner.Incentives.{partsOf, incentiveFrom, PartsWithin};
 
-// The scale of the gain (01:49).
-const GAIN_SCALE: u64 = 12_000_000;
+// The scale of the gain (01:49; 02:CR 4).
+const GAIN_SCALE: u64 = 120_000_000;
 
 // What a penalty of one hundredth of a month costs at a coupon of one (01:49).
 const PENALTY_SCALE: u64 = 120_000;
@@ -16,7 +16,7 @@ const PENALTY_SCALE: u64 = 120_000;
 // What a month at a coupon of one is worth (01:49).
 const COST_SCALE: u64 = 12_000_000;
 
-// The parts that no month changes. The coupon is in hundredths of a percent a year, the penalty in hundredths of a month.
+// The parts that no month changes. The coupon is in thousandths of a percent a year, the penalty in hundredths of a month.
 pub fn coupon_parts(coupon: u64, penalty: u64) -> CouponParts
     requires { ⌜ (coupon ≤ couponLimit) × (penalty ≤ penaltyLimit) ⌝ }
     ensures { λ r. ⌜ r ≡ partsOf coupon penalty ⌝ }

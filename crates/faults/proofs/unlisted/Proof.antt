@@ -7,15 +7,15 @@ use Rattle.faults.proofs.unlisted.Tie as tie
 record-kind-requires : tie.Need-record-kind-requires
 record-kind-requires c κs = search needs
 
-record-cell-requires : tie.Need-record-cell-requires
-record-cell-requires c κs = search needs
+gives-cell-requires : tie.Need-gives-cell-requires
+gives-cell-requires c κs = search needs
 
-cell-class-requires : tie.Need-cell-class-requires
-cell-class-requires c κs = search needs
+record-class-requires : tie.Need-record-class-requires
+record-class-requires c κs = search needs
 
 returns : tie.Need-returns
 returns c = cc
 
 pub unlisted-spec : {M : Type 1} → statement M
 unlisted-spec =
-    tie.close (tie.spec record-kind-requires record-cell-requires cell-class-requires returns)
+    tie.close (tie.spec record-kind-requires gives-cell-requires record-class-requires returns)

@@ -16,7 +16,9 @@ use Rattle.filing.proofs.read_contents.Statement.{statement}
 use Rattle.filing.proofs.read_contents.Tie as tie
 
 contents-of-requires : tie.Need-contents-of-requires
-contents-of-requires c κs = search needs
+contents-of-requires c κs =
+    let start = c .before in
+    (records-passed _ (start .pre .0 .0), start .pre .1)
 
 check-cells-requires : tie.Need-check-cells-requires
 check-cells-requires c κs =

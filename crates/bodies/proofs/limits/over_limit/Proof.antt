@@ -1,7 +1,6 @@
 -- `over_limit` meets its contract.
 -- Assumes nothing.
 use borrow.Author.Needs.{needs}
-use borrow.Author.Tests.{eq-eqb, ne-eqb}
 use Rattle.bodies.specs.Bodies.{overLimit}
 use Rattle.bodies.proofs.limits.over_limit.Statement.{statement}
 use Rattle.bodies.proofs.limits.over_limit.Tie as tie
@@ -9,14 +8,11 @@ use Rattle.bodies.proofs.limits.over_limit.Tie as tie
 record-kind-requires : tie.Need-record-kind-requires
 record-kind-requires c κs = search needs
 
-record-cell-requires : tie.Need-record-cell-requires
-record-cell-requires c κs = search needs
+gives-cell-requires : tie.Need-gives-cell-requires
+gives-cell-requires c κs = search needs
 
-cell-class-requires : tie.Need-cell-class-requires
-cell-class-requires c κs = search needs
-
-class-limit-requires : tie.Need-class-limit-requires
-class-limit-requires c κs = search needs
+value-limit-requires : tie.Need-value-limit-requires
+value-limit-requires c κs = search needs
 
 record-value-requires : tie.Need-record-value-requires
 record-value-requires c κs = search needs
@@ -24,15 +20,14 @@ record-value-requires c κs = search needs
 returns : tie.Need-returns
 unfolding overLimit
 returns c =
-    let at-cell = c .before .before .before in
+    let at-cell = c .before .before in
     rw (
       ← at-cell .before .before .record-kind .ensures,
-      ← at-cell .record-cell .ensures,
-      ← c .before .before .cell-class .ensures,
-      ← c .before .class-limit .ensures,
+      ← at-cell .before .gives-cell .ensures,
+      ← c .before .value-limit .ensures,
       ← c .record-value .ensures,
     )
-    (simp (eq-eqb _ 1 (at-cell .before .if1 .taken)))
+    (simp (at-cell .if1 .taken))
 
 sheet-kind-requires : tie.Need-sheet-kind-requires
 sheet-kind-requires c κs = search needs
@@ -47,17 +42,22 @@ returns-2 : tie.Need-returns-2
 unfolding overLimit
 returns-2 c =
     let at-sheet = c .before .before in
-    rw (← at-sheet .before .before .record-kind .ensures, ← at-sheet .sheet-kind .ensures, ← c .number-over .ensures)
-    (simp (ne-eqb _ 1 (at-sheet .before .if1 .left)))
+    let at-kind = at-sheet .before .before in
+    rw (
+      ← at-kind .before .record-kind .ensures,
+      ← at-kind .gives-cell .ensures,
+      ← at-sheet .sheet-kind .ensures,
+      ← c .number-over .ensures,
+    )
+    (simp (at-sheet .before .if1 .left))
 
 pub over-limit-spec : {M : Type 1} → statement M
 over-limit-spec =
     tie.close
     (tie.spec
     record-kind-requires
-    record-cell-requires
-    cell-class-requires
-    class-limit-requires
+    gives-cell-requires
+    value-limit-requires
     record-value-requires
     returns
     sheet-kind-requires

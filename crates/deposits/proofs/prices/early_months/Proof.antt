@@ -43,7 +43,7 @@ add-month-rate c = omega arith
 month-rate-requires : tie.Need-month-rate-requires Inv-loop μ-loop
 month-rate-requires c κs =
     let start = c .before .before .before .before .before .before in
-    (start .pre .0 .1, start .pre .0 .3, omega arith, omega (arith, start .pre .0 .0 .months-le))
+    (start .pre .0 .1, omega (arith, start .pre .0 .3), omega arith, omega (arith, start .pre .0 .0 .months-le))
 
 sub-gain-and-cost : tie.Need-sub-gain-and-cost Inv-loop μ-loop
 sub-gain-and-cost c = omega arith

@@ -1,15 +1,15 @@
 -- `cell_values` meets its contract. The loop's invariant: the first i cells are filled.
 -- Assumes nothing.
-use Prim.Native.Nat.{ℕ, _+_, _-_, _≤_}
+use Prim.Native.Nat.{ℕ, _+_, _-_, _≤_, _<_}
 use native.Mathlib.Omega.{arith}
 use mathlib.Core.Path.{_≡_, ap, _∙_}
 use mathlib.Core.List.{List}
 use lib.ListN.{getD}
 use Rattle.lists.proofs.FillLaws.{Filled, fill-none, fill-more}
-use Rattle.records.specs.Records.{recordValue}
 use Rattle.records.specs.Inner.Notes.{firstCell, cellCount}
-use Rattle.filing.specs.Contents.{cellValue, contentsOf}
-use Rattle.filing.proofs.ContentsLaws.{filled-from, value-noted}
+use Rattle.filing.specs.Contents.{amountAt, cellOffset, cellValue, contentsOf}
+use Rattle.filing.proofs.ContentsLaws.{filled-from, cell-noted, value-noted}
+use Rattle.filing.proofs.SoundLaws.{offset-limit}
 use Rattle.filing.proofs.decode.cell_values.Statement.{statement}
 use Rattle.filing.proofs.decode.cell_values.Tie as tie
 
@@ -22,14 +22,21 @@ abbrev μ-loop : tie.MeasureT-loop
 loop-holds : tie.Need-loop-holds Inv-loop μ-loop
 loop-holds c = (omega arith, fill-none _ 0 0 cellCount)
 
-mul-record-value : tie.Need-mul-record-value Inv-loop μ-loop
-mul-record-value c = omega arith
+mul-amount-at : tie.Need-mul-amount-at Inv-loop μ-loop
+mul-amount-at c = omega arith
 
-element-copy-out-record-value : tie.Need-element-copy-out-record-value Inv-loop μ-loop
-element-copy-out-record-value c = omega arith
+element-copy-out-amount-at : tie.Need-element-copy-out-amount-at Inv-loop μ-loop
+element-copy-out-amount-at c = omega arith
 
-record-value-requires : tie.Need-record-value-requires Inv-loop μ-loop
-record-value-requires c κs = tt
+-- the offset of the i-th cell
+offset-is : (c : tie.Start Inv-loop μ-loop) (i : ℕ) → i < cellCount → getD (c .args .offsets .now) i 0 ≡ cellOffset (c .args .s .now) (firstCell + i)
+offset-is c i h = ap (λ (offsets : List ℕ). getD offsets i 0) (c .pre .1) ∙ cell-noted _ i h
+
+amount-at-requires : tie.Need-amount-at-requires Inv-loop μ-loop
+amount-at-requires c κs =
+    let start = c .before .before .before .before in
+    let i = c .before .before .loop .i in
+    rw (offset-is start i (c .before .loop-test .taken)) (offset-limit _ (start .pre .0) (firstCell + i))
 
 mul-cells : tie.Need-mul-cells Inv-loop μ-loop
 mul-cells c = omega arith
@@ -48,8 +55,8 @@ loop-again c =
     let start = c .before .before .before .before .before in
     let loop = c .before .before .before .loop in
     let h = c .before .before .loop-test .taken in
-    let noted = ap (λ (offsets : List ℕ). recordValue (start .args .s .now) (getD offsets (loop .i) 0)) (start .pre) in
-    (omega arith, fill-more _ 0 cellCount (loop .i) (loop .cells) _ h (c .record-value .ensures ∙ noted ∙ value-noted _ (loop .i) h) (loop .inv .1))
+    let value = c .amount-at .ensures ∙ ap (amountAt (start .args .s .now)) (offset-is start (loop .i) h) ∙ value-noted _ (firstCell + loop .i) in
+    (omega arith, fill-more _ 0 cellCount (loop .i) (loop .cells) _ h value (loop .inv .1))
 
 returns : tie.Need-returns Inv-loop μ-loop
 unfolding contentsOf
@@ -64,9 +71,9 @@ cell-values-spec =
     Inv-loop
     μ-loop
     loop-holds
-    mul-record-value
-    element-copy-out-record-value
-    record-value-requires
+    mul-amount-at
+    element-copy-out-amount-at
+    amount-at-requires
     mul-cells
     array-write-cells
     add-i

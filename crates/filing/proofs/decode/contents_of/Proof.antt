@@ -14,10 +14,12 @@ use Rattle.filing.proofs.decode.contents_of.Tie as tie
 
 -- where a sheet stands
 sheet-is : (c : tie.Start) (kind : ℕ) → kind < kindCount → getD (c .args .t2 .sheets) kind 0 ≡ sheetOffset (c .args .s .now) kind
-sheet-is c kind h = ap (λ (noted : Noted). getD (noted .sheets) kind 0) (c .pre) ∙ sheet-noted _ kind h
+sheet-is c kind h = ap (λ (noted : Noted). getD (noted .sheets) kind 0) (c .pre .1) ∙ sheet-noted _ kind h
 
 cell-values-requires : tie.Need-cell-values-requires
-cell-values-requires c κs = ap (λ (noted : Noted). noted .cells) (c .before .before .before .pre)
+cell-values-requires c κs =
+    let start = c .before .before .before in
+    (start .pre .0, ap (λ (noted : Noted). noted .cells) (start .pre .1))
 
 element-copy-out-fill-numbers : tie.Need-element-copy-out-fill-numbers
 element-copy-out-fill-numbers c = search needs

@@ -9,27 +9,35 @@ use Rattle.records.proofs.items.record_item.Tie as tie
 record-kind-requires : tie.Need-record-kind-requires
 record-kind-requires c κs = search needs
 
-record-cell-requires : tie.Need-record-cell-requires
-record-cell-requires c κs = search needs
+gives-cell-requires : tie.Need-gives-cell-requires
+gives-cell-requires c κs = search needs
 
-cell-class-requires : tie.Need-cell-class-requires
-cell-class-requires c κs = search needs
+record-class-requires : tie.Need-record-class-requires
+record-class-requires c κs = search needs
 
 returns : tie.Need-returns
 unfolding recordItem
 returns c =
     let at-class = c .before in
-    let at-one = at-class .before .before in
-    rw (← at-one .before .record-kind .ensures, ← at-class .before .record-cell .ensures, ← at-class .cell-class .ensures)
-    (simp (eq-eqb _ 1 (at-one .if1 .taken), eq-eqb _ 0 (c .if2 .taken)))
+    let at-one = at-class .before in
+    rw (← at-one .before .before .record-kind .ensures, ← at-one .before .gives-cell .ensures, ← at-class .record-class .ensures)
+    (simp (at-one .if1 .taken, eq-eqb _ 0 (c .if2 .taken)))
+
+record-cell-requires : tie.Need-record-cell-requires
+record-cell-requires c κs = search needs
 
 returns-2 : tie.Need-returns-2
 unfolding recordItem
 returns-2 c =
-    let at-class = c .before in
-    let at-one = at-class .before .before in
-    rw (← at-one .before .record-kind .ensures, ← at-class .before .record-cell .ensures, ← at-class .cell-class .ensures)
-    (simp (eq-eqb _ 1 (at-one .if1 .taken), ne-eqb _ 0 (c .if2 .left)))
+    let at-class = c .before .before in
+    let at-one = at-class .before in
+    rw (
+      ← at-one .before .before .record-kind .ensures,
+      ← at-one .before .gives-cell .ensures,
+      ← at-class .record-class .ensures,
+      ← c .record-cell .ensures,
+    )
+    (simp (at-one .if1 .taken, ne-eqb _ 0 (c .before .if2 .left)))
 
 due-length-requires : tie.Need-due-length-requires
 due-length-requires c κs = search needs
@@ -37,25 +45,26 @@ due-length-requires c κs = search needs
 returns-3 : tie.Need-returns-3
 unfolding recordItem
 returns-3 c =
-    let at-other = c .before in
-    rw (← at-other .before .before .record-kind .ensures, ← at-other .due-length .ensures)
-    (simp (ne-eqb _ 1 (at-other .before .if1 .left), eq-eqb _ 0 (c .if3 .taken)))
+    let at-other = c .before .before in
+    rw (← at-other .before .before .record-kind .ensures, ← at-other .before .gives-cell .ensures, ← c .before .due-length .ensures)
+    (simp (at-other .if1 .left, eq-eqb _ 0 (c .if3 .taken)))
 
 returns-4 : tie.Need-returns-4
 unfolding recordItem
 returns-4 c =
-    let at-other = c .before in
-    rw (← at-other .before .before .record-kind .ensures, ← at-other .due-length .ensures)
-    (simp (ne-eqb _ 1 (at-other .before .if1 .left), ne-eqb _ 0 (c .if3 .left)))
+    let at-other = c .before .before in
+    rw (← at-other .before .before .record-kind .ensures, ← at-other .before .gives-cell .ensures, ← c .before .due-length .ensures)
+    (simp (at-other .if1 .left, ne-eqb _ 0 (c .if3 .left)))
 
 pub record-item-spec : {M : Type 1} → statement M
 record-item-spec =
     tie.close
     (tie.spec
     record-kind-requires
-    record-cell-requires
-    cell-class-requires
+    gives-cell-requires
+    record-class-requires
     returns
+    record-cell-requires
     returns-2
     due-length-requires
     returns-3

@@ -9,9 +9,14 @@ use Rattle.records.proofs.kinds.due_length.Tie as tie
 record-kind-requires : tie.Need-record-kind-requires
 record-kind-requires c κs = search needs
 
+gives-cell-requires : tie.Need-gives-cell-requires
+gives-cell-requires c κs = search needs
+
 returns : tie.Need-returns
 unfolding dueLength
-returns c = rw (← c .before .record-kind .ensures) (simp (eq-eqb _ 1 (c .if1 .taken)))
+returns c =
+    let at-one = c .before in
+    rw (← at-one .before .record-kind .ensures, ← at-one .gives-cell .ensures) (simp (c .if1 .taken))
 
 tier-count-requires : tie.Need-tier-count-requires
 tier-count-requires c κs = search needs
@@ -29,8 +34,9 @@ returns-2 : tie.Need-returns-2
 unfolding dueLength
 returns-2 c =
     let at-tiers = c .before in
-    rw (← at-tiers .before .before .record-kind .ensures, ← c .tier-count .ensures)
-    (simp (ne-eqb _ 1 (at-tiers .before .if1 .left), eq-eqb _ tiersKind (at-tiers .if2 .taken)))
+    let at-one = at-tiers .before .before in
+    rw (← at-one .before .record-kind .ensures, ← at-one .gives-cell .ensures, ← c .tier-count .ensures)
+    (simp (at-tiers .before .if1 .left, eq-eqb _ tiersKind (at-tiers .if2 .taken)))
 
 sheet-kind-requires : tie.Need-sheet-kind-requires
 sheet-kind-requires c κs = search needs
@@ -40,8 +46,9 @@ unfolding sheetLength dueLength
 returns-3 c =
     let at-sheet = c .before .before in
     let at-other = at-sheet .before in
-    rw (← at-other .before .before .record-kind .ensures, ← at-sheet .sheet-kind .ensures)
-    (simp (ne-eqb _ 1 (at-other .before .if1 .left), ne-eqb _ tiersKind (at-other .if2 .left), eq-eqb _ 0 (c .if3 .taken)))
+    let at-one = at-other .before .before in
+    rw (← at-one .before .record-kind .ensures, ← at-one .gives-cell .ensures, ← at-sheet .sheet-kind .ensures)
+    (simp (at-other .before .if1 .left, ne-eqb _ tiersKind (at-other .if2 .left), eq-eqb _ 0 (c .if3 .taken)))
 
 cast-result-2 : tie.Need-cast-result-2
 cast-result-2 c = search needs
@@ -57,14 +64,16 @@ unfolding sheetLength dueLength
 returns-4 c =
     let at-sheet = c .before .before .before in
     let at-other = at-sheet .before in
-    rw (← at-other .before .before .record-kind .ensures, ← at-sheet .sheet-kind .ensures)
-    (simp (ne-eqb _ 1 (at-other .before .if1 .left), ne-eqb _ tiersKind (at-other .if2 .left), ne-eqb _ 0 (c .before .if3 .left)))
+    let at-one = at-other .before .before in
+    rw (← at-one .before .record-kind .ensures, ← at-one .gives-cell .ensures, ← at-sheet .sheet-kind .ensures)
+    (simp (at-other .before .if1 .left, ne-eqb _ tiersKind (at-other .if2 .left), ne-eqb _ 0 (c .before .if3 .left)))
 
 pub due-length-spec : {M : Type 1} → statement M
 due-length-spec =
     tie.close
     (tie.spec
     record-kind-requires
+    gives-cell-requires
     returns
     tier-count-requires
     cast-result
