@@ -1,0 +1,10 @@
+pub mod MoveLaws
+pub mod WeightedLaws
+pub mod FilledLaws
+pub mod TotalLaws
+pub mod LookUpLaws
+pub mod FitLaws
+pub mod ByteLaws
+pub mod RecordRunLaws
+pub mod DateCases
+pub mod CertificateCases
