@@ -4,7 +4,7 @@ use mathlib.Core.Path.{_≡_}
 use mathlib.Core.Bool.{true, false, not}
 use borrow.Author.Tests.{ltb-false, not-false}
 use lib.Dec.{ltb}
-use Rattle.schedule.specs.Limits.{balanceLimit, couponLimit, monthsLimit}
+use Rattle.schedule.specs.Limits.{balanceLimit, filedCouponLimit, monthsLimit}
 use Rattle.answers.specs.Verdict.{accepted, refused, refusedIf, firstRefusal, firstOf}
 use Rattle.answers.proofs.VerdictLaws.{first-none, condition-fails}
 use Rattle.calendar.specs.declared.Date.{Date}
@@ -53,7 +53,7 @@ days-are v c h =
 -- a certificate without a fault
 pub record Sound (v : Date) (c : Certificate) : Type 0 where
   pub balance-le : c .balance ≤ balanceLimit
-  pub coupon-le : c .coupon ≤ couponLimit
+  pub coupon-le : c .coupon ≤ filedCouponLimit
   pub valuation-day : isDate v ≡ true
   pub issue-day : isDate (c .issue) ≡ true
   pub maturity-day : isDate (c .maturity) ≡ true

@@ -2,7 +2,7 @@
 use Prim.Native.Nat.{ℕ}
 use mathlib.Core.Bool.{Bool, not, _||_}
 use lib.Dec.{ltb}
-use Rattle.schedule.specs.Limits.{balanceLimit, couponLimit, monthsLimit}
+use Rattle.schedule.specs.Limits.{balanceLimit, filedCouponLimit, monthsLimit}
 use Rattle.calendar.specs.declared.Date.{Date}
 use Rattle.certificate_terms.specs.declared.Certificate.{Certificate}
 use Rattle.certificate_terms.specs.Terms.{remainingMonths}
@@ -12,7 +12,7 @@ use Rattle.answers.specs.Verdict.{Verdict, refusedIf, firstOf}
 
 -- 5: a balance or coupon past its limit
 unfoldable pub overLimit : Certificate → Bool
-overLimit c = ltb balanceLimit (c .balance) || ltb couponLimit (c .coupon)
+overLimit c = ltb balanceLimit (c .balance) || ltb filedCouponLimit (c .coupon)
 
 -- 13: a date that is no day of 1900 to 2199. The valuation date counts with each certificate, so that the first has the fault where it is no day
 unfoldable pub noSuchDay : Date → Certificate → Bool

@@ -12,7 +12,7 @@ use Rattle.lists.specs.Tables.{table}
 use Rattle.lists.proofs.LogicLaws.{lt-or-le}
 use Rattle.lists.proofs.RangeLaws.{within-is, within-below, within-above}
 use Rattle.lists.proofs.TableLaws.{table-length, table-getD, table-le}
-use Rattle.schedule.specs.Limits.{balanceLimit, couponLimit, monthsLimit}
+use Rattle.schedule.specs.Limits.{balanceLimit, filedCouponLimit, monthsLimit}
 use Rattle.answers.specs.declared.Answer.{Answer}
 use Rattle.answers.specs.Verdict.{Verdict, accepted, refused}
 use Rattle.answers.specs.Answers.{numberOf, verdictOf}
@@ -78,7 +78,7 @@ module _ (v : Date) (s : List ℕ) where
         nine = table-length 0 9 (λ (i : ℕ). positionSum v s balanceOf i n);
         balance-le = table-le 0 9 (λ (i : ℕ). positionSum v s balanceOf i n) balanceLimit (λ j l u. balance-sum-le v s n j p);
         coupon-le =
-            weighted-le (λ (i : ℕ). positionSum v s weightedCoupon i n) (λ (i : ℕ). positionSum v s balanceOf i n) couponLimit
+            weighted-le (λ (i : ℕ). positionSum v s weightedCoupon i n) (λ (i : ℕ). positionSum v s balanceOf i n) filedCouponLimit
             (λ i. coupon-sum-le v s n i p);
         months-le =
             weighted-le (λ (i : ℕ). positionSum v s (weightedMonths v) i n) (λ (i : ℕ). positionSum v s balanceOf i n) monthsLimit

@@ -10,7 +10,7 @@ use lib.ListN.{getD, replicate}
 use Rattle.lists.specs.Sums.{sumWhere}
 use Rattle.lists.specs.Tables.{tableFrom, table}
 use Rattle.lists.proofs.TableLaws.{table-getD}
-use Rattle.schedule.specs.Limits.{balanceLimit, couponLimit, monthsLimit}
+use Rattle.schedule.specs.Limits.{balanceLimit, filedCouponLimit, monthsLimit}
 use Rattle.answers.specs.Verdict.{Verdict, accepted, refused, refusedIf}
 use Rattle.answers.proofs.VerdictLaws.{Untried, tried-start, tried-here, tried-next, tried-all, first-passed, first-refused, condition-holds, condition-refuses, condition-none}
 use Rattle.calendar.specs.declared.Date.{Date}
@@ -69,7 +69,7 @@ module _ (v : Date) (s : List ℕ) where
     pub balance-at-le : getD (t .balance) i 0 ≤ balanceLimit
     balance-at-le = rw balance-at (balance-sum-le v s k i (at .passed))
 
-    pub coupon-at-le : getD (t .coupon) i 0 ≤ couponLimit * getD (t .balance) i 0
+    pub coupon-at-le : getD (t .coupon) i 0 ≤ filedCouponLimit * getD (t .balance) i 0
     coupon-at-le = rw (coupon-at, balance-at) (coupon-sum-le v s k i (at .passed))
 
     pub months-at-le : getD (t .months) i 0 ≤ monthsLimit * getD (t .balance) i 0

@@ -14,7 +14,7 @@ use Rattle.lists.specs.Sums.{sumWhere}
 use Rattle.lists.specs.Tables.{table}
 use Rattle.lists.proofs.SumLaws.{sumWhere-mono, sumWhere-mul}
 use Rattle.lists.proofs.TableLaws.{table-length, table-getD}
-use Rattle.schedule.specs.Limits.{balanceLimit, couponLimit, monthsLimit}
+use Rattle.schedule.specs.Limits.{balanceLimit, filedCouponLimit, monthsLimit}
 use Rattle.answers.proofs.VerdictLaws.{first-none, condition-fails}
 use Rattle.calendar.specs.declared.Date.{Date}
 use Rattle.certificate_terms.specs.declared.Certificate.{Certificate}
@@ -79,9 +79,9 @@ module _ (v : Date) (s : List ℕ) where
       rw (← sumWhere-mul limit (standsAt v s i) (λ (k : ℕ). certificateAt s k .balance) n)
       (sumWhere-mono (standsAt v s i) (λ (k : ℕ). amount (certificateAt s k)) (λ (k : ℕ). limit * certificateAt s k .balance) n h)
 
-  pub coupon-sum-le : (n i : ℕ) → Passed n → positionSum v s weightedCoupon i n ≤ couponLimit * positionSum v s balanceOf i n
+  pub coupon-sum-le : (n i : ℕ) → Passed n → positionSum v s weightedCoupon i n ≤ filedCouponLimit * positionSum v s balanceOf i n
   coupon-sum-le n i p =
-      weighted-sum-le weightedCoupon couponLimit n i
+      weighted-sum-le weightedCoupon filedCouponLimit n i
       (λ k h. omega (arith, mul-le-mul-left (certificateAt s k .balance) (passed-sound n p k h .coupon-le)))
 
   pub months-sum-le : (n i : ℕ) → Passed n → positionSum v s (weightedMonths v) i n ≤ monthsLimit * positionSum v s balanceOf i n

@@ -10,7 +10,7 @@ use filled_cells::Totals;
 ghost use mathlib.Core.Path.{_≡_};
 ghost use Prim.Native.Nat.{_≤_, _<_, _+_, _*_};
 ghost use lib.ListN.{getD};
-ghost use Rattle.schedule.specs.Limits.{balanceLimit, couponLimit, monthsLimit};
+ghost use Rattle.schedule.specs.Limits.{balanceLimit, filedCouponLimit, monthsLimit};
 ghost use Rattle.answers.specs.Answers.{numberOf, verdictOf};
 ghost use Rattle.certificate_terms.specs.Terms.{certificateCount};
 ghost use Rattle.certificates.specs.Verdict.{eachVerdict};
@@ -59,9 +59,9 @@ pub(crate) fn scan(valuation: Date, certificates: &[u64]) -> Scanned
 // The sums with a certificate more.
 fn added(mut totals: Totals, position: usize, months: u64, balance: u64, coupon: u64) -> Totals
     requires { ⌜ position < 9 ⌝ }
-    requires { ⌜ (coupon ≤ couponLimit) × (months ≤ monthsLimit) ⌝ }
+    requires { ⌜ (coupon ≤ filedCouponLimit) × (months ≤ monthsLimit) ⌝ }
     requires { ⌜ getD (totals .balance) position 0 + balance ≤ balanceLimit ⌝ }
-    requires { ⌜ getD (totals .coupon) position 0 ≤ couponLimit * getD (totals .balance) position 0 ⌝ }
+    requires { ⌜ getD (totals .coupon) position 0 ≤ filedCouponLimit * getD (totals .balance) position 0 ⌝ }
     requires { ⌜ getD (totals .months) position 0 ≤ monthsLimit * getD (totals .balance) position 0 ⌝ }
     ensures { λ r. ⌜ r ≡ totalsWith totals position months balance coupon ⌝ }
 {

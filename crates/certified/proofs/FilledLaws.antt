@@ -8,7 +8,7 @@ use borrow.Author.Tests.{leb-true, le-leb, eqb-true}
 use lib.Dec.{leb}
 use Rattle.lists.proofs.TableLaws.{table-getD}
 use Rattle.schedule.specs.Cells.{positionAt, withinRow, leastMonths, mostMonths}
-use Rattle.schedule.specs.Limits.{balanceLimit, couponLimit, monthsLimit}
+use Rattle.schedule.specs.Limits.{balanceLimit, filedCouponLimit, monthsLimit}
 use Rattle.calendar.specs.declared.Date.{Date}
 use Rattle.certificate_terms.specs.Terms.{certificateCount, certificateAt, remainingMonths, originalMonths, columnOf, positionFor, positionOf}
 use Rattle.filled_cells.specs.declared.Totals.{Totals}
@@ -84,8 +84,8 @@ module _ (v : Date) (s : List ℕ) (accepted : certificatesVerdict v s .number �
       filled-months-least least f = rw months-is (mean-at-least v s (remainingMonths v) i least (certificateCount s) (rw balance-is at some) f)
 
       -- so its coupon is within the limit
-      pub filled-coupon-le : couponAt (totalsOf v s (certificateCount s)) i ≤ couponLimit
-      filled-coupon-le = filled-coupon-most couponLimit (λ k l e p. sound k l .coupon-le)
+      pub filled-coupon-le : couponAt (totalsOf v s (certificateCount s)) i ≤ filedCouponLimit
+      filled-coupon-le = filled-coupon-most filedCouponLimit (λ k l e p. sound k l .coupon-le)
 
       -- and its months within its row
       in-row : (k : ℕ) → k < certificateCount s → standsAt v s i k ≡ true → withinRow (positionAt i .row) (remainingMonths v (certificateAt s k)) ≡ true

@@ -13,7 +13,7 @@ use Rattle.lists.proofs.TestLaws.{both, allFrom, all-at}
 use Rattle.lists.proofs.TableLaws.{table-ext, table-getD}
 use Rattle.schedule.specs.declared.Position.{Position}
 use Rattle.schedule.specs.Cells.{position, positions, positionAt, totalCell, brokeredCell, penaltyBalanceCell, penaltyMonthsCell}
-use Rattle.schedule.specs.Limits.{couponLimit, monthsLimit, cellClass}
+use Rattle.schedule.specs.Limits.{filedCouponLimit, monthsLimit, cellClass}
 use Rattle.calendar.specs.declared.Date.{Date}
 use Rattle.certificate_terms.specs.Terms.{certificateCount}
 use Rattle.filled_cells.specs.declared.Totals.{Totals}
@@ -128,7 +128,7 @@ module _ (v : Date) (s : List ℕ) (accepted : certificatesVerdict v s .number �
       let t : Totals = totalsOf v s (certificateCount s) in
       record {
         balance-limit = λ i h. rw (balance-value t i h) (filled-balance-le v s accepted i h);
-        coupon-limit = λ i h. rw (coupon-value t i h) (at-most (balanceAt t i) (couponAt t i) couponLimit (filled-coupon-le v s accepted i h));
+        coupon-limit = λ i h. rw (coupon-value t i h) (at-most (balanceAt t i) (couponAt t i) filedCouponLimit (filled-coupon-le v s accepted i h));
         months-limit = λ i h. rw (months-value t i h) (at-most (balanceAt t i) (monthsAt t i) monthsLimit (filled-months-le v s accepted i h));
         months-in-row =
             λ i h some. let b : 0 < balanceAt t i = rw (balance-value t i h) at some in

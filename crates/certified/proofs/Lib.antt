@@ -6,5 +6,11 @@ pub mod LookUpLaws
 pub mod FitLaws
 pub mod ByteLaws
 pub mod RecordRunLaws
+pub mod BodyLaws
+pub mod PassLaws
+pub mod ListedLaws
+pub mod FiledLaws
+pub mod SaidLaws
+pub mod AcceptedLaws
 pub mod DateCases
 pub mod CertificateCases

@@ -6,14 +6,14 @@ use Rattle.filled_cells.specs.declared.Totals.{Totals}
 use Rattle.filled_cells.specs.declared.Cells.{Cells}
 use Rattle.filled_cells.specs.declared.FormCell.{FormCell}
 use Rattle.filled_cells.specs.Cells.{formCells, cellsOf, inPlaces}
-use Rattle.schedule.specs.Limits.{balanceLimit, couponLimit, monthsLimit}
+use Rattle.schedule.specs.Limits.{balanceLimit, filedCouponLimit, monthsLimit}
 use Rattle.answers.specs.declared.Answer.the-variants.{Accepted}
 
 -- nine sums of balances, each within the limit of a balance, and each weighted sum within so many times it
 pub record Bounded (t : Totals) : Type 0 where
   pub nine : length (t .balance) ≡ 9
   pub balance-le : (i : ℕ) → getD (t .balance) i 0 ≤ balanceLimit
-  pub coupon-le : (i : ℕ) → getD (t .coupon) i 0 ≤ couponLimit * getD (t .balance) i 0
+  pub coupon-le : (i : ℕ) → getD (t .coupon) i 0 ≤ filedCouponLimit * getD (t .balance) i 0
   pub months-le : (i : ℕ) → getD (t .months) i 0 ≤ monthsLimit * getD (t .balance) i 0
 
 -- acceptance, with the cells of some sums
