@@ -11,6 +11,7 @@ from refused import refusal_table
 VALUE_AND_SPLIT = 0
 LISTING_TEXT = 1
 SEARCH = 2
+CERTIFICATES = 3
 UNKNOWN = 4_294_967_295
 
 VALUES = shared(deposits(7_777, 525, middle_month), 35, 45, 300)
