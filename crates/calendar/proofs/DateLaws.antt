@@ -4,27 +4,14 @@ use native.Mathlib.Omega.{arith}
 use mathlib.Core.Path.{_≡_, refl, _∙_}
 use mathlib.Core.Logic.{_⊎_, inl, inr, ⊎-elim}
 use mathlib.Core.Bool.{Bool, true, false, cond, or-false, _&&_, _||_}
-use mathlib.Core.List.{[], _∷_}
 use borrow.Author.Tests.{leb-true, leb-false, ltb-true, eqb-true, lt-ltb, le-ltb, le-leb, eq-eqb, ne-eqb}
 use lib.Dec.{leb, ltb, eqb}
-use lib.ListN.{getD}
 use Rattle.lists.proofs.RangeLaws.{within-both}
-use Rattle.lists.proofs.TestLaws.{entries-le}
 use Rattle.lists.specs.Ranges.{within}
 use Rattle.calendar.specs.declared.Date.{Date}
 use Rattle.calendar.specs.Inner.Days.{Day}
-use Rattle.calendar.specs.Dates.{isLeap, lastDay, isDate, monthIndex, onOrAfter, dayIn, movedOn}
+use Rattle.calendar.specs.Dates.{lastDay, isDate, monthIndex, onOrAfter, dayIn, movedOn}
 use Rattle.lists.proofs.LogicLaws.{and-both}
-
--- no month has more than 31 days
-last-day-most : (leap : Bool) (month : ℕ)
-    → getD (0 ∷ 31 ∷ cond leap 29 28 ∷ 31 ∷ 30 ∷ 31 ∷ 30 ∷ 31 ∷ 31 ∷ 30 ∷ 31 ∷ 30 ∷ 31 ∷ []) month 0 ≤ 31
-last-day-most true month = entries-le (0 ∷ 31 ∷ 29 ∷ 31 ∷ 30 ∷ 31 ∷ 30 ∷ 31 ∷ 31 ∷ 30 ∷ 31 ∷ 30 ∷ 31 ∷ []) 31 tt month
-last-day-most false month = entries-le (0 ∷ 31 ∷ 28 ∷ 31 ∷ 30 ∷ 31 ∷ 30 ∷ 31 ∷ 31 ∷ 30 ∷ 31 ∷ 30 ∷ 31 ∷ []) 31 tt month
-
-pub last-day-le : (year month : ℕ) → lastDay year month ≤ 31
-unfolding lastDay
-last-day-le year month = last-day-most (isLeap year) month
 
 -- what a day of 1900 to 2199 is
 pub date-day : (d : Date) → isDate d ≡ true → Day d

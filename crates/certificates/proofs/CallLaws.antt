@@ -16,7 +16,7 @@ use Rattle.schedule.specs.Limits.{balanceLimit, filedCouponLimit, monthsLimit}
 use Rattle.answers.specs.declared.Answer.{Answer}
 use Rattle.answers.specs.Verdict.{Verdict, accepted, refused}
 use Rattle.answers.specs.Answers.{numberOf, verdictOf}
-use Rattle.answers.proofs.VerdictLaws.{first-none, first-passed, first-refused, tried-none, condition-holds, condition-refuses, condition-none}
+use Rattle.answers.proofs.VerdictLaws.{first-passed, first-refused, tried-none, condition-holds, condition-refuses, condition-none}
 use Rattle.calendar.specs.declared.Date.{Date}
 use Rattle.certificate_terms.specs.Terms.{certificateCount}
 use Rattle.filled_cells.specs.declared.Totals.{Totals}
@@ -37,10 +37,6 @@ module _ (v : Date) (s : List ℕ) where
   pub each-passed : eachVerdict v s .number ≡ 0 → Passed v s (certificateCount s)
   unfolding eachVerdict
   each-passed h = tried-none (certificateVerdict v s) (certificateCount s) h
-
-  pub all-passed : certificatesVerdict v s .number ≡ 0 → Passed v s (certificateCount s)
-  unfolding certificatesVerdict
-  all-passed h = each-passed (first-none (countVerdict s) (eachVerdict v s) h .1)
 
   -- the count decides, or the certificates in turn do
   count-refuses : within 1 1000 (certificateCount s) ≡ false → refused 5 0 ≡ certificatesVerdict v s

@@ -26,7 +26,8 @@ use Rattle.filled_cells.specs.Cells.{cellsOf}
 use Rattle.certificates.specs.Sums.{totalsOf}
 use Rattle.certificates.specs.Verdict.{certificatesVerdict}
 use Rattle.certificates.specs.Filled.{filledCells}
-use Rattle.certificates.proofs.CallLaws.{all-passed, totals-bounded, filled-some}
+use Rattle.certificates.proofs.CallLaws.{totals-bounded, filled-some}
+use Rattle.certified.proofs.FilledLaws.{all-passed}
 use Rattle.certified.specs.Fit.{valueIn, Fit}
 use Rattle.certified.specs.Filed.{filingOf}
 use Rattle.certified.proofs.LookUpLaws.{value-past}

@@ -9,18 +9,19 @@ use lib.Dec.{leb}
 use Rattle.lists.proofs.TableLaws.{table-getD}
 use Rattle.schedule.specs.Cells.{positionAt, withinRow, leastMonths, mostMonths}
 use Rattle.schedule.specs.Limits.{balanceLimit, filedCouponLimit, monthsLimit}
+use Rattle.answers.proofs.VerdictLaws.{first-none}
 use Rattle.calendar.specs.declared.Date.{Date}
 use Rattle.certificate_terms.specs.Terms.{certificateCount, certificateAt, remainingMonths, originalMonths, columnOf, positionFor, positionOf}
 use Rattle.filled_cells.specs.declared.Totals.{Totals}
 use Rattle.filled_cells.specs.Means.{mean, balanceAt, couponAt, monthsAt}
 use Rattle.certificates.specs.Sums.{standsAt, positionSum, balanceOf, weightedCoupon, weightedMonths, totalsOf}
-use Rattle.certificates.specs.Verdict.{certificatesVerdict}
+use Rattle.certificates.specs.Verdict.{countVerdict, eachVerdict, certificatesVerdict}
 use Rattle.lists.proofs.LogicLaws.{and-both}
 use Rattle.lists.proofs.RangeLaws.{least-passes}
 use Rattle.certificate_terms.proofs.FaultLaws.{Sound, sound-position}
-use Rattle.certificates.proofs.SumLaws.{passed-sound, balance-sum-le}
+use Rattle.certificates.proofs.SumLaws.{Passed, passed-sound, balance-sum-le}
 use Rattle.certified.proofs.WeightedLaws.{AtMost, AtLeast, mean-at-most, mean-at-least}
-use Rattle.certificates.proofs.CallLaws.{all-passed}
+use Rattle.certificates.proofs.CallLaws.{each-passed}
 
 -- a certificate's remaining months lie within the row of its position
 position-row : (m column : ℕ) → positionFor m column < 9 → withinRow (positionAt (positionFor m column) .row) m ≡ true
@@ -37,6 +38,11 @@ row-both row m h =
 pub row-within : (row m : ℕ) → leastMonths row ≤ m → m ≤ mostMonths row → withinRow row m ≡ true
 unfolding withinRow
 row-within row m l u = rw (le-leb (leastMonths row) m l, le-leb m (mostMonths row) u)
+
+-- no refusal: each certificate passes
+pub all-passed : (v : Date) (s : List ℕ) → certificatesVerdict v s .number ≡ 0 → Passed v s (certificateCount s)
+unfolding certificatesVerdict
+all-passed v s h = each-passed v s (first-none (countVerdict s) (eachVerdict v s) h .1)
 
 module _ (v : Date) (s : List ℕ) (accepted : certificatesVerdict v s .number ≡ 0) where
   sums : Totals

@@ -14,3 +14,4 @@ pub mod SaidLaws
 pub mod AcceptedLaws
 pub mod DateCases
 pub mod CertificateCases
+pub mod TextCases

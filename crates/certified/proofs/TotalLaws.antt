@@ -19,7 +19,7 @@ use Rattle.certificates.specs.Verdict.{certificatesVerdict}
 use Rattle.lists.specs.Ranges.{within}
 use Rattle.certificate_terms.proofs.FaultLaws.{sound-position}
 use Rattle.certificates.proofs.SumLaws.{Passed, passed-sound, sum-none, sum-suc, balance-sum-le}
-use Rattle.certificates.proofs.CallLaws.{all-passed}
+use Rattle.certified.proofs.FilledLaws.{all-passed}
 
 -- sums of tables: bounded, of two functions, and of one entry
 table-sum-le : (i n limit : ℕ) (f : ℕ → ℕ) → ((j : ℕ) → f j ≤ limit) → sum (tableFrom i n f) ≤ limit * n
