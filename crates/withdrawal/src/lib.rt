@@ -10,7 +10,7 @@ ghost use Prim.Native.Nat.{suc, _≤_};
 ghost use Rattle.schedule.specs.Limits.{withdrawalLimit};
 ghost use Rattle.withdrawal.specs.Gain.{atMost};
 ghost use Rattle.withdrawal.specs.Survival as spec;
-ghost use Rattle.withdrawal.specs.Survival.{fullSurvival};
+ghost use Rattle.withdrawal.specs.Survival.{fullSurvival, survivalFigures};
 ghost use Rattle.withdrawal.specs.MonthSurvival.{accountOf, earlySurvival};
 ghost use Rattle.withdrawal.specs.Inner.TierArrays.{tierTable, tiersIn, Usable};
 ghost use Rattle.withdrawal.specs.Inner.Incentives.{gainOf, Small};
@@ -95,10 +95,17 @@ fn brokered_survival(incentive: Incentive) -> u64
     }
 }
 
-// q of an annual withdrawal of w thousandths, in billionths.
-pub(crate) fn survival(w: u64) -> u64
-    requires { ⌜ w ≤ withdrawalLimit ⌝ }
+// q of an annual withdrawal of w thousandths in billionths, from the figures, which the caller reads once.
+pub(crate) fn survival(figures: &[u64; 601], w: u64) -> u64
+    requires { ⌜ (now figures ≡ survivalFigures) × (w ≤ withdrawalLimit) ⌝ }
     ensures { λ r. ⌜ r ≡ spec.survival w ⌝ }
 {
-    survival_figures::SURVIVAL[w as usize]
+    figures[w as usize]
+}
+
+// All survival figures.
+pub(crate) fn all_survivals() -> [u64; 601]
+    ensures { λ r. ⌜ r ≡ survivalFigures ⌝ }
+{
+    survival_figures::SURVIVAL
 }

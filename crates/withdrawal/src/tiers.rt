@@ -3,6 +3,8 @@ use crate::Incentive;
 use crate::ReachedTier;
 use crate::TIER_LIMIT;
 use crate::WithdrawalTiers;
+use crate::all_survivals;
+use crate::survival;
 ghost use mathlib.Core.Path.{_≡_};
 ghost use Prim.Native.Nat.{_≤_};
 ghost use Rattle.schedule.specs.Limits.{edgeLimit};
@@ -76,7 +78,7 @@ pub fn house() -> WithdrawalTiers
     with_survivals(6, edges, withdrawals, 40)
 }
 
-// Tiers with the survival of each withdrawal beside it: the table of survivals is read once for each tier, not once for each month.
+// Tiers with the survival of each withdrawal beside it: the table of survivals is read here, not in each month.
 pub fn with_survivals(
     count: usize,
     edges: [u64; TIER_LIMIT],
@@ -86,10 +88,11 @@ pub fn with_survivals(
     requires { ⌜ TiersFit count edges withdrawals otherwise ⌝ }
     ensures { λ r. ⌜ r ≡ withSurvivals count edges withdrawals otherwise ⌝ }
 {
+    let figures = all_survivals();
     let mut survivals = [0u64; TIER_LIMIT];
     let mut i: usize = 0;
     while i < count {
-        survivals[i] = crate::survival(withdrawals[i]);
+        survivals[i] = survival(&figures, withdrawals[i]);
         i += 1;
     }
     WithdrawalTiers {
@@ -98,6 +101,6 @@ pub fn with_survivals(
         withdrawals,
         survivals,
         otherwise,
-        retained: crate::survival(otherwise),
+        retained: survival(&figures, otherwise),
     }
 }
