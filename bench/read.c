@@ -124,6 +124,7 @@ static int read_records(const uint8_t *s, size_t size, struct contents *k, uint6
         at += 2 + length;
     }
     *place = size;
+    k->flat = seen.kind[3];
     return seen.kind[2] && (seen.kind[3] || seen.kind[5]) ? 0 : 6;
 }
 

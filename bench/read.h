@@ -17,12 +17,13 @@ struct tiers {
 
 /*
  * Cells 601 to 661 as filed, 0 where absent, coupons in thousandths of a percent a year; yields by month and retail rates by column and month, in
- * hundredths of a percent a year.
+ * hundredths of a percent a year; whether each column has one rate for all months (kind 3).
  */
 struct contents {
     uint64_t cell[61];
     uint64_t yield[120];
     uint64_t rate[3][120];
+    int flat;
     struct tiers tiers;
 };
 

@@ -1,13 +1,17 @@
 """What the calls do with the lists lent, and the listing's text. Each entry has a name."""
 from accepted import paper_figures
 from monthly_rates import DOWN, NO_PATH, SAW, UP
-from records import LISTING, RISING, SHEETS, cell, cells, deposits, filing, fine_cells, flat, middle_month, path_filing, rates, record, shared, tiers, yields
+from records import (
+    LISTING, RISING, SHEETS, cell, cells, deposits, filing, fine_cells, flat, middle_month, path_filing, rates, record, shared, tiers,
+    yields,
+)
 from refused import refusal_table
 
 # The numbers of the calls. UNKNOWN is of none.
 VALUE_AND_SPLIT = 0
 LISTING_TEXT = 1
 SEARCH = 2
+CERTIFICATES = 3
 UNKNOWN = 4_294_967_295
 
 VALUES = shared(deposits(7_777, 525, middle_month), 35, 45, 300)

@@ -11,6 +11,7 @@ sys.dont_write_bytecode = True
 
 import accepted
 import calls
+import certificates
 import fine_coupons
 import monthly_rates
 import own_tiers
@@ -41,6 +42,9 @@ def entries():
     for family in searches.FAMILIES:
         for name, data in family():
             yield name, entry(calls.SEARCH, data)
+    for family in certificates.FAMILIES:
+        for name, data in family():
+            yield f"certificates: {name}", entry(calls.CERTIFICATES, data)
     yield "a call that is unknown", entry(calls.UNKNOWN, b"")
 
 

@@ -4,6 +4,7 @@ import sys
 
 sys.dont_write_bytecode = True
 
+import certificates
 import filings
 import fine_coupons
 import monthly_rates
@@ -22,8 +23,8 @@ def printed():
 
 def check():
     texts = printed()
-    figures = monthly_rates.FIGURES | fine_coupons.FIGURES | searches.known()
-    pairs = monthly_rates.SAME + fine_coupons.SAME
+    figures = monthly_rates.FIGURES | fine_coupons.FIGURES | certificates.FIGURES | searches.known()
+    pairs = {*monthly_rates.SAME, *fine_coupons.SAME}
     for name, line in figures.items():
         assert f"{line}\n" in texts[name], f"{name}: no line {line}"
     for one, other in pairs:

@@ -12,7 +12,10 @@ sys.dont_write_bytecode = True
 
 from calls import VALUE_AND_SPLIT
 from filings import entry
-from records import COLUMNS, LIMITS, POSITIONS, UNUSED, brokered_cell, cell, fine, path, penalty_balance_cell, penalty_cell, rates, record, tiers, yields
+from records import (
+    COLUMNS, LIMITS, POSITIONS, UNUSED, brokered_cell, cell, fine, path, penalty_balance_cell, penalty_cell, rates, record,
+    tiers, yields,
+)
 
 TARGET = Path(__file__).resolve().parent.parent / "target"
 PROGRAMS = "second", "figures_test"
@@ -92,7 +95,8 @@ def faulty_record(r):
 
 
 def random_filing(r):
-    records = [*cell_records(r), yields(months_of_rates(r))]
+    records = [*cell_records(r)]
+    records.append(yields(months_of_rates(r)))
     records.append(path(*(months_of_rates(r) for _ in COLUMNS)) if r.random() < 0.5 else rates([rate(r) for _ in COLUMNS]))
     if r.random() < 0.5:
         records.append(own_tiers(r))

@@ -3,7 +3,7 @@
 use native.Mathlib.Omega.{arith}
 use mathlib.Core.Path.{_≡_, refl, ap}
 use Rattle.answers.specs.declared.Answer.{Answer}
-use Rattle.answers.specs.declared.Answer.the-variants.{Accepted, RecordIncomplete, RecordMisshapen, CellUnlisted, Repeated, PathBesideFlat, OverLimit, TiersUnsound, SheetMissing, MonthsOutsideRow, AboveColumnSum, TotalDiffers, ListTooShort}
+use Rattle.answers.specs.declared.Answer.the-variants.{Accepted, RecordIncomplete, RecordMisshapen, CellUnlisted, Repeated, PathBesideFlat, OverLimit, TiersUnsound, SheetMissing, MonthsOutsideRow, AboveColumnSum, TotalDiffers, ListTooShort, NoSuchDay, NotOutstanding, TooManyMonths}
 use Rattle.answers.specs.Verdict.{accepted}
 use Rattle.answers.specs.Answers.{numberOf, verdictOf}
 
@@ -22,6 +22,9 @@ number-accepted (MonthsOutsideRow at) h = absurd (omega arith)
 number-accepted (AboveColumnSum at) h = absurd (omega arith)
 number-accepted (TotalDiffers at) h = absurd (omega arith)
 number-accepted (ListTooShort at) h = absurd (omega arith)
+number-accepted (NoSuchDay at) h = absurd (omega arith)
+number-accepted (NotOutstanding at) h = absurd (omega arith)
+number-accepted (TooManyMonths at) h = absurd (omega arith)
 
 pub accepted-answer : (a : Answer) → numberOf a ≡ 0 → verdictOf a ≡ accepted
 unfolding verdictOf accepted

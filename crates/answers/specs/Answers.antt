@@ -1,7 +1,7 @@
--- The answers of the code as verdicts of the paper's table (01:28-39; 02:CR 1, CR 3): each case's number and place. Definitions only.
+-- The answers of the code as verdicts of the paper's table (01:28-39; 02:CR 1, CR 3, CR 5): each case's number and place. Definitions only.
 use Prim.Native.Nat.{ℕ}
 use Rattle.answers.specs.declared.Answer.{Answer}
-use Rattle.answers.specs.declared.Answer.the-variants.{Accepted, RecordIncomplete, RecordMisshapen, CellUnlisted, Repeated, PathBesideFlat, OverLimit, TiersUnsound, SheetMissing, MonthsOutsideRow, AboveColumnSum, TotalDiffers, ListTooShort}
+use Rattle.answers.specs.declared.Answer.the-variants.{Accepted, RecordIncomplete, RecordMisshapen, CellUnlisted, Repeated, PathBesideFlat, OverLimit, TiersUnsound, SheetMissing, MonthsOutsideRow, AboveColumnSum, TotalDiffers, ListTooShort, NoSuchDay, NotOutstanding, TooManyMonths}
 use Rattle.answers.specs.Verdict.{Verdict}
 
 -- the number of an answer
@@ -19,6 +19,9 @@ numberOf (MonthsOutsideRow cell) = 7
 numberOf (AboveColumnSum cell) = 8
 numberOf (TotalDiffers cell) = 9
 numberOf (ListTooShort size) = 10
+numberOf (NoSuchDay certificate) = 13
+numberOf (NotOutstanding certificate) = 14
+numberOf (TooManyMonths certificate) = 15
 
 -- the place of an answer
 abbrev pub placeOf : Answer → ℕ
@@ -35,6 +38,9 @@ placeOf (MonthsOutsideRow cell) = cell
 placeOf (AboveColumnSum cell) = cell
 placeOf (TotalDiffers cell) = cell
 placeOf (ListTooShort size) = size
+placeOf (NoSuchDay certificate) = certificate
+placeOf (NotOutstanding certificate) = certificate
+placeOf (TooManyMonths certificate) = certificate
 
 -- the verdict that an answer stands for
 unfoldable pub verdictOf : Answer → Verdict

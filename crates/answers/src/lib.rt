@@ -1,12 +1,12 @@
-// The answers on a filing, and the paper's number and place of each.
+// The answers on a filing and on a list of certificates, and the paper's number and place of each.
 ghost use mathlib.Core.Path.{_≡_};
 ghost use Rattle.answers.specs.Verdict.{firstRefusal};
 ghost use Rattle.answers.specs.Answers.{numberOf, placeOf, verdictOf};
 
-// The answer on a filing: acceptance, or the first refusal and its place.
+// The answer: acceptance, or the first refusal and its place.
 pub enum Answer {
     Accepted,
-    // At the record's offset.
+    // At the record's offset; OverLimit of a certificate at its index.
     RecordIncomplete(usize),
     RecordMisshapen(usize),
     CellUnlisted(usize),
@@ -22,6 +22,10 @@ pub enum Answer {
     TotalDiffers(usize),
     // At the list's length.
     ListTooShort(usize),
+    // At the certificate's index.
+    NoSuchDay(usize),
+    NotOutstanding(usize),
+    TooManyMonths(usize),
 }
 
 // The number of a refusal, 0 for acceptance.
@@ -42,6 +46,9 @@ pub fn number(answer: Answer) -> u64
         Answer::AboveColumnSum(_) => 8,
         Answer::TotalDiffers(_) => 9,
         Answer::ListTooShort(_) => 10,
+        Answer::NoSuchDay(_) => 13,
+        Answer::NotOutstanding(_) => 14,
+        Answer::TooManyMonths(_) => 15,
     }
 }
 
@@ -63,6 +70,9 @@ pub fn place(answer: Answer) -> usize
         Answer::AboveColumnSum(cell) => cell,
         Answer::TotalDiffers(cell) => cell,
         Answer::ListTooShort(size) => size,
+        Answer::NoSuchDay(certificate) => certificate,
+        Answer::NotOutstanding(certificate) => certificate,
+        Answer::TooManyMonths(certificate) => certificate,
     }
 }
 

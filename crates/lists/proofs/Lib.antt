@@ -1,5 +1,7 @@
 pub mod EachLaws
 pub mod FillLaws
+pub mod LogicLaws
+pub mod RangeLaws
 pub mod RunLaws
 pub mod SumLaws
 pub mod TableLaws

@@ -119,7 +119,7 @@ fn print_share(part: SubBalance, place: u64) {
 }
 
 // The shift of a scenario from 0 to 6, in hundredths of a percent.
-fn print_shift(scenario: u64) {
+pub fn print_shift(scenario: u64) {
     if scenario < 3 {
         print(b"-");
     }

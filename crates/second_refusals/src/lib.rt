@@ -11,13 +11,14 @@ use second_numbers::cells::is_within;
 use second_numbers::cells::limit;
 use second_numbers::cells::warm_cell;
 use second_records::columns::column_sum;
+use second_records::records::AMENDMENT;
 use second_records::records::CELL;
 use second_records::records::FINE;
 use second_records::records::PATH;
 use second_records::records::RATES;
 use second_records::records::YIELDS;
 use second_records::records::found;
-use second_records::records::has_cell;
+use second_records::records::key_at;
 use second_records::records::lacks;
 use second_records::records::next;
 use second_records::records::value;
@@ -54,7 +55,7 @@ fn refused_if(holds: bool, number: u64, place: u64) -> Refusal {
     }
 }
 
-// Refusals 1 to 5, 11 and 12: the first record that has a fault.
+// Refusals 1 to 5, 11, 12 and 16: the first record that has a fault.
 fn record_refusal(s: &[u8]) -> Refusal {
     let at = first_faulty(s);
     let fault = record_fault(s, at);
@@ -87,13 +88,13 @@ fn record_fault(s: &[u8], at: u64) -> Refusal {
     )
 }
 
-// Faults 3, 4, 12, 5 and 11 of a record of a known kind, in this order.
+// Faults 3, 4, 16, 12, 5 and 11 of a record of a known kind, in this order.
 fn body_fault(s: &[u8], at: u64, kind: u64, cell: u64) -> Refusal {
     let most = most(kind, cell);
     first(
         first(
             refused_if(has_cell(kind) & (most == 0), 3, at),
-            refused_if(is_repeated(s, at, kind, cell), 4, at),
+            repetition(s, at, kind),
         ),
         first(
             refused_if(is_beside_other(s, at, kind), 12, at),
@@ -105,30 +106,51 @@ fn body_fault(s: &[u8], at: u64, kind: u64, cell: u64) -> Refusal {
     )
 }
 
+// Whether records of the kind are of a cell.
+fn has_cell(kind: u64) -> bool {
+    (kind == CELL) | (kind == FINE) | (kind == AMENDMENT)
+}
+
 // The largest value of a cell in a record of the kind; 0 for a cell that the kind may not have.
 fn most(kind: u64, cell: u64) -> u64 {
     match kind {
         1 => limit(cell),
         6 => fine_limit(cell),
+        7 => limit(cell),
         _ => 0,
     }
 }
 
-// Whether the cell of the record at `at`, or its kind, stands before it. Kinds 1 and 6 have their
-// cells in common.
-fn is_repeated(s: &[u8], at: u64, kind: u64, cell: u64) -> bool {
-    if has_cell(kind) {
-        (found(s, at, CELL, cell) < at) | (found(s, at, FINE, cell) < at)
-    } else {
-        found(s, at, kind, 0) < at
+// A 16 for an amendment that stands a second time, a 4 for anything else that does. Kinds 1 and 6
+// have their cells in common.
+fn repetition(s: &[u8], at: u64, kind: u64) -> Refusal {
+    let key = key_at(s, at, kind);
+    match kind {
+        1 => refused_if(
+            is_before(s, at, FINE, key) | is_before(s, at, CELL, key),
+            4,
+            at,
+        ),
+        6 => refused_if(
+            is_before(s, at, FINE, key) | is_before(s, at, CELL, key),
+            4,
+            at,
+        ),
+        7 => refused_if(is_before(s, at, AMENDMENT, key), 16, at),
+        _ => refused_if(is_before(s, at, kind, key), 4, at),
     }
+}
+
+// Whether a record of the kind and the key stands before `at`.
+fn is_before(s: &[u8], at: u64, kind: u64, key: u64) -> bool {
+    found(s, at, kind, key) < at
 }
 
 // Whether one of kinds 3 and 5 stands at `at` and the other before it.
 fn is_beside_other(s: &[u8], at: u64, kind: u64) -> bool {
     match kind {
-        3 => found(s, at, PATH, 0) < at,
-        5 => found(s, at, RATES, 0) < at,
+        3 => is_before(s, at, PATH, 0),
+        5 => is_before(s, at, RATES, 0),
         _ => false,
     }
 }
@@ -147,6 +169,7 @@ fn length_of(s: &[u8], at: u64, kind: u64) -> u64 {
         4 => add(4, mul(4, own_count(s, at))),
         5 => 722,
         6 => 12,
+        7 => 16,
         _ => 0,
     }
 }
@@ -156,11 +179,20 @@ fn is_over(s: &[u8], at: u64, kind: u64, most: u64) -> bool {
     match kind {
         1 => most < quad(s, add(at, 6)),
         6 => most < quad(s, add(at, 6)),
+        7 => is_amendment_over(s, at, most),
         2 => is_rate_over(s, add(at, 4), 120),
         3 => is_rate_over(s, add(at, 4), 3),
         5 => is_rate_over(s, add(at, 4), 360),
         _ => false,
     }
+}
+
+// Whether an amendment's number is 0, its state above 1, its value above `most`, or other than 0
+// where the cell is withdrawn.
+fn is_amendment_over(s: &[u8], at: u64, most: u64) -> bool {
+    let state = word(s, add(at, 8));
+    let value = quad(s, add(at, 10));
+    (word(s, add(at, 6)) == 0) | (1 < state) | (most < value) | ((state == 1) & (value != 0))
 }
 
 // Whether the record at `at` has tiers that do not load.

@@ -1,0 +1,2 @@
+pub mod Dates
+pub mod Inner

@@ -1,0 +1,9 @@
+-- A refusal, which gives no cells. Definitions only.
+use mathlib.Core.List.{[]}
+use Rattle.answers.specs.declared.Answer.{Answer}
+use Rattle.filled_cells.specs.declared.Cells.{Cells}
+use Rattle.filled_cells.specs.Cells.{inPlaces}
+
+-- a refusal
+unfoldable pub noCells : Answer → Cells
+noCells a = record { answer = a; count = 0; cells = inPlaces [] }

@@ -1,0 +1,5 @@
+pub mod Sums
+pub mod Verdict
+pub mod Filled
+pub mod Promise
+pub mod Inner

@@ -1,0 +1,4 @@
+pub mod NumeralLaws
+pub mod LineLaws
+pub mod FormLaws
+pub mod TextLaws

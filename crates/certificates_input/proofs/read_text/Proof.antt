@@ -1,0 +1,168 @@
+-- `read_text` meets its contract. The loop's invariant: the lines so far have their form, and their numbers are stored. Assumes nothing.
+use Prim.Native.Nat.{_+_, _*_, _-_, _≤_}
+use native.Mathlib.Omega.{arith}
+use mathlib.Core.Path.{_≡_, sym, ap, _∙_}
+use mathlib.Core.Bool.{true}
+use borrow.Author.Needs.{needs}
+use borrow.Author.Tests.{not-true, not-false}
+use lib.ListN.{length}
+use Rattle.lists.specs.Tables.{tableFrom, joined}
+use Rattle.lists.proofs.RunLaws.{overwritten-none}
+use Rattle.certificates_input.specs.declared.lines.Line.{Line}
+use Rattle.certificates_input.specs.Lines.{dateForm, certificateForm, hasForm, formNumbers, formEnd}
+use Rattle.certificates_input.proofs.LineLaws.{line-readable, line-is}
+use Rattle.certificates_input.proofs.TextLaws.{LinesRead, Stored, first-read, form-takes, next-read, line-fails, first-fails, count-is, none-fails, stored-all, stored-next, valuation-read, certificate-read, numbers-are, certificate-length}
+use Rattle.certificates_input.proofs.read_text.Statement.{statement}
+use Rattle.certificates_input.proofs.read_text.Tie as tie
+
+abbrev Inv-loop : tie.InvT-loop
+Inv-loop text numbers₀ valuation count₀ at₀ numbers count at = LinesRead text (count + 1) at × Stored text numbers₀ numbers count
+
+abbrev μ-loop : tie.MeasureT-loop
+μ-loop text numbers₀ valuation count₀ at₀ numbers count at = length text + 1 - at
+
+date-line-requires : tie.Need-date-line-requires Inv-loop μ-loop
+date-line-requires c κs = tt
+
+element-copy-out-t12 : tie.Need-element-copy-out-t12 Inv-loop μ-loop
+element-copy-out-t12 c = search needs
+
+element-copy-out-t15 : tie.Need-element-copy-out-t15 Inv-loop μ-loop
+element-copy-out-t15 c = search needs
+
+element-copy-out-t18 : tie.Need-element-copy-out-t18 Inv-loop μ-loop
+element-copy-out-t18 c = search needs
+
+returns : tie.Need-returns Inv-loop μ-loop
+returns c = let s = c .before .before .before .before .before .before .before .args .text .now in
+    let line = c .before .before .before .before .date-line in
+    let fails = first-fails s (sym (line-readable s 0 dateForm (line .result) (line .ensures)) ∙ not-true _ (c .if1 .taken)) in
+    record {
+      unreadable-is = sym fails;
+      valuation-is = λ z. absurd (omega (arith, fails, z));
+      counted = omega arith;
+      numbers-are = λ z. absurd (omega (arith, fails, z));
+    }
+
+-- the first line is a date
+dated : (c : tie.Else1 Inv-loop μ-loop) → hasForm (c .before .before .before .before .before .before .before .args .text .now) 0 dateForm ≡ true
+dated c =
+    let line = c .before .before .before .before .date-line in
+    sym (line-readable _ 0 dateForm (line .result) (line .ensures)) ∙ not-false _ (c .if1 .left)
+
+loop-holds : tie.Need-loop-holds Inv-loop μ-loop
+unfolding joined tableFrom
+loop-holds c = let s = c .before .before .before .before .before .before .before .args .text .now in
+    let line = c .before .before .before .before .date-line in
+    let next = ap (λ (r : Line). r .next) (line-is s 0 dateForm (line .result) (line .ensures) (dated c)) in
+    (rw next (first-read s (dated c)), overwritten-none _)
+
+certificate-line-requires : tie.Need-certificate-line-requires Inv-loop μ-loop
+certificate-line-requires c κs = tt
+
+add-t23 : tie.Need-add-t23 Inv-loop μ-loop
+add-t23 c = omega (arith, c .before .before .before .before .loop .inv .0 .room, c .before .before .before .loop-test .taken)
+
+same-length : tie.Need-same-length Inv-loop μ-loop
+same-length c = c .before .before .before .before .loop .inv .1 .as-long
+
+returns-2 : tie.Need-returns-2 Inv-loop μ-loop
+returns-2 c = let s = c .before .before .before .before .before .before .before .before .before .before .before .before .args .text .now in
+    let at = c .before .before .before .before .loop in
+    let line = c .before .before .certificate-line in
+    let form = sym (line-readable s (at .at) certificateForm (line .result) (line .ensures)) ∙ not-true _ (c .if2 .taken) in
+    let fails = line-fails s (at .count + 1) (at .at) (at .inv .0) (c .before .before .before .loop-test .taken) form in
+    record {
+      unreadable-is = omega (arith, fails);
+      valuation-is = λ z. absurd (omega (arith, fails, z));
+      counted = omega (arith, at .inv .1 .as-long, at .inv .0 .room, at .inv .0 .bound, c .before .before .before .before .before .before .before .before .before .before .before .before .pre);
+      numbers-are = λ z. absurd (omega (arith, fails, z));
+    }
+
+-- the line is a certificate: its numbers, the place behind it, and room for them
+formed : (c : tie.Else2 Inv-loop μ-loop) → hasForm (c .before .before .before .before .before .before .before .before .before .before .before .before .args .text .now) (c .before .before .before .before .loop .at) certificateForm ≡ true
+formed c =
+    let line = c .before .before .certificate-line in
+    sym (line-readable _ _ certificateForm (line .result) (line .ensures)) ∙ not-false _ (c .if2 .left)
+
+values-are : (c : tie.Else2 Inv-loop μ-loop) → c .before .before .certificate-line .result .numbers ≡ formNumbers (c .before .before .before .before .before .before .before .before .before .before .before .before .args .text .now) (c .before .before .before .before .loop .at) certificateForm
+values-are c = certificate-read _ _ _ (c .before .before .certificate-line .ensures) (formed c) .0
+
+next-is : (c : tie.Else2 Inv-loop μ-loop) → c .before .before .certificate-line .result .next ≡ formEnd (c .before .before .before .before .before .before .before .before .before .before .before .before .args .text .now) (c .before .before .before .before .loop .at) certificateForm
+next-is c = certificate-read _ _ _ (c .before .before .certificate-line .ensures) (formed c) .1
+
+stored-long : (c : tie.Else2 Inv-loop μ-loop) → length (c .before .before .certificate-line .result .numbers) ≡ 8
+stored-long c = rw (values-are c) (certificate-length _ _)
+
+stored-room : (c : tie.Else2 Inv-loop μ-loop) → 8 * c .before .before .before .before .loop .count + 8 ≤ length (c .before .before .before .before .loop .numbers)
+stored-room c =
+    let at = c .before .before .before .before .loop in
+    let next = next-read (c .before .before .before .before .before .before .before .before .before .before .before .before .args .text .now) (at .count + 1) (at .at) (at .inv .0) (c .before .before .before .loop-test .taken) (formed c) in
+    omega (arith, at .inv .1 .as-long, next .room, next .bound, c .before .before .before .before .before .before .before .before .before .before .before .before .pre)
+
+mul-write : tie.Need-mul-write Inv-loop μ-loop
+mul-write c = omega (arith, c .before .before .before .before .before .before .loop .inv .0 .room, c .before .before .before .before .before .loop-test .taken)
+
+slice-aggregate-write : tie.Need-slice-aggregate-write Inv-loop μ-loop
+slice-aggregate-write c = search needs
+
+write-requires : tie.Need-write-requires Inv-loop μ-loop
+write-requires c κs = omega (arith, stored-room (c .before .before .before), stored-long (c .before .before .before))
+
+add-count : tie.Need-add-count Inv-loop μ-loop
+add-count c = omega (arith, c .before .before .before .before .before .before .before .before .before .before .loop .inv .0 .room, c .before .before .before .before .before .before .before .before .before .loop-test .taken)
+
+loop-less : tie.Need-loop-less Inv-loop μ-loop
+loop-less c = omega (arith, next-is (c .before .before .before .before .before .before), form-takes (c .before .before .before .before .before .before .before .before .before .before .before .before .before .before .before .before .before .before .args .text .now) _ (c .before .before .before .before .before .before .before .before .before .before .loop .at) (c .before .before .before .before .before .before .before .before .before .before .loop .inv .0) (c .before .before .before .before .before .before .before .before .before .loop-test .taken) (formed (c .before .before .before .before .before .before)), c .before .before .before .before .before .before .before .before .before .loop-test .taken)
+
+loop-again : tie.Need-loop-again Inv-loop μ-loop
+loop-again c = let s = c .before .before .before .before .before .before .before .before .before .before .before .before .before .before .before .before .before .before .args .text .now in
+    let at = c .before .before .before .before .before .before .before .before .before .before .loop in
+    let more = c .before .before .before .before .before .before .before .before .before .loop-test .taken in
+    let form = formed (c .before .before .before .before .before .before) in
+    let values = c .before .before .before .before .before .before .before .before .certificate-line .result .numbers in
+    let is = values-are (c .before .before .before .before .before .before) in
+    let room = stored-room (c .before .before .before .before .before .before) in (
+      rw (next-is (c .before .before .before .before .before .before)) (next-read s (at .count + 1) (at .at) (at .inv .0) more form),
+      rw (c .before .before .write .ensures) (stored-next s _ (at .numbers) (at .count) values (is ∙ numbers-are s (at .count) (at .at) (at .inv .0)) (omega (arith, room, at .inv .1 .as-long)) (at .inv .1)),
+    )
+
+same-length-2 : tie.Need-same-length-2 Inv-loop μ-loop
+same-length-2 c = c .before .loop .inv .1 .as-long
+
+returns-3 : tie.Need-returns-3 Inv-loop μ-loop
+returns-3 c = let s = c .before .before .before .before .before .before .before .before .before .args .text .now in
+    let at = c .before .loop in
+    let count = count-is s (at .count + 1) (at .at) (at .inv .0) (c .loop-test .left) in
+    let line = c .before .before .before .before .before .before .date-line in
+    record {
+      unreadable-is = sym (none-fails s (at .count + 1) (at .at) (at .inv .0) (c .loop-test .left));
+      valuation-is = λ z. valuation-read s (line .result) (line .ensures) (dated (c .before .before));
+      counted = omega (arith, at .inv .1 .as-long, at .inv .0 .room, at .inv .0 .bound, c .before .before .before .before .before .before .before .before .before .pre);
+      numbers-are = λ z. stored-all s _ (at .numbers) (at .count) count (at .inv .1);
+    }
+
+pub read-text-spec : {M : Type 1} → statement M
+read-text-spec =
+    tie.close
+    (tie.spec
+    Inv-loop
+    μ-loop
+    date-line-requires
+    element-copy-out-t12
+    element-copy-out-t15
+    element-copy-out-t18
+    returns
+    loop-holds
+    certificate-line-requires
+    add-t23
+    same-length
+    returns-2
+    mul-write
+    slice-aggregate-write
+    write-requires
+    add-count
+    loop-less
+    loop-again
+    same-length-2
+    returns-3)

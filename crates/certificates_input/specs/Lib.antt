@@ -1,0 +1,4 @@
+pub mod Numerals
+pub mod Lines
+pub mod Texts
+pub mod Inner

@@ -1,0 +1,66 @@
+-- `append_answer` meets its contract: the line of the refusal, or the lines of the cells. Assumes nothing.
+use Prim.Native.Nat.{_≤_}
+use native.Mathlib.Omega.{arith}
+use mathlib.Core.Path.{sym}
+use lib.ListN.{length}
+use Rattle.text.specs.Lines.{refusalLine}
+use Rattle.text.proofs.LineLaws.{refusal-short}
+use Rattle.certificates_text.proofs.PrintingLaws.{answer-refused, answer-accepted, answer-count, answer-long}
+use borrow.Author.Needs.{needs}
+use Rattle.certificates_text.proofs.append_answer.Statement.{statement}
+use Rattle.certificates_text.proofs.append_answer.Tie as tie
+
+to-cells-requires : tie.Need-to-cells-requires
+to-cells-requires c κs = search needs
+
+number-requires : tie.Need-number-requires
+number-requires c κs = search needs
+
+place-requires : tie.Need-place-requires
+place-requires c κs = search needs
+
+short : (c : tie.After-place) → length (refusalLine (c .before .before .before .number .result) (c .place .result)) ≤ 50
+short c = refusal-short (c .before .before .before .number .result) (c .place .result) (omega arith) (omega arith)
+
+append-refusal-requires : tie.Need-append-refusal-requires
+append-refusal-requires c κs = omega (arith, short c, c .before .before .before .before .before .before .before .pre)
+
+same-length : tie.Need-same-length
+same-length c = search needs
+
+returns : tie.Need-returns
+returns c =
+    let p = c .before .before .before in
+    let n = p .before .before .before in
+    let text = answer-refused _ _ _ (n .before .to-cells .ensures) _ _ (n .number .ensures) (p .place .ensures) (p .before .before .if1 .taken) in
+    let line = c .before .before .append-refusal .ensures in
+    (rw (sym text) line, omega (arith, line .end-is, short p))
+
+append-cells-requires : tie.Need-append-cells-requires
+append-cells-requires c κs =
+    let converted = c .before .before .before .to-cells .ensures in
+    (omega (arith, c .before .before .before .before .before .before .pre), (answer-count _ _ _ converted, answer-long _ _ _ converted))
+
+same-length-2 : tie.Need-same-length-2
+same-length-2 c = search needs
+
+returns-2 : tie.Need-returns-2
+returns-2 c =
+    let n = c .before .before .before .before .before in
+    let text = answer-accepted _ _ _ (n .before .to-cells .ensures) _ (n .number .ensures) (c .before .before .before .before .if1 .left) in
+    let lines = c .before .before .append-cells .ensures in
+    (rw (sym text) (lines .0), lines .1)
+
+pub append-answer-spec : {M : Type 1} → statement M
+append-answer-spec =
+    tie.close
+    (tie.spec
+    to-cells-requires
+    number-requires
+    place-requires
+    append-refusal-requires
+    same-length
+    returns
+    append-cells-requires
+    same-length-2
+    returns-2)

@@ -1,0 +1,17 @@
+pub mod MoveLaws
+pub mod WeightedLaws
+pub mod FilledLaws
+pub mod TotalLaws
+pub mod LookUpLaws
+pub mod FitLaws
+pub mod ByteLaws
+pub mod RecordRunLaws
+pub mod BodyLaws
+pub mod PassLaws
+pub mod ListedLaws
+pub mod FiledLaws
+pub mod SaidLaws
+pub mod AcceptedLaws
+pub mod DateCases
+pub mod CertificateCases
+pub mod TextCases

@@ -1,0 +1,147 @@
+-- What a made filing says: its sheets are there, and its cells say what the list says. Assumes nothing.
+use Prim.Native.Nat.{ℕ, zero, suc, _+_, _-_, _≤_, _<_}
+use native.Mathlib.Nat.{not-suc-le-zero, le-of-suc-le-suc, eq-or-lt-of-le}
+use native.Mathlib.Omega.{arith}
+use mathlib.Core.Path.{_≡_, refl, sym, subst, _∙_}
+use mathlib.Core.Logic.{_⊎_, ⊎-elim}
+use mathlib.Core.Bool.{Bool, true, false, not}
+use mathlib.Core.List.{List, [], _∷_}
+use borrow.Author.Tests.{le-ltb, lt-ltb, lt-leb, le-leb, eqb-true}
+use lib.Dec.{eqb}
+use lib.ListN.{length, getD}
+use Rattle.lists.specs.Ranges.{firstFrom}
+use Rattle.lists.specs.Tables.{tableFrom}
+use Rattle.lists.proofs.LogicLaws.{lt-or-le}
+use Rattle.lists.proofs.RangeLaws.{least-passes, least-fails}
+use Rattle.lists.proofs.TableLaws.{tableFrom-getD}
+use Rattle.schedule.specs.Limits.{couponClass, cellClass, rateLimit}
+use Rattle.schedule.proofs.CellLaws.{CellOf}
+use Rattle.records.specs.Kinds.{flatRatesKind}
+use Rattle.records.specs.declared.items.Item.{Item}
+use Rattle.records.specs.declared.items.Item.the-variants.{Cell, Sheet}
+use Rattle.records.specs.Items.{sameItem, recordItem, firstWith}
+use Rattle.conditions.specs.Conditions.{cellIn}
+use Rattle.filing.specs.Contents.{cellOffset, amountAt, cellValue, sheetOffset}
+use Rattle.filing.specs.Verdict.{sheetMissing}
+use Rattle.filled_cells.specs.declared.CellValue.{CellValue}
+use Rattle.certified.specs.Fit.{valueIn}
+use Rattle.certified.specs.Filed.{run, filedBodies}
+use Rattle.certified.proofs.RecordRunLaws.{offset, offset-last, offset-lt, search-none, search-hit}
+use Rattle.certified.proofs.ListedLaws.{Listed}
+use Rattle.certified.proofs.FiledLaws.{noCell, filed-length, sized, cell-record, item-cell, item-yields, item-rates, cell-no-sheet, before-rates}
+
+-- what a list says of a cell that stands first at place i, and of one that does not stand there
+value-found : (cells : List CellValue) (n i : ℕ) → i < length cells → eqb (getD cells i noCell .cell) n ≡ true
+    → ((j : ℕ) → j < i → eqb (getD cells j noCell .cell) n ≡ false)
+    → valueIn cells n ≡ getD cells i noCell .value
+unfolding valueIn
+value-found [] n i h e f = absurd (not-suc-le-zero h)
+value-found (c ∷ cs) n zero h e f = rw e
+value-found (c ∷ cs) n (suc i) h e f =
+    rw (f 0 (omega arith)) (value-found cs n i (le-of-suc-le-suc h) e (λ j l. f (suc j) (omega arith)))
+
+value-none : (cells : List CellValue) (n : ℕ) → ((j : ℕ) → j < length cells → eqb (getD cells j noCell .cell) n ≡ false) → valueIn cells n ≡ 0
+unfolding valueIn
+value-none [] n f = refl
+value-none (c ∷ cs) n f = rw (f 0 (omega arith)) (value-none cs n (λ j l. f (suc j) (omega arith)))
+
+module _ (cells : List CellValue) (yields rates : ℕ → ℕ) (listed : Listed 0 cells)
+    (ys : (t : ℕ) → yields t ≤ rateLimit) (rs : (j : ℕ) → rates j ≤ rateLimit) where
+  abbrev bodies : List (List ℕ)
+  bodies = filedBodies cells yields rates
+
+  abbrev made : List ℕ
+  made = run bodies
+
+  -- where an item stands first, and where it does not stand
+  item-first : (item : Item) (i : ℕ) → i < length cells + 2 → sameItem (recordItem made (offset bodies i)) item ≡ true
+      → ((m : ℕ) → m < i → sameItem (recordItem made (offset bodies m)) item ≡ false) → firstWith made item (length made) ≡ offset bodies i
+  unfolding firstWith
+  item-first item i h e f =
+      let all = filed-length cells yields rates in
+      rw (sym (offset-last bodies))
+      (search-hit bodies (sized cells yields rates) (λ (at : ℕ). sameItem (recordItem made at) item) (length bodies) (omega arith) i (rw all h) e f)
+
+  item-none : (item : Item) → ((m : ℕ) → m < length cells + 2 → sameItem (recordItem made (offset bodies m)) item ≡ false)
+      → firstWith made item (length made) ≡ length made
+  unfolding firstWith
+  item-none item f =
+      let all = filed-length cells yields rates in
+      rw (sym (offset-last bodies))
+      (search-none bodies (sized cells yields rates) (λ (at : ℕ). sameItem (recordItem made at) item) (length bodies) (omega arith) (λ m l. f m (rw all at l)))
+
+  before-end : (i : ℕ) → i < length cells + 2 → offset bodies i < length made
+  before-end i h =
+      let l : i < length bodies = rw (filed-length cells yields rates) h in
+      omega (arith, offset-lt bodies i (length bodies) l (omega arith), offset-last bodies)
+
+  -- both sheets are there
+  yields-there : sheetOffset made 2 ≡ offset bodies (length cells)
+  unfolding sheetOffset sameItem
+  yields-there =
+      item-first (Sheet 2) (length cells) (omega arith) (rw (item-yields cells yields rates listed ys rs)) (λ m l. cell-no-sheet cells yields rates listed ys rs m 2 l)
+
+  rates-there : sheetOffset made flatRatesKind ≡ offset bodies (suc (length cells))
+  unfolding sheetOffset sameItem
+  rates-there =
+      item-first (Sheet 3) (suc (length cells)) (omega arith) (rw (item-rates cells yields rates listed ys rs)) (λ m l. before-rates cells yields rates listed ys rs m 3 l refl)
+
+  pub sheets-there : sheetMissing made ≡ false
+  unfolding sheetMissing
+  sheets-there =
+      rw (
+        yields-there,
+        rates-there,
+        lt-leb (length made) (offset bodies (length cells)) (before-end (length cells) (omega arith)),
+        lt-leb (length made) (offset bodies (suc (length cells))) (before-end (suc (length cells)) (omega arith)),
+      )
+
+  -- a cell says what the list says of it, unless it is a coupon, which counts tenfold
+  abbrev isCell : ℕ → ℕ → Bool
+  isCell n i = eqb (getD cells i noCell .cell) n
+
+  same-cell : (n i : ℕ) → i < length cells → sameItem (recordItem made (offset bodies i)) (Cell n) ≡ isCell n i
+  unfolding sameItem
+  same-cell n i h = rw (item-cell cells yields rates listed ys rs i h)
+
+  sheet-no-cell : (n i : ℕ) → length cells ≤ i → i < length cells + 2 → sameItem (recordItem made (offset bodies i)) (Cell n) ≡ false
+  unfolding sameItem
+  sheet-no-cell n i l h =
+      ⊎-elim (λ e. subst (λ (m : ℕ). sameItem (recordItem made (offset bodies m)) (Cell n) ≡ false) e (rw (item-yields cells yields rates listed ys rs)))
+      (λ m. let e : suc (length cells) ≡ i = omega arith in
+      subst (λ (k : ℕ). sameItem (recordItem made (offset bodies k)) (Cell n) ≡ false) e (rw (item-rates cells yields rates listed ys rs))) (eq-or-lt-of-le l)
+
+  amount-is : (n i : ℕ) → i < length cells → isCell n i ≡ true → eqb (cellClass n) couponClass ≡ false → amountAt made (offset bodies i) ≡ getD cells i noCell .value
+  unfolding amountAt
+  amount-is n i h e other =
+      let r = cell-record cells yields rates listed i h in
+      rw (r .kind-is, r .cell-is, eqb-true (getD cells i noCell .cell) n e, other, r .value-is)
+
+  found : (n i : ℕ) → i < length cells → isCell n i ≡ true → ((j : ℕ) → j < i → isCell n j ≡ false) → eqb (cellClass n) couponClass ≡ false
+      → cellValue made n ≡ valueIn cells n
+  unfolding cellValue cellOffset
+  found n i h e f other =
+      let at = item-first (Cell n) i (omega arith) (same-cell n i h ∙ e) (λ m l. same-cell n m (omega arith) ∙ f m l) in
+      rw (at, lt-ltb (offset bodies i) (length made) (before-end i (omega arith)), amount-is n i h e other) (sym (value-found cells n i h e f))
+
+  absent : (n : ℕ) → ((j : ℕ) → j < length cells → isCell n j ≡ false) → cellValue made n ≡ valueIn cells n
+  unfolding cellValue cellOffset
+  absent n f =
+      let at = item-none (Cell n) (λ m l. ⊎-elim (λ h. same-cell n m h ∙ f m h) (λ h. sheet-no-cell n m h l) (lt-or-le m (length cells))) in
+      rw (at, le-ltb (length made) (length made) (omega arith)) (sym (value-none cells n f))
+
+  cell-said : (n : ℕ) → eqb (cellClass n) couponClass ≡ false → cellValue made n ≡ valueIn cells n
+  cell-said n other =
+      let i : ℕ = firstFrom 0 (length cells) (isCell n) in
+      ⊎-elim (λ h. found n i h (least-passes (isCell n) 0 (length cells) (omega arith)) (λ j l. least-fails (isCell n) 0 (length cells) j (omega arith) l) other)
+      (λ h. absent n (λ j l. least-fails (isCell n) 0 (length cells) j (omega arith) (omega arith))) (lt-or-le i (length cells))
+
+  abbrev pub saidCells : List ℕ
+  saidCells = tableFrom 601 61 (cellValue made)
+
+  pub said : (n class : ℕ) → CellOf n class → eqb class couponClass ≡ false → cellIn saidCells n ≡ valueIn cells n
+  unfolding cellIn
+  said n class c other =
+      let place : 601 + (n - 601) ≡ n = omega (arith, c .from-601) in
+      rw (le-leb 601 n (c .from-601), le-leb n 661 (c .to-661), tableFrom-getD 601 61 (cellValue made) (n - 601) 0 (omega (arith, c .to-661, c .from-601)), place)
+      (cell-said n (rw (c .in-class) other))

@@ -1,0 +1,56 @@
+-- The cells that sums of positions fill (02:CR 5), by ascending number: balance, WAC and WARM of each position that does not sum to 0, and the total.
+-- Definitions only.
+use Prim.Native.Nat.{ℕ, _-_}
+use mathlib.Core.Bool.{Bool, cond, not, _||_}
+use mathlib.Core.List.{List, map, _++_}
+use lib.ListN.{length, replicate}
+use lib.Dec.{eqb}
+use Rattle.lists.specs.Sums.{sum}
+use Rattle.lists.specs.Tables.{tableFrom, those}
+use Rattle.schedule.specs.Cells.{positionAt, totalCell}
+use Rattle.schedule.specs.Limits.{cellClass}
+use Rattle.filled_cells.specs.declared.Totals.{Totals}
+use Rattle.filled_cells.specs.declared.FormCell.{FormCell}
+use Rattle.filled_cells.specs.declared.CellValue.{CellValue}
+use Rattle.filled_cells.specs.Means.{balanceAt, couponAt, monthsAt}
+use Rattle.lists.specs.Ranges.{within, firstFrom}
+
+-- a cell that certificates can fill: a balance, a WAC, a WARM or the total (classes 1, 2, 3 and 6)
+unfoldable pub isFilled : ℕ → Bool
+isFilled cell = within 1 3 (cellClass cell) || eqb (cellClass cell) 6
+
+-- the place, 0 to 8, of the position that a cell belongs to; 9 for the total
+unfoldable pub positionWith : ℕ → ℕ
+positionWith cell =
+    firstFrom 0 9
+    (λ (i : ℕ). eqb (positionAt i .balance) cell || (eqb (positionAt i .coupon) cell || eqb (positionAt i .months) cell))
+
+-- a cell with its class and the place of its position
+unfoldable pub formCell : ℕ → FormCell
+formCell n = record { cell = n; class = cellClass n; position = positionWith n }
+
+-- the cells that certificates can fill, by ascending number: those of 601 to 645
+unfoldable pub formCells : List FormCell
+formCells = map formCell (those isFilled (tableFrom 601 45 (λ (n : ℕ). n)))
+
+-- a cell is handed back: the total always, another where its position does not sum to 0
+unfoldable pub isPresent : Totals → FormCell → Bool
+isPresent t e = eqb (e .cell) totalCell || not (eqb (balanceAt t (e .position)) 0)
+
+-- what a cell holds, by its class
+unfoldable pub valueOf : Totals → FormCell → ℕ
+valueOf t e =
+    cond (eqb (e .class) 1) (balanceAt t (e .position))
+    (cond (eqb (e .class) 2) (couponAt t (e .position))
+    (cond (eqb (e .class) 3) (monthsAt t (e .position)) (sum (t .balance))))
+
+unfoldable pub cellValue : Totals → FormCell → CellValue
+cellValue t e = record { cell = e .cell; value = valueOf t e }
+
+-- the cells of some sums, by ascending number
+unfoldable pub cellsOf : Totals → List CellValue
+cellsOf t = map (cellValue t) (those (isPresent t) formCells)
+
+-- a list of cells in 28 places, which is as many as there can be: past its end 0
+unfoldable pub inPlaces : List CellValue → List CellValue
+inPlaces l = l ++ replicate (28 - length l) (record { cell = 0; value = 0 })

@@ -1,0 +1,25 @@
+-- The size of some sums, the answer with their cells, and the table of cells. Definitions only.
+use Prim.Native.Nat.{ℕ, _*_, _≤_}
+use mathlib.Core.Path.{_≡_}
+use lib.ListN.{length, getD}
+use Rattle.filled_cells.specs.declared.Totals.{Totals}
+use Rattle.filled_cells.specs.declared.Cells.{Cells}
+use Rattle.filled_cells.specs.declared.FormCell.{FormCell}
+use Rattle.filled_cells.specs.Cells.{formCells, cellsOf, inPlaces}
+use Rattle.schedule.specs.Limits.{balanceLimit, filedCouponLimit, monthsLimit}
+use Rattle.answers.specs.declared.Answer.the-variants.{Accepted}
+
+-- nine sums of balances, each within the limit of a balance, and each weighted sum within so many times it
+pub record Bounded (t : Totals) : Type 0 where
+  pub nine : length (t .balance) ≡ 9
+  pub balance-le : (i : ℕ) → getD (t .balance) i 0 ≤ balanceLimit
+  pub coupon-le : (i : ℕ) → getD (t .coupon) i 0 ≤ filedCouponLimit * getD (t .balance) i 0
+  pub months-le : (i : ℕ) → getD (t .months) i 0 ≤ monthsLimit * getD (t .balance) i 0
+
+-- acceptance, with the cells of some sums
+unfoldable pub listedCells : Totals → Cells
+listedCells t = record { answer = Accepted; count = length (cellsOf t); cells = inPlaces (cellsOf t) }
+
+-- the cell at a place of the table
+unfoldable pub formCellAt : ℕ → FormCell
+formCellAt place = getD formCells place (record { cell = 0; class = 0; position = 0 })
