@@ -1,6 +1,7 @@
 // One month of the run.
 use crate::PAR;
 use crate::Run;
+use crate::rounding::billionths;
 use crate::rounding::quotient;
 ghost use mathlib.Core.Path.{_≡_};
 ghost use Prim.Native.Nat.{_+_, _*_, _-_, _≤_};
@@ -65,7 +66,7 @@ fn outflow_of(balance: u64, servicing: u64, survival: u64, up: bool) -> u64
     requires { ⌜ (balance ≤ amountLimit) × (servicing ≤ servicingLimit) × (survival ≤ par) ⌝ }
     ensures { λ r. ⌜ (r ≡ spec.quotient (roundingOf up) (balance * (servicing + par - survival)) par) × (r ≤ figureLimit) ⌝ }
 {
-    quotient(balance * (servicing + PAR - survival), PAR, up)
+    billionths(balance * (servicing + PAR - survival), up)
 }
 
 // A flow times its discount factor.
@@ -73,7 +74,7 @@ fn discounted(flow: u64, factor: u64, up: bool) -> u64
     requires { ⌜ (flow ≤ 2 * figureLimit) × (factor ≤ par) ⌝ }
     ensures { λ r. ⌜ (r ≡ spec.quotient (roundingOf up) (flow * factor) par) × (r ≤ 2 * figureLimit) ⌝ }
 {
-    quotient(flow * factor, PAR, up)
+    billionths(flow * factor, up)
 }
 
 // The value in dollars of a balance in thousands of dollars, at a price in billionths.

@@ -10,18 +10,18 @@ use Rattle.pricing.proofs.RoundingLaws.{quotient-le}
 use Rattle.pricing.proofs.months.discounted.Statement.{statement}
 use Rattle.pricing.proofs.months.discounted.Tie as tie
 
-mul-quotient : tie.Need-mul-quotient
-mul-quotient c = omega (arith, mul-le-mul (c .pre .0) (c .pre .1))
+mul-billionths : tie.Need-mul-billionths
+mul-billionths c = omega (arith, mul-le-mul (c .pre .0) (c .pre .1))
 
-quotient-requires : tie.Need-quotient-requires
-quotient-requires c κs = omega (arith, mul-le-mul (c .pre .0) (c .pre .1))
+billionths-requires : tie.Need-billionths-requires
+billionths-requires c κs = omega (arith, mul-le-mul (c .pre .0) (c .pre .1))
 
 returns : tie.Need-returns
 returns c = (
-  c .quotient .ensures,
-  rw (c .quotient .ensures)
+  c .billionths .ensures,
+  rw (c .billionths .ensures)
       (quotient-le (roundingOf (c .before .args .up)) _ par (2 * figureLimit) (lit< tt) (mul-le-mul (c .before .pre .0) (c .before .pre .1))),
 )
 
 pub discounted-spec : {M : Type 1} → statement M
-discounted-spec = tie.close (tie.spec mul-quotient quotient-requires returns)
+discounted-spec = tie.close (tie.spec mul-billionths billionths-requires returns)

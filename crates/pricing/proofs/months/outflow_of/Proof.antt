@@ -17,24 +17,24 @@ product-le c =
     let h : c .args .servicing + par - c .args .survival ≤ servicingLimit + par = omega arith in
     mul-le-mul (c .pre .0) h
 
-add-quotient : tie.Need-add-quotient
-add-quotient c = search needs
+add-billionths : tie.Need-add-billionths
+add-billionths c = search needs
 
-sub-quotient : tie.Need-sub-quotient
-sub-quotient c = search needs
+sub-billionths : tie.Need-sub-billionths
+sub-billionths c = search needs
 
-mul-quotient : tie.Need-mul-quotient
-mul-quotient c = omega (arith, product-le c)
+mul-billionths : tie.Need-mul-billionths
+mul-billionths c = omega (arith, product-le c)
 
-quotient-requires : tie.Need-quotient-requires
-quotient-requires c κs = omega (arith, product-le c)
+billionths-requires : tie.Need-billionths-requires
+billionths-requires c κs = omega (arith, product-le c)
 
 returns : tie.Need-returns
 returns c = (
-  c .quotient .ensures,
-  rw (c .quotient .ensures)
+  c .billionths .ensures,
+  rw (c .billionths .ensures)
       (quotient-le (roundingOf (c .before .args .up)) _ par figureLimit (lit< tt) (omega (arith, product-le (c .before)))),
 )
 
 pub outflow-of-spec : {M : Type 1} → statement M
-outflow-of-spec = tie.close (tie.spec add-quotient sub-quotient mul-quotient quotient-requires returns)
+outflow-of-spec = tie.close (tie.spec add-billionths sub-billionths mul-billionths billionths-requires returns)
