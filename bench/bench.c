@@ -1,21 +1,27 @@
 /*
  * The proved library beside the plain C versions. Without arguments: checks that all give the same answers and numbers on every filing used, and
- * prints times. `bench once VERSION FILING` runs one valuation, for counting instructions; VERSION 0 is a, 1 is b, 2 the library.
+ * prints times. `bench once VERSION FILING` runs one valuation, for counting instructions; VERSION 0 is a, 1 b, 2 c, 3 the library.
+ * `bench random COUNT SEED` only compares all versions on random filings.
  */
 #define _POSIX_C_SOURCE 200809L
 #include "filings.h"
 #include "spritapricot.h"
+#include "stack.h"
 #include "versions.h"
-#include <pthread.h>
 #include <stdio.h>
 #include <stdlib.h>
 #include <string.h>
 #include <time.h>
 
-enum { PROVED = PLAIN, VERSIONS, LIST = 570 };
+enum { B = 1, C, PROVED = PLAIN, VERSIONS, LIST = 570 };
 
-static value_function *const version[VERSIONS] = {value_recomputed, value_tabled, spritapricot_value};
-static const char *const version_name[VERSIONS] = {"a recomputed", "b tabled", "proved"};
+static value_function *const version[VERSIONS] = {value_recomputed, value_tabled, value_multiplied, spritapricot_value};
+static const char *const version_name[VERSIONS] = {"a recomputed", "b tabled", "c multiplied", "proved"};
+
+/* The filings that are timed. */
+enum { WORST, WORST_TIERS, WORST_PATH, WORST_FINE, WORST_ALL, TYPICAL, TYPICAL_ALL, FULLEST, ONE_BALANCE, NO_BALANCES, FILINGS };
+static const char *const filing_name[FILINGS] = {
+    "worst", "worst-tiers", "worst-path", "worst-fine", "worst-all", "typical", "typical-all", "fullest", "one-balance", "no-balances"};
 
 /* All versions give the same answer, place and list; the list past the 568 is left. */
 static uint64_t agree(struct input f)
@@ -39,11 +45,10 @@ static uint64_t agree(struct input f)
 /* The library must know every kind of record that the plain versions know. */
 static void same_kinds(void)
 {
-    static const char *const with_kind[] = {"worst-tiers"};
     static uint64_t list[LIST];
     uint64_t place;
-    for (size_t i = 0; i < sizeof with_kind / sizeof with_kind[0]; i++) {
-        struct input f = named(with_kind[i]);
+    for (int i = WORST_TIERS; i <= WORST_FINE; i++) {
+        struct input f = named(filing_name[i]);
         if (spritapricot_value(f.bytes, f.size, list, LIST, &place) == 2) {
             printf("the library does not know a kind of record in the filing %s\n", f.name);
             exit(1);
@@ -73,84 +78,98 @@ static double now(void)
     return 1e9 * (double)t.tv_sec + (double)t.tv_nsec;
 }
 
-/* The least time of one call, in nanoseconds, over interleaved rounds. */
-static void measure(struct input f, int rounds, int calls, double least[VERSIONS])
+static double time_of(int v, struct input f, int calls)
 {
     static uint64_t list[LIST];
     uint64_t place;
-    for (int v = 0; v < VERSIONS; v++) least[v] = 1e30;
+    double start = now();
+    for (int i = 0; i < calls; i++) version[v](f.bytes, f.size, list, LIST, &place);
+    return (now() - start) / calls;
+}
+
+/*
+ * The least time of one call, in nanoseconds, by filing and version: over rounds of few calls, so that some is not interrupted, with all filings and
+ * versions in each, so that all meet the same machine.
+ */
+static void measure(const struct input *f, int filings, int rounds, double least[][VERSIONS])
+{
+    for (int i = 0; i < filings; i++)
+        for (int v = 0; v < VERSIONS; v++) least[i][v] = 1e30;
     for (int r = 0; r < rounds; r++)
-        for (int v = 0; v < VERSIONS; v++) {
-            double start = now();
-            for (int i = 0; i < calls; i++) version[v](f.bytes, f.size, list, LIST, &place);
-            double took = (now() - start) / calls;
-            if (took < least[v]) least[v] = took;
-        }
+        for (int i = 0; i < filings; i++)
+            for (int v = 0; v < VERSIONS; v++) {
+                int calls = r == 0 ? 3 : 1 + (int)(20000 / least[i][v]);
+                double took = time_of(v, f[i], calls);
+                if (took < least[i][v]) least[i][v] = took;
+            }
 }
 
-/* The proved version's time. */
-static double compare(const char *name)
+static void compare(double least[FILINGS][VERSIONS])
 {
-    double least[VERSIONS];
-    struct input f = named(name);
-    if (agree(f) != 0) exit(1);
-    measure(f, 40, 5, least);
-    printf("%-16s", name);
-    for (int v = 0; v < VERSIONS; v++) printf("%14.0f", least[v]);
-    for (int v = 0; v < PLAIN; v++) printf("%12.3f", least[PROVED] / least[v]);
-    printf("\n");
-    free(f.bytes);
-    return least[PROVED];
+    struct input f[FILINGS];
+    for (int i = 0; i < FILINGS; i++) {
+        f[i] = named(filing_name[i]);
+        if (agree(f[i]) != 0) exit(1);
+    }
+    measure(f, FILINGS, 150, least);
+    printf("%-16s", "ns a filing");
+    for (int v = 0; v < VERSIONS; v++) printf("%14s", version_name[v]);
+    printf("%10s%10s%10s%10s\n", "proved/a", "proved/b", "proved/c", "c/b");
+    for (int i = 0; i < FILINGS; i++) {
+        printf("%-16s", f[i].name);
+        for (int v = 0; v < VERSIONS; v++) printf("%14.0f", least[i][v]);
+        for (int v = 0; v < PLAIN; v++) printf("%10.3f", least[i][PROVED] / least[i][v]);
+        printf("%10.3f\n", least[i][C] / least[i][B]);
+        free(f[i].bytes);
+    }
 }
 
-/* A call on a stack of its own, painted before: what it leaves painted was not used. */
-enum { STACK = 1 << 20, PAINT = 0x5a };
-
-static value_function *stack_version;
-
-static void *stack_call(void *list)
+/*
+ * By difference between filings of the same records: with all 36 sub-balances 6,636 month steps, with the one of 120 months 840 of them and the same
+ * factors, without balances only reading, the shares and the list. Version a has no factors apart from its months.
+ */
+static void take_apart(double least[FILINGS][VERSIONS])
 {
-    static struct input f;
-    uint64_t place;
-    if (f.bytes == NULL) f = named("worst");
-    if (stack_version != NULL) stack_version(f.bytes, f.size, list, LIST, &place);
-    return NULL;
-}
-
-static size_t stack_used(value_function *function)
-{
-    static uint64_t list[LIST];
-    void *memory;
-    pthread_attr_t attributes;
-    pthread_t thread;
-    size_t left = 0;
-    if (posix_memalign(&memory, 4096, STACK) != 0) abort();
-    uint8_t *stack = memory;
-    memset(stack, PAINT, STACK);
-    stack_version = function;
-    pthread_attr_init(&attributes);
-    if (pthread_attr_setstack(&attributes, stack, STACK) != 0 || pthread_create(&thread, &attributes, stack_call, list) != 0) abort();
-    pthread_join(thread, NULL);
-    while (left < STACK && stack[left] == PAINT) left++;
-    free(memory);
-    return STACK - left;
+    enum { STEPS = 6636, STEPS_OF_ONE = 840, FACTOR_STEPS = 101640 };
+    printf("\n%-16s%14s%14s%14s%14s%12s%12s%12s\n", "ns apart", "reading", "all factors", "a factor step", "month: worst", "-tiers", "-path", "-all");
+    for (int v = B; v < VERSIONS; v++) {
+        double step = (least[WORST][v] - least[ONE_BALANCE][v]) / (STEPS - STEPS_OF_ONE);
+        double factors = least[ONE_BALANCE][v] - least[NO_BALANCES][v] - STEPS_OF_ONE * step, rest = factors + least[NO_BALANCES][v];
+        printf("%-16s%14.0f%14.0f%14.3f%14.2f%12.2f%12.2f%12.2f\n", version_name[v], least[NO_BALANCES][v], factors, factors / FACTOR_STEPS, step,
+            (least[WORST_TIERS][v] - rest) / STEPS, (least[WORST_PATH][v] - rest) / STEPS, (least[WORST_ALL][v] - rest) / STEPS);
+    }
+    printf("proved, of the worst filing: reading with shares %.3f\n", least[NO_BALANCES][PROVED] / least[WORST][PROVED]);
 }
 
 static void stacks(void)
 {
-    stack_used(NULL);
-    size_t thread = stack_used(NULL);
-    printf("stack of one call, bytes:");
-    for (int v = 0; v < VERSIONS; v++) printf(" %s %zu%s", version_name[v], stack_used(version[v]) - thread, v < PROVED ? "," : "\n");
+    struct input f = named("worst-all");
+    printf("\nstack of one call, bytes:");
+    for (int v = 0; v < VERSIONS; v++) printf(" %s %zu%s", version_name[v], stack_of(version[v], f), v < PROVED ? "," : "\n");
+    free(f.bytes);
 }
 
 static void hostile_times(struct input f, size_t read)
 {
-    double least[VERSIONS];
+    double least[1][VERSIONS];
     uint64_t answer = agree(f);
-    measure(f, 40, 50, least);
-    printf("%-34s%10zu%6llu%8zu%10.0f%10.0f%10.2f\n", f.name, f.size, (unsigned long long)answer, read, least[1], least[PROVED],
-        least[PROVED] / (double)read);
+    measure(&f, 1, 40, least);
+    printf("%-34s%10zu%6llu%8zu%10.0f%10.0f%10.2f\n", f.name, f.size, (unsigned long long)answer, read, least[0][B], least[0][PROVED],
+        least[0][PROVED] / (double)read);
+    free(f.bytes);
+}
+
+static void refused_inputs(void)
+{
+    static const size_t size[3] = {2048, 65536, 16777216};
+    struct input f = named("fullest");
+    printf("\n%-34s%10s%6s%8s%10s%10s%10s\n", "refused inputs, ns a call", "bytes", "no.", "read", version_name[B], version_name[PROVED], "ns/byte");
+    for (int i = 0; i < 3; i++) {
+        hostile_times(hostile("early: zero length", size[i], 0, 0), 2);
+        hostile_times(hostile("early: unknown kind", size[i], 0, 3), 4);
+        hostile_times(hostile("late: fullest filing, then zeros", size[i], 1, 0), f.size + 2);
+        hostile_times(hostile("late: fullest filing, then 0xff", size[i], 1, 255), f.size + 2);
+    }
     free(f.bytes);
 }
 
@@ -160,33 +179,26 @@ static void once(int which, const char *name)
     uint64_t place;
     struct input f = named(name);
     version[which](f.bytes, f.size, list, LIST, &place);
+    free(f.bytes);
 }
 
 int main(int argc, char **argv)
 {
-    static const size_t size[3] = {1024, 65536, 16777216};
+    double least[FILINGS][VERSIONS];
     if (argc == 4 && strcmp(argv[1], "once") == 0) {
         once(atoi(argv[2]), argv[3]);
         return 0;
     }
     same_kinds();
-    compare_random(4000);
-    printf("%-16s%14s%14s%14s%12s%12s\n", "ns a filing", version_name[0], version_name[1], version_name[2], "proved/a", "proved/b");
-    double whole = compare("worst");
-    compare("worst-tiers");
-    compare("typical");
-    compare("typical-tiers");
-    compare("fullest");
-    double reading = compare("no-balances");
-    printf("reading and shares, with the list written: at most %.3f of the worst filing's time\n", reading / whole);
-    stacks();
-    size_t longest = named("fullest").size;
-    printf("\n%-34s%10s%6s%8s%10s%10s%10s\n", "refused inputs, ns a call", "bytes", "no.", "read", "b tabled", "proved", "ns/byte");
-    for (int i = 0; i < 3; i++) {
-        hostile_times(hostile("early: zero length", size[i], 0, 0), 2);
-        hostile_times(hostile("early: unknown kind", size[i], 0, 3), 4);
-        hostile_times(hostile("late: fullest filing, then zeros", size[i], 1, 0), longest + 2);
-        hostile_times(hostile("late: fullest filing, then 0xff", size[i], 1, 255), longest + 2);
+    if (argc == 4 && strcmp(argv[1], "random") == 0) {
+        start_random(strtoull(argv[3], NULL, 10));
+        compare_random(atoi(argv[2]));
+        return 0;
     }
+    compare_random(4000);
+    compare(least);
+    take_apart(least);
+    stacks();
+    refused_inputs();
     return 0;
 }

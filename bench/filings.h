@@ -17,15 +17,18 @@ struct input {
  *   typical      six cells, terms of 2 to 52 months
  *   fullest      every listed cell with the longest records, shortest terms: no accepted filing is longer
  *   no-balances  the records of the worst filing with every balance 0: read and split, and no month priced
+ *   one-balance  the same with one sub-balance of 120 months, retail without penalty
  *   refused      the fullest filing, then a cell a second time
- * The first two may end in -tiers: with sixteen tiers of its own, of which a retail month reaches only the lowest.
+ * The first two may go on with -tiers: sixteen tiers of its own, of which a retail month reaches only the lowest; -path: retail rates by month,
+ * in the worst filing up and down from month to month; -fine: coupons in thousandths. -all is all three.
  */
 struct input named(const char *name);
 
 /* A long input: the records of the fullest filing or none, and then bytes `fill` that no rule allows, up to `size`. */
 struct input hostile(const char *name, size_t size, int late, int fill);
 
-/* A random filing, records in any order, three in five accepted. */
+/* A random filing, records in any order, some with a fault and some damaged, more than half of them accepted; and where the sequence starts. */
 struct input any(void);
+void start_random(uint64_t seed);
 
 #endif

@@ -38,11 +38,11 @@ static int tier(const struct tiers *tiers, int64_t gain, int64_t cost)
     return i;
 }
 
-/* Of coupon c, penalty p and retail rate r, n months before the term ends. */
+/* Of coupon c (thousandths), penalty p and retail rate r (hundredths), n months before the term ends. */
 static uint64_t survival(const struct tiers *tiers, int brokered, int64_t c, int64_t p, int64_t r, int64_t n)
 {
     if (n == 0) return PAR;
-    int64_t gain = (12000000 - c * p) * r * n - 120000 * c * p;
+    int64_t gain = (120000000 - c * p) * r * n - 120000 * c * p;
     int64_t cost = 12000000 * c * n;
     if (brokered) return gain > cost ? 0 : PAR;
     return tiers->survival[tier(tiers, gain, cost)];
@@ -73,8 +73,8 @@ uint64_t VALUE(const uint8_t *filing, size_t filing_length, uint64_t *numbers, s
         numbers[15 * i] = d.balance;
         for (int s = 0; s < 7; s++) {
             struct pair b = {PAR, PAR}, price = {0, 0};
-            uint64_t r = shifted(k.rate[d.column], s);
             for (int t = 1; d.balance != 0 && t <= d.months; t++) {
+                uint64_t r = shifted(k.rate[d.column][t - 1], s);
                 uint64_t q = survival(&k.tiers, brokered, (int64_t)d.coupon, (int64_t)d.penalty, (int64_t)r, d.months - t);
 #ifdef RECOMPUTE
                 struct pair df = discount(shifted(k.yield[t - 1], s), t);
@@ -82,8 +82,8 @@ uint64_t VALUE(const uint8_t *filing, size_t filing_length, uint64_t *numbers, s
                 struct pair df = factor[s][t - 1];
 #endif
                 struct pair flow = {b.lower * (a + PAR - q) / PAR, ceiling(b.upper * (a + PAR - q), PAR)};
-                b.lower = b.lower * (25000 * d.coupon + 3 * q) / (3 * PAR);
-                b.upper = ceiling(b.upper * (25000 * d.coupon + 3 * q), 3 * PAR);
+                b.lower = b.lower * (2500 * d.coupon + 3 * q) / (3 * PAR);
+                b.upper = ceiling(b.upper * (2500 * d.coupon + 3 * q), 3 * PAR);
                 if (t == d.months) {
                     flow.lower += b.lower;
                     flow.upper += b.upper;

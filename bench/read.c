@@ -26,7 +26,7 @@ static const uint64_t limit[61] = {
 
 /* What has been read: cells by number less 601, sheets and tiers by kind. */
 struct seen {
-    uint8_t cell[61], kind[5];
+    uint8_t cell[61], kind[6];
 };
 
 static uint64_t number(const uint8_t *p, int width)
@@ -38,29 +38,43 @@ static uint64_t number(const uint8_t *p, int width)
 
 static uint64_t cell(const struct contents *k, int n) { return k->cell[n - 601]; }
 
-/* Kind 1. */
-static int read_cell(const uint8_t *body, size_t length, struct contents *k, struct seen *seen)
+/* Kind 1, or kind 6 where `fine`: coupons alone, in thousandths. */
+static int read_cell(const uint8_t *body, size_t length, int fine, struct contents *k, struct seen *seen)
 {
     if (length != 12) return 2;
     uint64_t n = number(body, 2), v = number(body + 2, 8);
     if (n < 601 || n > 661 || limit[n - 601] == 0) return 3;
+    int coupon = limit[n - 601] == 1500;
+    if (fine && !coupon) return 3;
     if (seen->cell[n - 601]) return 4;
-    if (v > limit[n - 601]) return 5;
+    if (v > (fine ? 15000 : limit[n - 601])) return 5;
     seen->cell[n - 601] = 1;
-    k->cell[n - 601] = v;
+    k->cell[n - 601] = coupon && !fine ? 10 * v : v;
     return 0;
 }
 
-/* Kinds 2 and 3: `count` numbers. */
-static int read_sheet(const uint8_t *body, size_t length, int count, uint8_t *seen, uint64_t *to)
+/* Kinds 2, 3 and 5: `count` numbers. `instead` is whether a sheet has been read that leaves no room for this one. */
+static int read_sheet(const uint8_t *body, size_t length, int count, uint8_t *seen, int instead, uint64_t *to)
 {
     if (length != 2 + 2 * (size_t)count) return 2;
     if (*seen) return 4;
+    if (instead) return 12;
     for (int i = 0; i < count; i++) {
         to[i] = number(body + 2 * i, 2);
         if (to[i] > 2500) return 5;
     }
     *seen = 1;
+    return 0;
+}
+
+/* Kind 3: a flat path for each column. */
+static int read_flat_rates(const uint8_t *body, size_t length, struct seen *seen, struct contents *k)
+{
+    uint64_t rate[3];
+    int fault = read_sheet(body, length, 3, &seen->kind[3], seen->kind[5], rate);
+    if (fault != 0) return fault;
+    for (int j = 0; j < 3; j++)
+        for (int t = 0; t < 120; t++) k->rate[j][t] = rate[j];
     return 0;
 }
 
@@ -84,7 +98,7 @@ static int read_tiers(const uint8_t *body, size_t length, uint8_t *seen, struct 
     return 0;
 }
 
-/* Reads the records: 1 to 6, and 11. */
+/* Reads the records: 1 to 6, 11 and 12. */
 static int read_records(const uint8_t *s, size_t size, struct contents *k, uint64_t *place)
 {
     struct seen seen = {{0}, {0}};
@@ -99,16 +113,19 @@ static int read_records(const uint8_t *s, size_t size, struct contents *k, uint6
         const uint8_t *body = s + at + 4;
         int fault = 2;
         switch (number(s + at + 2, 2)) {
-        case 1: fault = read_cell(body, length, k, &seen); break;
-        case 2: fault = read_sheet(body, length, 120, &seen.kind[2], k->yield); break;
-        case 3: fault = read_sheet(body, length, 3, &seen.kind[3], k->rate); break;
+        case 1: fault = read_cell(body, length, 0, k, &seen); break;
+        case 2: fault = read_sheet(body, length, 120, &seen.kind[2], 0, k->yield); break;
+        case 3: fault = read_flat_rates(body, length, &seen, k); break;
         case 4: fault = read_tiers(body, length, &seen.kind[4], &k->tiers); break;
+        case 5: fault = read_sheet(body, length, 360, &seen.kind[5], seen.kind[3], k->rate[0]); break;
+        case 6: fault = read_cell(body, length, 1, k, &seen); break;
         }
         if (fault != 0) return fault;
         at += 2 + length;
     }
     *place = size;
-    return seen.kind[2] && seen.kind[3] ? 0 : 6;
+    k->flat = seen.kind[3];
+    return seen.kind[2] && (seen.kind[3] || seen.kind[5]) ? 0 : 6;
 }
 
 /* The conditions on the contents: 7 to 9. */

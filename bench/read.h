@@ -15,15 +15,19 @@ struct tiers {
     uint64_t survival[17];
 };
 
-/* Cells 601 to 661 as filed, 0 where absent; yields and rates in hundredths of a percent a year. */
+/*
+ * Cells 601 to 661 as filed, 0 where absent, coupons in thousandths of a percent a year; yields by month and retail rates by column and month, in
+ * hundredths of a percent a year; whether each column has one rate for all months (kind 3).
+ */
 struct contents {
     uint64_t cell[61];
     uint64_t yield[120];
-    uint64_t rate[3];
+    uint64_t rate[3][120];
+    int flat;
     struct tiers tiers;
 };
 
-/* One of the thirty-six sub-balances; its column is 0 to 2, its penalty 0 where it is not subject to one. */
+/* One of the thirty-six sub-balances; its coupon in thousandths, its column 0 to 2, its penalty 0 where it is not subject to one. */
 struct place {
     uint64_t balance, coupon, penalty;
     int months, column;

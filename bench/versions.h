@@ -1,4 +1,4 @@
-/* The plain C versions: a recomputes discount factors, b keeps them in a table (plain.c). */
+/* The plain C versions: a recomputes discount factors, b keeps them in a table (plain.c), c multiplies by reciprocals (fast.c). */
 #ifndef VERSIONS_H
 #define VERSIONS_H
 
@@ -7,9 +7,9 @@
 
 typedef uint64_t value_function(const uint8_t *, size_t, uint64_t *, size_t, uint64_t *);
 
-value_function value_recomputed, value_tabled;
+value_function value_recomputed, value_tabled, value_multiplied;
 
-enum { PLAIN = 2 };
-static value_function *const plain_version[PLAIN] = {value_recomputed, value_tabled};
+enum { PLAIN = 3 };
+static value_function *const plain_version[PLAIN] = {value_recomputed, value_tabled, value_multiplied};
 
 #endif

@@ -1,14 +1,17 @@
 """What the calls do with the lists lent, and the listing's text. Each entry has a name."""
 from accepted import paper_figures
-from records import LISTING, RISING, cell, cells, deposits, filing, flat, middle_month, record, shared, tiers, yields
+from monthly_rates import DOWN, NO_PATH, SAW, UP
+from records import LISTING, RISING, SHEETS, cell, cells, deposits, filing, fine_cells, flat, middle_month, path_filing, rates, record, shared, tiers, yields
 from refused import refusal_table
 
 # The numbers of the calls. UNKNOWN is of none.
 VALUE_AND_SPLIT = 0
 LISTING_TEXT = 1
+SEARCH = 2
 UNKNOWN = 4_294_967_295
 
-WHOLE = filing(shared(deposits(7_777, 525, middle_month), 35, 45, 300), RISING, (400, 500, 600))
+VALUES = shared(deposits(7_777, 525, middle_month), 35, 45, 300)
+WHOLE = filing(VALUES, RISING, (400, 500, 600))
 
 
 def lists_of_numbers():
@@ -33,6 +36,8 @@ def both_lists():
 def listed():
     yield "all positions, all four kinds", WHOLE
     yield "the same with own tiers", WHOLE + tiers((0, 0), (90, 300), (110, 600))
+    yield "coupons in thousandths", fine_cells(VALUES) + yields(RISING) + rates((400, 500, 600))
+    yield "a path of retail rates", path_filing(VALUES, RISING, UP, DOWN, SAW)
     yield "sheets alone", filing({})
     yield from paper_figures()
 
@@ -42,12 +47,13 @@ def not_listed():
         if not lists:
             yield name, data
     yield "no rates", cells(LISTING) + yields(flat(0))
+    yield "12: rates and a path", SHEETS + NO_PATH
 
 
 def long_inputs():
     """A last record of an unknown kind that fills the input: it ends where the input of 65,536 bytes does."""
     start = filing(LISTING)
-    whole = start + record(9, bytes(65_536 - len(start) - 4))
+    whole = start + record(11, bytes(65_536 - len(start) - 4))
     assert len(whole) == 65_536
     yield "65,536 bytes", whole
     yield "65,537 bytes", whole + b"\x00"

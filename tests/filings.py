@@ -11,8 +11,11 @@ sys.dont_write_bytecode = True
 
 import accepted
 import calls
+import fine_coupons
+import monthly_rates
 import own_tiers
 import refused
+import searches
 
 CRATES = Path(__file__).resolve().parent.parent / "crates"
 
@@ -22,14 +25,22 @@ MOST_NUMBERS = 600
 MOST_PLACES = 40
 
 
+FILINGS = (
+    accepted.FAMILIES + refused.FAMILIES + own_tiers.FAMILIES + monthly_rates.FAMILIES + fine_coupons.FAMILIES + calls.FAMILIES
+)
+
+
 def entries():
     """Each entry's name and its bytes."""
-    for family in accepted.FAMILIES + refused.FAMILIES + own_tiers.FAMILIES + calls.FAMILIES:
+    for family in FILINGS:
         for name, data, *lists in family():
             yield name, entry(calls.VALUE_AND_SPLIT, data, *lists)
     for family in calls.LISTINGS:
         for name, data in family():
             yield f"listing: {name}", entry(calls.LISTING_TEXT, data)
+    for family in searches.FAMILIES:
+        for name, data in family():
+            yield name, entry(calls.SEARCH, data)
     yield "a call that is unknown", entry(calls.UNKNOWN, b"")
 
 
@@ -49,7 +60,8 @@ def write_corpus():
         (CRATES / program / "stdin").write_bytes(corpus)
 
 
-if sys.argv[1:] == ["names"]:
-    print_names()
-else:
-    write_corpus()
+if __name__ == "__main__":
+    if sys.argv[1:] == ["names"]:
+        print_names()
+    else:
+        write_corpus()

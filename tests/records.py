@@ -48,8 +48,19 @@ def cell(number, value):
     return record(1, struct.pack("<HQ", number, value))
 
 
+def fine(number, value):
+    """A coupon in thousandths of a percent."""
+    return record(6, struct.pack("<HQ", number, value))
+
+
 def cells(values):
     return b"".join(cell(number, value) for number, value in values.items())
+
+
+def fine_cells(values):
+    """The cells with the coupons, which are thousandths here, in records of kind 6."""
+    coupons = {place.coupon for place in POSITIONS}
+    return b"".join((fine if number in coupons else cell)(number, value) for number, value in values.items())
 
 
 def yields(values):
@@ -58,6 +69,11 @@ def yields(values):
 
 def rates(values):
     return record(3, struct.pack("<3H", *values))
+
+
+def path(first, second, third):
+    """Retail rates by month, 120 of each column."""
+    return record(5, struct.pack("<360H", *first, *second, *third))
 
 
 def tiers(*pairs):
@@ -79,6 +95,11 @@ SHEETS = yields(flat(0)) + rates((0, 0, 0))
 
 def filing(values, curve=flat(0), retail=(0, 0, 0)):
     return cells(values) + yields(curve) + rates(retail)
+
+
+def path_filing(values, curve, *columns):
+    """The same with retail rates by month."""
+    return cells(values) + yields(curve) + path(*columns)
 
 
 def totalled(values):

@@ -44,7 +44,7 @@ def lengths():
 
 
 def kinds():
-    for kind in (0, 5, 10, 256, 257, 513, 65_535):
+    for kind in (0, 11, 12, 256, 257, 513, 65_535):
         yield f"kind {kind} without a body", record(kind, b"")
         yield f"kind {kind} with the body of a cell", cell(601, 0) + record(kind, struct.pack("<HQ", 602, 0))
 
@@ -106,7 +106,7 @@ def totals_differ():
 
 
 def two_faults_in_one_record():
-    yield "an unknown kind cut short", struct.pack("<HH", 12, 9)
+    yield "an unknown kind cut short", struct.pack("<HH", 12, 11)
     yield "an unlisted cell of length 13", record(1, struct.pack("<HQB", 600, 0, 0))
     yield "an unlisted cell over every limit", cell(600, LARGEST)
     yield "an unlisted cell twice", cell(604, 0) + cell(600, 0) + cell(600, 0)
@@ -116,7 +116,7 @@ def two_faults_in_one_record():
 
 
 def two_faulty_records():
-    faults = {1: bytes([0x01, 0x00]), 2: record(9, b""), 3: cell(600, 0), 4: cell(601, 1), 5: cell(605, 1_501), 11: tiers((1, 40))}
+    faults = {1: bytes([0x01, 0x00]), 2: record(11, b""), 3: cell(600, 0), 4: cell(601, 1), 5: cell(605, 1_501), 11: tiers((1, 40))}
     for first, one in faults.items():
         for second, other in faults.items():
             if first != second:

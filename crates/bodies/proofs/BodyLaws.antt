@@ -1,16 +1,16 @@
 -- What holds of a body that is not refused: a cell's value and a sheet's numbers are within their limits, and tiers load.
 -- Assumes nothing.
-use Prim.Native.Nat.{ℕ, _≤_, _<_}
+use Prim.Native.Nat.{ℕ, suc, _-_, _≤_, _<_}
 use native.Mathlib.Omega.{arith}
 use mathlib.Core.Path.{_≡_, refl, sym, ap}
 use mathlib.Core.Bool.{Bool, true, false, cond, not, _||_, true≢false}
 use mathlib.Core.List.{List}
-use borrow.Author.Tests.{ltb-false, eqb-true, eqb-false, eq-eqb, ne-eqb}
-use lib.Dec.{ltb, eqb}
+use borrow.Author.Tests.{ltb-false, eqb-true, eqb-false, eq-eqb, ne-eqb, leb-false}
+use lib.Dec.{ltb, eqb, leb}
 use Rattle.lists.specs.Tables.{anyBelow}
 use Rattle.lists.proofs.TestLaws.{any-fails}
 use Rattle.schedule.specs.Limits.{cellClass, classLimit, tierLimit, withdrawalLimit}
-use Rattle.records.specs.Records.{recordKind, recordCell, recordValue, amendmentNumber, amendmentState, amendmentValue, sheetNumber, tierCount, tierWithdrawal}
+use Rattle.records.specs.Records.{recordKind, recordCell, recordValue, amendmentNumber, amendmentState, amendmentValue, sheetNumber, tierCount, tierWithdrawal, tierEdge}
 use Rattle.records.specs.Kinds.{cellKind, fineCouponKind, givesCell, amendmentKind, sheetOf, sheetKinds, sheetKind, tiersKind}
 use Rattle.bodies.specs.Bodies.{valueLimit, unfitAmendment, numberOver, overLimit, unfitTier, unsoundTiers}
 use Rattle.bodies.proofs.SheetLaws.{none-over}
@@ -30,6 +30,16 @@ pub record SoundTiers (s : List ℕ) (at : ℕ) : Type 0 where
 pub tier-fits : (s : List ℕ) (at i : ℕ) → unfitTier s at i ≡ false → tierWithdrawal s at i ≤ withdrawalLimit
 unfolding unfitTier
 tier-fits s at i h = ltb-false withdrawalLimit (tierWithdrawal s at i) (neither (ltb withdrawalLimit (tierWithdrawal s at i)) _ h .0)
+
+-- the edge of a later tier that fits is above the one before
+pub tier-rises : (s : List ℕ) (at i : ℕ) → unfitTier s at (suc i) ≡ false → tierEdge s at i < tierEdge s at (suc i)
+unfolding unfitTier
+tier-rises s at i h =
+    let before : suc i - 1 ≡ i = omega arith in
+    let later : eqb (suc i) 0 ≡ false = ne-eqb (suc i) 0 (λ e. omega arith) in
+    let rest = rw (before, later) at (neither (ltb withdrawalLimit (tierWithdrawal s at (suc i))) _ h .1) in
+    leb-false (tierEdge s at (suc i)) (tierEdge s at i)
+    (neither (leb (tierEdge s at (suc i)) (tierEdge s at i)) (ltb (tierWithdrawal s at (suc i)) (tierWithdrawal s at i)) rest .0)
 
 -- a kind that gives a cell its value is no sheet
 cell-no-sheet : (kind : ℕ) → givesCell kind ≡ true → sheetKind kind .numbers ≡ 0

@@ -1,14 +1,16 @@
 -- The months of a deposit with discount factors from a list. Assumes nothing.
 use Prim.Native.Nat.{ℕ, suc, _+_, _*_, _-_, _≤_, _<_}
-use mathlib.Core.Path.{_≡_, refl}
+use mathlib.Core.Path.{_≡_, refl, sym}
+use mathlib.Core.Bool.{true, false}
 use mathlib.Core.List.{List}
+use borrow.Author.Tests.{eq-eqb, ne-eqb}
 use lib.Dec.{eqb}
 use lib.ListN.{getD}
-use native.Mathlib.Nat.{le-refl}
-use native.Mathlib.Numerals.{add-one}
+use native.Mathlib.Nat.{le-refl, ne-of-lt}
 use native.Mathlib.Omega.{arith}
 use Rattle.withdrawal.specs.Tiers.{TierTable}
 use Rattle.withdrawal.specs.MonthSurvival.{accountOf, monthSurvival}
+use Rattle.withdrawal.proofs.MonthSurvivalLaws.{last-month}
 use Rattle.pricing.specs.declared.Run.{Run}
 use Rattle.pricing.specs.Scales.{par, couponGrowth, amountLimit}
 use Rattle.pricing.specs.Terms.{Terms}
@@ -19,7 +21,7 @@ use Rattle.pricing.proofs.LimitLaws.{discounted-limit}
 use Rattle.pricing.proofs.RunLaws.{run-suc, run-small}
 use Rattle.deposits.specs.declared.Deposit.{Deposit}
 use Rattle.deposits.specs.DepositTerms.{servicingCost, termsOf}
-use Rattle.deposits.specs.Inner.Prices.{listed, listedPrice, DepositLimits, AtMostPar}
+use Rattle.deposits.specs.Inner.Prices.{listed, listedPrice, listedPrices, listedRuns, DepositLimits, AtMostPar}
 use Rattle.deposits.proofs.TermsLaws.{terms-of-bounded}
 
 listed-suc : (factors : List ℕ) (scenario t : ℕ) → listed factors scenario (suc t) ≡ getD factors (7 * t + scenario) 0
@@ -30,38 +32,64 @@ listed-le : (factors : List ℕ) (scenario : ℕ) → AtMostPar factors → (t :
 unfolding listed
 listed-le factors scenario h t = h (7 * (t - 1) + scenario)
 
--- the run before any month
-pub run-zero : (ρ : Rounding) (k : Terms) (df : ℕ → ℕ) → record { balance = par; price = 0 } ≡ runBy ρ k df 0
-unfolding runBy balanceBy discountedBy
-run-zero ρ k df = refl
-
 -- the price of a deposit within the limits
-pub listed-price-limit : (ρ : Rounding) (tiers : TierTable) (d : Deposit) (rate : ℕ) (factors : List ℕ) (scenario : ℕ) → DepositLimits d
+pub listed-price-limit : (ρ : Rounding) (tiers : TierTable) (d : Deposit) (rate : ℕ → ℕ) (factors : List ℕ) (scenario : ℕ) → DepositLimits d
     → AtMostPar factors → listedPrice ρ tiers d rate factors scenario ≤ amountLimit
 unfolding listedPrice termsOf
 listed-price-limit ρ tiers d rate factors scenario l p =
     discounted-limit (termsOf tiers d rate) (listed factors scenario) (listed-le factors scenario p) (terms-of-bounded tiers d rate (l .coupon-le) (l .months-le))
     (d .months) (le-refl (d .months)) ρ
 
+-- the runs before any month
+pub runs-zero : (tiers : TierTable) (d : Deposit) (rate : ℕ → ℕ) (lower upper : List ℕ) (scenario : ℕ)
+    → record { lower = record { balance = par; price = 0 }; upper = record { balance = par; price = 0 } } ≡ listedRuns tiers d rate lower upper scenario 0
+unfolding listedRuns runBy balanceBy discountedBy
+runs-zero tiers d rate lower upper scenario = refl
+
 -- month t + 1 of a deposit: g is the growth of its coupon, s its servicing cost, q its survival, f its discount factor
-module _ (ρ : Rounding) (tiers : TierTable) (d : Deposit) (rate : ℕ) (factors : List ℕ) (scenario t : ℕ) {g s q f : ℕ} {run : Run}
+module _ (ρ : Rounding) (tiers : TierTable) (d : Deposit) (rate : ℕ → ℕ) (factors : List ℕ) (scenario t : ℕ) {g s q f : ℕ} {run : Run}
     (growth : g ≡ couponGrowth * d .coupon)
     (servicing : s ≡ servicingCost (accountOf (d .brokered)))
-    (survival : q ≡ monthSurvival tiers (accountOf (d .brokered)) (d .coupon) (d .penalty) rate (d .months) (t + 1))
+    (survival : q ≡ monthSurvival tiers (accountOf (d .brokered)) (d .coupon) (d .penalty) (rate (suc t)) (d .months) (suc t))
     (factor : f ≡ getD factors (7 * t + scenario) 0)
     (here : run ≡ runBy ρ (termsOf tiers d rate) (listed factors scenario) t)
   where
     -- the run after it
-    pub month-on : nextRun ρ g s q f (eqb (t + 1) (d .months)) run ≡ runBy ρ (termsOf tiers d rate) (listed factors scenario) (t + 1)
+    next : nextRun ρ g s q f (eqb (suc t) (d .months)) run ≡ runBy ρ (termsOf tiers d rate) (listed factors scenario) (suc t)
     unfolding termsOf
-    month-on =
-        rw (growth, servicing, survival, factor, here, add-one, ← (listed-suc factors scenario t))
+    next =
+        rw (growth, servicing, survival, factor, here, ← (listed-suc factors scenario t))
         (run-suc ρ (termsOf tiers d rate) (listed factors scenario) t)
+
+    pub early-on : suc t < d .months → nextRun ρ g s q f false run ≡ runBy ρ (termsOf tiers d rate) (listed factors scenario) (suc t)
+    early-on h = rw (← (ne-eqb (suc t) (d .months) (ne-of-lt h))) next
+
+    pub last-on : suc t ≡ d .months → nextRun ρ g s q f true run ≡ runBy ρ (termsOf tiers d rate) (listed factors scenario) (suc t)
+    last-on h = rw (← (eq-eqb (suc t) (d .months) h)) next
 
     -- its sizes
     pub month-small : DepositLimits d → AtMostPar factors → t < d .months → Small run g s q f
     unfolding termsOf
     month-small l p h =
-        rw (growth, servicing, survival, factor, here, add-one, ← (listed-suc factors scenario t))
+        rw (growth, servicing, survival, factor, here, ← (listed-suc factors scenario t))
         (run-small ρ (termsOf tiers d rate) (listed factors scenario) (terms-of-bounded tiers d rate (l .coupon-le) (l .months-le))
         (listed-le factors scenario p) t h)
+
+-- a term of no month has no flow
+pub no-price : (tiers : TierTable) (d : Deposit) (rate : ℕ → ℕ) (lower upper : List ℕ) (scenario : ℕ) → d .months ≡ 0
+    → record { lower = 0; upper = 0 } ≡ listedPrices tiers d rate lower upper scenario
+unfolding listedPrices listedPrice discountedBy
+no-price tiers d rate lower upper scenario e = rw e
+
+-- in the last month nothing is withdrawn early
+pub last-survival : (tiers : TierTable) (d : Deposit) (rate : ℕ → ℕ) → 0 < d .months
+    → par ≡ monthSurvival tiers (accountOf (d .brokered)) (d .coupon) (d .penalty) (rate (suc (d .months - 1))) (d .months) (suc (d .months - 1))
+last-survival tiers d rate h =
+    let e : suc (d .months - 1) ≡ d .months = omega arith in
+    rw e (sym (last-month tiers (accountOf (d .brokered)) (d .coupon) (d .penalty) (rate (d .months)) (d .months)))
+
+-- the price is that of the run after the last month
+pub last-price : (ρ : Rounding) (tiers : TierTable) (d : Deposit) (rate : ℕ → ℕ) (factors : List ℕ) (scenario : ℕ) → 0 < d .months
+    → runBy ρ (termsOf tiers d rate) (listed factors scenario) (suc (d .months - 1)) .price ≡ listedPrice ρ tiers d rate factors scenario
+unfolding runBy listedPrice
+last-price ρ tiers d rate factors scenario h = let e : suc (d .months - 1) ≡ d .months = omega arith in rw e

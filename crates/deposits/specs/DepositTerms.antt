@@ -14,14 +14,15 @@ unfoldable pub servicingCost : Account → ℕ
 servicingCost retail = 175000
 servicingCost brokered = 19000
 
--- the terms of a deposit at a shifted retail rate, with the tiers by which retail deposits are withdrawn
-unfoldable pub termsOf : TierTable → Deposit → ℕ → Terms
+-- the terms of a deposit at the shifted retail rates of the months (02:CR 3), with the tiers by which retail deposits are withdrawn: the gain at the end of
+-- month t is at month t's rate
+unfoldable pub termsOf : TierTable → Deposit → (ℕ → ℕ) → Terms
 termsOf tiers d rate =
     record {
       growth = couponGrowth * d .coupon;
       servicing = servicingCost (accountOf (d .brokered));
       months = d .months;
-      survival = monthSurvival tiers (accountOf (d .brokered)) (d .coupon) (d .penalty) rate (d .months);
+      survival = λ (t : ℕ). monthSurvival tiers (accountOf (d .brokered)) (d .coupon) (d .penalty) (rate t) (d .months) t;
     }
 
 -- the shifted yield of a month, from 1 on, by a sheet of yields, hundredths of a percent a year

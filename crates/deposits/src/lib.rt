@@ -3,12 +3,23 @@ pub mod factors;
 mod prices;
 pub mod values;
 
-// A deposit as its cash flows see it: coupon in hundredths of a percent a year, penalty in hundredths of a month, remaining months.
+use pricing::Run;
+
+// A deposit as its cash flows see it: coupon in thousandths of a percent a year, penalty in hundredths of a month, remaining months.
 pub struct Deposit {
     pub brokered: bool,
     pub coupon: u64,
     pub penalty: u64,
     pub months: u64,
+}
+
+// Retail rates in hundredths of a percent a year: of months 1 to 120 of column 1, then of column 2, then of column 3.
+pub type RatePaths = [u16; 360];
+
+// The lower and the upper run.
+pub struct Runs {
+    pub lower: Run,
+    pub upper: Run,
 }
 
 // A lower and an upper figure.

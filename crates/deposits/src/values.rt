@@ -1,63 +1,64 @@
 // The value of a balance: lower and upper in each scenario.
 use crate::Deposit;
+use crate::RatePaths;
 use crate::factors::FactorTable;
 use crate::prices::price_of;
 use lists::write;
 use pricing::months::value_of;
 use schedule::scenarios::Scenario;
-use schedule::scenarios::shifted_rates;
 use withdrawal::WithdrawalTiers;
 ghost use mathlib.Core.Path.{_≡_};
 ghost use Prim.Native.Nat.{_<_, _≤_};
-ghost use Rattle.schedule.specs.Limits.{balanceLimit, rateLimit};
-ghost use Rattle.schedule.specs.Shift.{scenarioCount, shiftedLimit};
+ghost use Rattle.schedule.specs.Limits.{balanceLimit};
+ghost use Rattle.schedule.specs.Shift.{scenarioCount};
 ghost use Rattle.withdrawal.specs.Inner.TierArrays.{tierTable, Usable};
-ghost use Rattle.deposits.specs.Inner.Prices.{DepositLimits, AtMostPar};
+ghost use Rattle.deposits.specs.Inner.Prices.{shiftedPath, ColumnRates, DepositLimits, AtMostPar};
 ghost use Rattle.deposits.specs.Inner.Values.{valueBounds, listedValues};
 
-// Values in dollars of a balance in thousands of dollars: lower, upper, lower, upper and so on by scenario. The retail rate is in hundredths of a
-// percent a year and not shifted. A zero balance walks no month.
+// Values in dollars of a balance in thousands of dollars: lower, upper, lower, upper and so on by scenario, at the retail rates of a column, 1 to 3, which
+// are not shifted. A zero balance walks no month.
 pub fn values_of(
     balance: u64,
     d: Deposit,
-    rate: u16,
+    rates: &RatePaths,
+    column: usize,
     tiers: WithdrawalTiers,
     lower: &FactorTable,
     upper: &FactorTable,
 ) -> [u64; 14]
-    requires { ⌜ (balance ≤ balanceLimit) × DepositLimits d × (rate ≤ rateLimit) × Usable tiers ⌝ }
+    requires { ⌜ (balance ≤ balanceLimit) × DepositLimits d × ColumnRates (now rates) column × Usable tiers ⌝ }
     requires { ⌜ AtMostPar (now lower) × AtMostPar (now upper) ⌝ }
-    ensures { λ r. ⌜ r ≡ listedValues (tierTable tiers) balance d rate (now (lower .entry)) (now (upper .entry)) ⌝ }
+    ensures { λ r. ⌜ r ≡ listedValues (tierTable tiers) balance d (now (rates .entry)) column (now (lower .entry)) (now (upper .entry)) ⌝ }
 {
     let mut values = [0u64; 14];
     if balance == 0 {
         return values;
     }
-    let rates = shifted_rates(rate);
     let mut scenario: usize = 0;
     while (scenario as u64) < Scenario::COUNT {
-        let two = value_bounds(balance, d, rates[scenario], tiers, lower, upper, scenario);
+        let two = value_bounds(balance, d, rates, column, tiers, lower, upper, scenario);
         write(&mut values, 2 * scenario, &two);
         scenario += 1;
     }
     values
 }
 
-// Lower and upper value in a scenario, at the scenario's retail rate.
+// Lower and upper value in a scenario.
 fn value_bounds(
     balance: u64,
     d: Deposit,
-    rate: u64,
+    rates: &RatePaths,
+    column: usize,
     tiers: WithdrawalTiers,
     lower: &FactorTable,
     upper: &FactorTable,
     scenario: usize,
 ) -> [u64; 2]
-    requires { ⌜ (balance ≤ balanceLimit) × DepositLimits d × (rate ≤ shiftedLimit) × Usable tiers × (scenario < scenarioCount) ⌝ }
+    requires { ⌜ (balance ≤ balanceLimit) × DepositLimits d × ColumnRates (now rates) column × Usable tiers × (scenario < scenarioCount) ⌝ }
     requires { ⌜ AtMostPar (now lower) × AtMostPar (now upper) ⌝ }
-    ensures { λ r. ⌜ r ≡ valueBounds (tierTable tiers) balance d rate (now (lower .entry)) (now (upper .entry)) scenario ⌝ }
+    ensures { λ r. ⌜ r ≡ valueBounds (tierTable tiers) balance d (shiftedPath scenario (now (rates .entry)) column) (now (lower .entry)) (now (upper .entry)) scenario ⌝ }
 {
-    let price = price_of(d, rate, tiers, lower, upper, scenario);
+    let price = price_of(d, rates, column, tiers, lower, upper, scenario);
     [
         value_of(balance, price.lower, false),
         value_of(balance, price.upper, true),

@@ -15,19 +15,19 @@ use Rattle.pricing.specs.Run.{balanceBy, outflowBy, flowBy, discountBy, discoun
 use Rattle.deposits.specs.DepositTerms.{servicingCost, termsOf}
 use Rattle.figures.specs.Starred.{StarredFigures, houseTerms, flat}
 
--- the tier of a retail rate r at coupon 600: the edges above it are not reached, as edge × 600 > 100 × r
-edge-reached : (n : ℕ) → 0 < n → annualWithdrawal houseTiers (gain 600 0 600 n) (cost 600 n) ≡ 130
+-- the tier of a retail rate r at coupon 6,000: the edges above it are not reached, as edge × 6,000 > 1,000 × r
+edge-reached : (n : ℕ) → 0 < n → annualWithdrawal houseTiers (gain 6000 0 600 n) (cost 6000 n) ≡ 130
 unfolding gain cost atMost houseTiers tier reached firstReached annualWithdrawal
 edge-reached n h =
-    let a : ℕ = 100 * (12000000 * (600 * n) + 0) in
-    let k : ℕ = 12000000 * 600 * n in
+    let a : ℕ = 100 * (120000000 * (600 * n) + 0) in
+    let k : ℕ = 12000000 * 6000 * n in
     simp (lt-leb (150 * k) a (omega arith), lt-leb (130 * k) a (omega arith), lt-leb (115 * k) a (omega arith), le-leb (100 * k) a (omega arith))
 
-edge-missed : (n : ℕ) → 0 < n → annualWithdrawal houseTiers (gain 600 0 599 n) (cost 600 n) ≡ 75
+edge-missed : (n : ℕ) → 0 < n → annualWithdrawal houseTiers (gain 6000 0 599 n) (cost 6000 n) ≡ 75
 unfolding gain cost atMost houseTiers tier reached firstReached annualWithdrawal
 edge-missed n h =
-    let a : ℕ = 100 * (12000000 * (599 * n) + 0) in
-    let k : ℕ = 12000000 * 600 * n in
+    let a : ℕ = 100 * (120000000 * (599 * n) + 0) in
+    let k : ℕ = 12000000 * 6000 * n in
     simp (
       lt-leb (150 * k) a (omega arith),
       lt-leb (130 * k) a (omega arith),

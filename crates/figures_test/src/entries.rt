@@ -64,7 +64,8 @@ fn print_input(input: &mut [u8], call: usize, numbers: usize, places: usize) {
     print_call(&input[..n], call, numbers, places);
 }
 
-// Call 0 values the input with a list of `numbers` numbers and splits it into a list of `places` places; call 1 lists it.
+// Call 0 values the input with a list of `numbers` numbers and splits it into a list of `places` places; call 1 lists it; call 2
+// searches a tier.
 fn print_call(input: &[u8], call: usize, numbers: usize, places: usize) {
     match call {
         0 => {
@@ -72,6 +73,7 @@ fn print_call(input: &[u8], call: usize, numbers: usize, places: usize) {
             crate::splitting::print_splitting(input, places);
         }
         1 => crate::listing::print_listing(input),
+        2 => crate::searching::print_search(input),
         _ => {
             text(b"no call");
             next_number(call as u64);

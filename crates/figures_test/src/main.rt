@@ -2,6 +2,8 @@
 // that of its list of places and that of its input, 4 bytes each, little-endian, and the input. The crate `second` prints the same.
 mod entries;
 mod listing;
+mod numbers;
+mod searching;
 mod splitting;
 mod valuing;
 

@@ -22,7 +22,7 @@ use Rattle.conditions.specs.Conditions.{columnBalances}
 use Rattle.filing.specs.Verdict.{sheetMissing, Accepted}
 use Rattle.filing.specs.Valid.{Valid}
 use Rattle.conditions.proofs.SumLaws.{by-column}
-use Rattle.filing.proofs.SoundLaws.{cell-within, balances-within, sheet-limit, tier-count-within, tier-withdrawal-within}
+use Rattle.filing.proofs.SoundLaws.{cell-within, balances-within, sheet-limit, tier-count-within, tier-edges-rise, tier-withdrawal-within}
 use Rattle.filing.proofs.VerdictLaws.{accepted-passed}
 use Rattle.conditions.proofs.CellVerdictLaws.{months-hold, column-holds, total-holds}
 
@@ -85,5 +85,6 @@ module _ (s : List ℕ) (a : Accepted s) where
         yield-limit = yield-within;
         rate-limit = rate-within;
         tier-count-limit = tier-count-within s (passed .none-faulty);
+        edges-rise = tier-edges-rise s (passed .none-faulty);
         withdrawal-limit = tier-withdrawal-within s (passed .none-faulty);
       }

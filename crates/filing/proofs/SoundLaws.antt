@@ -1,14 +1,15 @@
 -- A filing whose records are all sound: each cell is within the limit of its class, so are the numbers of a sheet that is present, and tiers load.
 -- Assumes nothing.
-use Prim.Native.Nat.{ℕ, _+_, _*_, _-_, _≤_, _<_}
+use Prim.Native.Nat.{ℕ, suc, _+_, _*_, _-_, _≤_, _<_}
 use native.Mathlib.Omega.{arith}
 use mathlib.Core.Path.{_≡_, refl, sym, ap, _∙_}
 use mathlib.Core.Bool.{Bool, true, false, cond, not, true≢false}
 use mathlib.Core.List.{List}
-use borrow.Author.Tests.{le-leb, ltb-true, ltb-false, eqb-true, eq-eqb, ne-eqb, not-false}
+use borrow.Author.Tests.{le-leb, ltb-true, ltb-false, eqb-true, eq-eqb, ne-eqb, not-false, lt-ltb}
 use lib.Dec.{ltb, eqb}
 use lib.ListN.{length, getD}
-use Rattle.lists.proofs.TableLaws.{tableFrom-getD, table-le}
+use Rattle.lists.specs.Tables.{table}
+use Rattle.lists.proofs.TableLaws.{tableFrom-getD, table-getD, table-le}
 use Rattle.schedule.specs.Cells.{positionAt}
 use Rattle.schedule.specs.Limits.{couponClass, couponLimit, cellClass, classLimit, heldLimit, tierLimit, withdrawalLimit}
 use Rattle.schedule.proofs.CellLaws.{CellOf, balance-cell}
@@ -23,7 +24,7 @@ use Rattle.records.proofs.ByteLaws.{number-past}
 use Rattle.records.proofs.RecordLaws.{first-fails}
 use Rattle.records.proofs.ItemLaws.{with-passes, record-of-cell, record-of-sheet, record-of-amendment}
 use Rattle.bodies.specs.Bodies.{valueLimit}
-use Rattle.bodies.proofs.BodyLaws.{SoundTiers, FitAmendment, tier-fits}
+use Rattle.bodies.proofs.BodyLaws.{SoundTiers, FitAmendment, tier-fits, tier-rises}
 use Rattle.faults.proofs.FaultLaws.{Sound, record-plain, faultless-sound}
 use Rattle.faults.proofs.RepetitionLaws.{gives-plain}
 use Rattle.scan.proofs.FirstLaws.{first-earlier}
@@ -178,6 +179,30 @@ module _ (s : List ℕ) (none : firstFaulty s ≡ length s) where
       by-presence : (b : Bool) → ltb at (length s) ≡ b → tierCount s at ≤ tierLimit
       by-presence true e = tiers-sound (ltb-true at (length s) e) .few
       by-presence false e = omega (arith, number-past s (at + 2 + 2 * 1) 2 (omega (arith, ltb-false at (length s) e)))
+
+  -- each edge is above the one before
+  pub tier-edges-rise : (i : ℕ) → suc i < contentsOf s .tiers .count → getD (contentsOf s .tiers .edges) i 0 < getD (contentsOf s .tiers .edges) (suc i) 0
+  unfolding contentsOf tiersAt tierNumber
+  tier-edges-rise i h = by-presence (ltb at (length s)) refl
+    where
+      at : ℕ
+      at = sheetOffset s tiersKind
+
+      edge : ℕ → ℕ
+      edge = tierNumber s at (tierCount s at) 2
+
+      by-presence : (b : Bool) → ltb at (length s) ≡ b → getD (table tierLimit edge) i 0 < getD (table tierLimit edge) (suc i) 0
+      by-presence true e =
+          let sound = tiers-sound (ltb-true at (length s) e) in
+          let few = sound .few in
+          rw (
+            table-getD tierLimit edge i 0 (omega arith),
+            table-getD tierLimit edge (suc i) 0 (omega arith),
+            lt-ltb i (tierCount s at) (omega arith),
+            lt-ltb (suc i) (tierCount s at) h,
+          )
+          (tier-rises s at i (sound .fits (suc i) h))
+      by-presence false e = absurd (omega (arith, h, number-past s (at + 2 + 2 * 1) 2 (omega (arith, ltb-false at (length s) e))))
 
   -- each withdrawal is within its limit
   pub tier-withdrawal-within : (i : ℕ) → getD (contentsOf s .tiers .withdrawals) i 0 ≤ withdrawalLimit

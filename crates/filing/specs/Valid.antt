@@ -1,5 +1,5 @@
 -- What holds of the contents of every accepted filing: each limit (01:24; 02:CR 1) and conditions 7 to 9 (01:37-39). Definitions only.
-use Prim.Native.Nat.{ℕ, _≤_, _<_}
+use Prim.Native.Nat.{ℕ, suc, _≤_, _<_}
 use mathlib.Core.Path.{_≡_}
 use lib.Dec.{T}
 use lib.ListN.{getD}
@@ -23,4 +23,5 @@ pub record Valid (k : Contents) : Type 0 where
   pub yield-limit : (t : ℕ) → cdYield k t ≤ rateLimit
   pub rate-limit : (j t : ℕ) → retailRate k j t ≤ rateLimit
   pub tier-count-limit : k .tiers .count ≤ tierLimit
+  pub edges-rise : (i : ℕ) → suc i < k .tiers .count → getD (k .tiers .edges) i 0 < getD (k .tiers .edges) (suc i) 0
   pub withdrawal-limit : (i : ℕ) → getD (k .tiers .withdrawals) i 0 ≤ withdrawalLimit

@@ -1,2 +1,5 @@
 pub mod PlaceTermsLaws
+pub mod FlatLaws
+pub mod FilingTierLaws
+pub mod TierAnswerLaws
 pub mod RowLaws

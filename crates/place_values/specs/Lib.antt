@@ -1,2 +1,3 @@
 pub mod PlaceTerms
+pub mod TierAnswers
 pub mod Inner

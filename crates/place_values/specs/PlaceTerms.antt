@@ -37,9 +37,9 @@ depositAt cells place held =
       months = held .«remaining_months»;
     }
 
--- the shifted retail rate of a place's column, hundredths of a percent a year
-unfoldable pub rateAt : Contents → ℕ → ℕ → ℕ
-rateAt k scenario place = shiftedRate scenario (retailRate k (positionOf place .column))
+-- the shifted retail rate of a place's column in a month (02:CR 3), hundredths of a percent a year
+unfoldable pub rateAt : Contents → ℕ → ℕ → ℕ → ℕ
+rateAt k scenario place month = shiftedRate scenario (retailRate k (positionOf place .column) month)
 
 -- a filing's own tiers (02:CR 1), highest edge first. The first edge, 0, covers every lower ratio too, so the first withdrawal holds also where no edge
 -- is reached

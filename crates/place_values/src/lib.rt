@@ -2,3 +2,4 @@
 pub mod filing_tiers;
 pub mod longest_term;
 pub mod place_row;
+pub mod tier_search;

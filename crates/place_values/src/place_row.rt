@@ -1,6 +1,7 @@
 // The fifteen numbers of a place: its balance, then its lower and upper value in each scenario.
 use conditions::cells::cell_value;
 use deposits::Deposit;
+use deposits::RatePaths;
 use deposits::factors::FactorTable;
 use deposits::values::values_of;
 use lists::write;
@@ -9,30 +10,31 @@ use shares::SubBalance;
 use withdrawal::WithdrawalTiers;
 ghost use mathlib.Core.Path.{_≡_};
 ghost use Prim.Native.Nat.{_≤_, _<_};
-ghost use Rattle.schedule.specs.Limits.{balanceLimit, rateLimit};
+ghost use Rattle.schedule.specs.Limits.{balanceLimit};
 ghost use Rattle.shares.specs.SubBalances.{subBalanceCount};
 ghost use Rattle.withdrawal.specs.Inner.TierArrays.{tierTable, Usable};
+ghost use Rattle.deposits.specs.Inner.Factors.{WithinRates};
 ghost use Rattle.deposits.specs.Inner.Prices.{DepositLimits, AtMostPar};
 ghost use Rattle.place_values.specs.PlaceTerms.{penaltyAt, depositAt};
-ghost use Rattle.place_values.specs.Inner.PlaceRows.{rateIn, rowOf};
+ghost use Rattle.place_values.specs.Inner.PlaceRows.{rowOf};
 
-// The row of what place 0 to 35 holds, with the filing's cells and the retail rates of its three columns.
+// The row of what place 0 to 35 holds, with the filing's cells and retail rates.
 pub fn row_of(
     held: SubBalance,
     place: usize,
     cells: &[u64; 61],
-    rates: &[u16; 3],
+    rates: &RatePaths,
     tiers: WithdrawalTiers,
     lower: &FactorTable,
     upper: &FactorTable,
 ) -> [u64; 15]
     requires { ⌜ (place < subBalanceCount) × (held .balance ≤ balanceLimit) × DepositLimits (depositAt (now cells) place held) ⌝ }
-    requires { ⌜ (rateIn (now rates) place ≤ rateLimit) × Usable tiers × AtMostPar (now lower) × AtMostPar (now upper) ⌝ }
+    requires { ⌜ WithinRates (now rates) × Usable tiers × AtMostPar (now lower) × AtMostPar (now upper) ⌝ }
     ensures { λ r. ⌜ r ≡ rowOf held place (now (cells .entry)) (now (rates .entry)) (tierTable tiers) (now (lower .entry)) (now (upper .entry)) ⌝ }
 {
     let d = deposit_at(cells, place, held);
-    let rate = rate_in(rates, place);
-    let values = values_of(held.balance, d, rate, tiers, lower, upper);
+    let column = position(place / 4).column;
+    let values = values_of(held.balance, d, rates, column, tiers, lower, upper);
     let mut row = [held.balance; 15];
     write(&mut row, 1, &values);
     row
@@ -61,13 +63,4 @@ fn penalty_at(cells: &[u64; 61], place: usize) -> u64
     } else {
         0
     }
-}
-
-// The retail rate of a place's column in hundredths of a percent a year.
-fn rate_in(rates: &[u16; 3], place: usize) -> u16
-    requires { ⌜ place < subBalanceCount ⌝ }
-    ensures { λ r. ⌜ r ≡ rateIn (now (rates .entry)) place ⌝ }
-{
-    let column = position(place / 4).column - 1;
-    rates[column]
 }

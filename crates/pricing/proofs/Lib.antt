@@ -1,4 +1,5 @@
 pub mod RoundingLaws
+pub mod ProductLaws
 pub mod EnclosureLaws
 pub mod MonthLaws
 pub mod AmountLaws

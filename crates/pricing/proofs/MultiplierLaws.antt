@@ -1,9 +1,10 @@
 -- A division by an unchanging number is a multiplication and a division by a power of 2. Assumes nothing.
-use Prim.Native.Nat.{ℕ, suc, _+_, _*_, _/_, _%_, _^_, _≤_, _<_}
-use mathlib.Core.Path.{_≡_, refl, ap, _∙_}
+use Prim.Native.Nat.{ℕ, zero, suc, _+_, _*_, _-_, _/_, _^_, _≤_, _<_}
+use mathlib.Core.Path.{_≡_, refl}
 use mathlib.Core.List.{List}
+use lib.Dec.{lit<}
 use lib.ListN.{getD, replicate}
-use native.Mathlib.Nat.{le-antisymm, mul-le-mul, mul-le-mul-right, lt-of-mul-lt-mul-right, le-of-suc-le-suc, div-add-mod'}
+use native.Mathlib.Nat.{le-antisymm, mul-assoc, mul-le-mul, mul-le-mul-left, mul-le-mul-right, mul-lt-mul-of-pos-left, mul-lt-mul-of-pos-right, lt-of-mul-lt-mul-right, le-of-suc-le-suc, div-mul-le-self, lt-div-mul-add, mul-div-mul-left}
 use native.Mathlib.Omega.{arith}
 use Rattle.lists.specs.Tables.{tableFrom}
 use Rattle.lists.proofs.TableLaws.{table-getD, table-ext, table-le}
@@ -12,97 +13,85 @@ use Rattle.pricing.specs.Scales.{par, rateScale}
 use Rattle.pricing.specs.Rounding.{Rounding, down, up, quotient}
 use Rattle.pricing.specs.Run.{discountBy}
 use Rattle.pricing.specs.Inner.Multipliers.{multiplierScale, multiplierBy, multipliersBy, scaledBy, scaledAllBy, discountsBy, AtMost}
-use Rattle.pricing.proofs.RoundingLaws.{floor-le, floor-gt, ceiling-ge, ceiling-lt, quotient-le}
+use Rattle.pricing.proofs.RoundingLaws.{ceiling-ge, ceiling-lt}
 use Rattle.pricing.proofs.LimitLaws.{discount-limit}
 
--- x a / w by the multiplier a s / w, rounded to the other side, where x w < s
-module _ (x a w s : ℕ) (pos : 0 < w) (fits : x * w < s) where
+-- x a / w by a multiplier m in units of 1 / s
+module _ (x a w s m : ℕ) (pos : 0 < w) (some : 0 < s) where
   below : (p q : ℕ) → p * (s * w) < suc q * (s * w) → p ≤ q
   below p q h = le-of-suc-le-suc (lt-of-mul-lt-mul-right (s * w) h)
 
-  -- with m the multiplier, q and p the two quotients: p w s ≤ x a s ≤ x m w < (q + 1) s w and
-  -- q s w ≤ x m w ≤ x a s + x (w - 1) < p w s + w s, as x (w - 1) < s
-  floor-scaled : quotient down (x * quotient up (a * s) w) s ≡ quotient down (x * a) w
-  floor-scaled =
+  -- m is not too low, and too high by less than x brings out. With q and p the two quotients: p w s ≤ x a s ≤ x m w < (q + 1) s w and
+  -- q s w ≤ x m w < x a s + s ≤ (p + 1) w s
+  floor-near : a * s ≤ m * w → x * (m * w) < x * (a * s) + s → x * m / s ≡ quotient down (x * a) w
+  unfolding quotient
+  floor-near low high =
       le-antisymm
-      (below q p
-      (omega (arith, mul-le-mul-right w (floor-le (x * m) s), mul-le-mul-right x (ceiling-lt (a * s) w pos), mul-le-mul-right s (floor-gt (x * a) w pos))))
-      (below p q
-      (omega (
-        arith,
-        mul-le-mul-right s (floor-le (x * a) w),
-        mul-le-mul-right x (ceiling-ge (a * s) w pos),
-        mul-le-mul-right w (floor-gt (x * m) s (omega arith)),
-      )))
-    where
-      m : ℕ
-      m = quotient up (a * s) w
+      (below (x * m / s) (x * a / w) (omega (arith, mul-le-mul-right w (div-mul-le-self (x * m) s), mul-le-mul-right s (lt-div-mul-add {a = x * a} pos))))
+      (below (x * a / w) (x * m / s)
+      (omega (arith, mul-le-mul-right s (div-mul-le-self (x * a) w), mul-le-mul-left x low, mul-lt-mul-of-pos-right (lt-div-mul-add {a = x * m} some) pos)))
 
-      q : ℕ
-      q = quotient down (x * m) s
-
-      p : ℕ
-      p = quotient down (x * a) w
-
-  -- the same with every inequality turned
-  ceiling-scaled : quotient up (x * quotient down (a * s) w) s ≡ quotient up (x * a) w
-  ceiling-scaled =
+  -- m is too low, but by no more than x brings out. With q and p the floor and the ceiling: q s w ≤ x m w < x a s ≤ p w s and
+  -- p w s + s ≤ x a s + w s ≤ x m w + s + w s < (q + 2) s w + s
+  ceiling-near : 0 < x → m * w < a * s → x * (a * s) ≤ x * (m * w) + s → suc (x * m / s) ≡ quotient up (x * a) w
+  ceiling-near more low high =
       le-antisymm
-      (below q p
-      (omega (
-        arith,
-        mul-le-mul-right w (ceiling-lt (x * m) s (omega arith)),
-        mul-le-mul-right x (floor-le (a * s) w),
-        mul-le-mul-right s (ceiling-ge (x * a) w pos),
-      )))
-      (below p q
-      (omega (
-        arith,
-        mul-le-mul-right s (ceiling-lt (x * a) w pos),
-        mul-le-mul-right x (floor-gt (a * s) w pos),
-        mul-le-mul-right w (ceiling-ge (x * m) s (omega arith)),
-      )))
-    where
-      m : ℕ
-      m = quotient down (a * s) w
-
-      q : ℕ
-      q = quotient up (x * m) s
-
-      p : ℕ
-      p = quotient up (x * a) w
+      (lt-of-mul-lt-mul-right (s * w)
+      (omega (arith, mul-le-mul-right w (div-mul-le-self (x * m) s), mul-lt-mul-of-pos-left low more, mul-le-mul-right s (ceiling-ge (x * a) w pos))))
+      (below (quotient up (x * a) w) (suc (x * m / s))
+      (omega (arith, mul-le-mul-right s (ceiling-lt (x * a) w pos), mul-lt-mul-of-pos-right (lt-div-mul-add {a = x * m} some) pos)))
 
 -- one discount factor more, by the rate's multiplier
-factor-scaled : (ρ : Rounding) (x z : ℕ) → x ≤ par → z ≤ shiftedLimit → scaledBy ρ x (multiplierBy ρ z) ≡ quotient ρ (x * rateScale) (rateScale + z)
-unfolding scaledBy multiplierBy
-factor-scaled down x z hx hz = floor-scaled x rateScale (rateScale + z) multiplierScale (omega arith) (omega (arith, mul-le-mul hx hz))
-factor-scaled up x z hx hz = ceiling-scaled x rateScale (rateScale + z) multiplierScale (omega arith) (omega (arith, mul-le-mul hx hz))
+module _ (x z : ℕ) (hx : x ≤ par) (hz : z ≤ shiftedLimit) where
+  abbrev part : ℕ
+  part = (2 ^ 64 - 1) / (rateScale + z)
 
--- a multiplier is at most 2^47
-multiplier-le : (ρ : Rounding) (z : ℕ) → multiplierBy ρ z ≤ multiplierScale
-unfolding multiplierBy
-multiplier-le down z = quotient-le up (rateScale * multiplierScale) (rateScale + z) multiplierScale (omega arith) (omega arith)
-multiplier-le up z = quotient-le down (rateScale * multiplierScale) (rateScale + z) multiplierScale (omega arith) (omega arith)
+  -- w (2^64 - 1) / w is below 2^64, and less than w below it
+  part-le : part * (rateScale + z) ≤ 2 ^ 64 - 1
+  part-le = div-mul-le-self (2 ^ 64 - 1) (rateScale + z)
 
--- the scale of a multiplier's lower bits, and that of its upper ones
-abbrev pub lowScale : ℕ
-lowScale = 2 ^ 24
+  part-gt : 2 ^ 64 - 1 < part * (rateScale + z) + (rateScale + z)
+  part-gt = lt-div-mul-add {a = 2 ^ 64 - 1} {b = rateScale + z} (omega arith)
 
-abbrev pub highScale : ℕ
-highScale = 2 ^ 23
+  -- what the largest factor brings out
+  brought-le : x * (rateScale + z) ≤ par * (rateScale + shiftedLimit)
+  brought-le = let h : rateScale + z ≤ rateScale + shiftedLimit = omega arith in mul-le-mul hx h
 
--- the product by the upper and the lower bits of the multiplier
-pub bits-apart : (x m c : ℕ) → (x * (m / lowScale) + (x * (m % lowScale) + c) / lowScale) / highScale ≡ (x * m + c) / multiplierScale
-bits-apart x m c = apart (m / lowScale) (m % lowScale) ∙ ap (λ (n : ℕ). (x * n + c) / multiplierScale) (div-add-mod' m lowScale)
+  lower-scaled : scaledBy down x (multiplierBy down z) ≡ quotient down (x * rateScale) (rateScale + z)
+  unfolding scaledBy multiplierBy
+  lower-scaled =
+      floor-near x rateScale (rateScale + z) multiplierScale (60000 * suc part) (omega arith) (omega arith) (omega (arith, part-gt))
+      (omega (arith, mul-le-mul-left x part-le, brought-le))
+
+  upper-scaled : 0 < x → scaledBy up x (multiplierBy up z) ≡ quotient up (x * rateScale) (rateScale + z)
+  unfolding scaledBy multiplierBy
+  upper-scaled more =
+      ceiling-near x rateScale (rateScale + z) multiplierScale (60000 * part) (omega arith) (omega arith) more (omega (arith, part-le))
+      (omega (arith, mul-le-mul-left x part-gt, brought-le))
+
+-- an upper factor is never 0
+discount-pos : (z n : ℕ) → 0 < discountBy up z n
+unfolding discountBy
+discount-pos z zero = lit< tt
+discount-pos z (suc n) =
+    let ge = ceiling-ge (discountBy up z n * rateScale) (rateScale + z) (omega arith) in
+    let before = discount-pos z n in
+    pos-of-mul (quotient up (discountBy up z n * rateScale) (rateScale + z)) (rateScale + z) (omega arith)
   where
-    apart : (h l : ℕ) → (x * h + (x * l + c) / lowScale) / highScale ≡ (x * (h * lowScale + l) + c) / multiplierScale
-    apart h l = omega arith
+    pos-of-mul : (q w : ℕ) → 0 < q * w → 0 < q
+    pos-of-mul zero w h = absurd (omega arith)
+    pos-of-mul (suc q) w h = omega arith
+
+factor-scaled : (ρ : Rounding) (z n : ℕ) → z ≤ shiftedLimit → scaledBy ρ (discountBy ρ z n) (multiplierBy ρ z) ≡ discountBy ρ z (suc n)
+unfolding discountBy
+factor-scaled down z n hz = lower-scaled (discountBy down z n) z (discount-limit z n down) hz
+factor-scaled up z n hz = upper-scaled (discountBy up z n) z (discount-limit z n up) hz (discount-pos z n)
+
+-- 2 x m / 2^64 is x m / 2^63
+pub halved : (x m : ℕ) → 2 * x * m / 2 ^ 64 ≡ x * m / multiplierScale
+halved x m = rw (mul-assoc 2 x m) (mul-div-mul-left (x * m) multiplierScale (lit< tt))
 
 -- seven rates
-pub multipliers-at-most : (ρ : Rounding) (rates : List ℕ) → AtMost multiplierScale (multipliersBy ρ rates)
-unfolding multipliersBy
-multipliers-at-most ρ rates = table-le 0 scenarioCount _ multiplierScale (λ j l u. multiplier-le ρ (getD rates j 0))
-
 pub discounts-at-most : (ρ : Rounding) (rates : List ℕ) (n : ℕ) → AtMost par (discountsBy ρ rates n)
 unfolding discountsBy
 discounts-at-most ρ rates n = table-le 0 scenarioCount _ par (λ j l u. discount-limit (getD rates j 0) n ρ)
@@ -114,8 +103,8 @@ discounts-zero ρ rates = refl
 -- one factor more at each of them
 pub discounts-suc : (ρ : Rounding) (rates : List ℕ) (n : ℕ) → AtMost shiftedLimit rates
     → scaledAllBy ρ (discountsBy ρ rates n) (multipliersBy ρ rates) ≡ discountsBy ρ rates (suc n)
-unfolding scaledAllBy discountsBy multipliersBy discountBy
+unfolding scaledAllBy discountsBy multipliersBy
 discounts-suc ρ rates n h =
     table-ext scenarioCount _ _
     (λ i l. rw (table-getD scenarioCount (λ (j : ℕ). discountBy ρ (getD rates j 0) n) i 0 l, table-getD scenarioCount (λ (j : ℕ). multiplierBy ρ (getD rates j 0)) i 0 l)
-    (factor-scaled ρ (discountBy ρ (getD rates i 0) n) (getD rates i 0) (discount-limit (getD rates i 0) n ρ) (h i)))
+    (factor-scaled ρ (getD rates i 0) n (h i)))

@@ -1,4 +1,4 @@
--- Scales and limits of the run (01:24, 01:55-60). Definitions only.
+-- Scales and limits of the run (01:24, 01:55-60; 02:CR 4). Definitions only.
 use Prim.Native.Nat.{ℕ, _*_, _^_}
 use Rattle.schedule.specs.Limits.{couponLimit}
 
@@ -6,9 +6,9 @@ use Rattle.schedule.specs.Limits.{couponLimit}
 abbrev pub par : ℕ
 par = 10 ^ 9
 
--- the growth of a coupon of 1 (01:56), in units of 1 / (3 × 10^9) of the balance
+-- the growth of a coupon of one thousandth of a percent a year (01:56; 02:CR 4), in units of 1 / (3 × 10^9) of the balance
 abbrev pub couponGrowth : ℕ
-couponGrowth = 25000
+couponGrowth = 2500
 
 -- the scale of a yield as a month's rate (01:58)
 abbrev pub rateScale : ℕ

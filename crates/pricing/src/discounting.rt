@@ -1,31 +1,22 @@
 // Discount factors, seven rates in step: each division by 120,000 + rate is a multiplication by that month's multiplier.
 use crate::PAR;
-use crate::rounding::quotient;
+use crate::products::upper_half;
 use schedule::scenarios::Scenario;
 ghost use mathlib.Core.Path.{_≡_};
 ghost use Prim.Native.Nat.{_≤_};
 ghost use Rattle.schedule.specs.Shift.{shiftedLimit};
 ghost use Rattle.pricing.specs.Scales.{par};
 ghost use Rattle.pricing.specs.Rounding.{roundingOf};
-ghost use Rattle.pricing.specs.Inner.Multipliers.{multiplierScale, multiplierBy, multipliersBy, scaledBy, scaledAllBy, discountsBy, AtMost};
+ghost use Rattle.pricing.specs.Inner.Multipliers.{multiplierBy, multipliersBy, scaledBy, scaledAllBy, discountsBy, AtMost};
 
 // The scale of a yield as a month's rate (01:58).
 const RATE_SCALE: u64 = 120_000;
 
-// The scale of a multiplier's lower bits, 2^24.
-const LOW_SCALE: u64 = 16_777_216;
+// Half of it, as multipliers are in units of 1 / 2^63.
+const HALF_RATE: u64 = RATE_SCALE / 2;
 
-// The scale of its upper bits, 2^23.
-const HIGH_SCALE: u64 = 8_388_608;
-
-// The scale of multipliers, 2^47.
-const MULTIPLIER_SCALE: u64 = LOW_SCALE * HIGH_SCALE;
-
-// What is added to a product before it is rounded up.
-const JUST_BELOW: u64 = MULTIPLIER_SCALE - 1;
-
-// A whole on both scales, of which a multiplier is a part.
-const WHOLE: u64 = RATE_SCALE * MULTIPLIER_SCALE;
+// 2^64 - 1.
+const LARGEST: u64 = 18_446_744_073_709_551_615;
 
 // The discount factors of seven rates after n monthly factors each, in billionths. The rates, CD yields, are in hundredths of a percent a year.
 pub fn discount_factors(rates: &[u64; 7], n: u64, up: bool) -> [u64; 7]
@@ -42,7 +33,7 @@ pub fn discount_factors(rates: &[u64; 7], n: u64, up: bool) -> [u64; 7]
 
 // Each of seven factors times its multiplier.
 fn next_factors(factors: &[u64; 7], multipliers: &[u64; 7], up: bool) -> [u64; 7]
-    requires { ⌜ AtMost par (now factors) × AtMost multiplierScale (now multipliers) ⌝ }
+    requires { ⌜ AtMost par (now factors) ⌝ }
     ensures { λ r. ⌜ r ≡ scaledAllBy (roundingOf up) (now (factors .entry)) (now (multipliers .entry)) ⌝ }
 {
     let mut next = [0; 7];
@@ -54,15 +45,13 @@ fn next_factors(factors: &[u64; 7], multipliers: &[u64; 7], up: bool) -> [u64; 7
     next
 }
 
-// A factor times a multiplier in units of 1 / 2^47. The multiplier's upper and lower bits are taken apart, so that each product fits 64 bits.
+// A factor times a multiplier: the product's floor, or 1 more, as an upper multiplier is too low by less than a factor can bring out.
 fn next_factor(factor: u64, multiplier: u64, up: bool) -> u64
-    requires { ⌜ (factor ≤ par) × (multiplier ≤ multiplierScale) ⌝ }
+    requires { ⌜ factor ≤ par ⌝ }
     ensures { λ r. ⌜ r ≡ scaledBy (roundingOf up) factor multiplier ⌝ }
 {
-    let high = factor * (multiplier / LOW_SCALE);
-    let low = factor * (multiplier % LOW_SCALE);
-    let carried = if up { low + JUST_BELOW } else { low };
-    (high + carried / LOW_SCALE) / HIGH_SCALE
+    let scaled = upper_half(2 * factor, multiplier);
+    if up { scaled + 1 } else { scaled }
 }
 
 // The multipliers of seven rates.
@@ -79,10 +68,15 @@ fn multipliers_of(rates: &[u64; 7], up: bool) -> [u64; 7]
     multipliers
 }
 
-// The multiplier of a rate.
+// The multiplier of a rate: too high by less than a factor can bring out for the lower factors, too low for the upper ones.
 fn multiplier(rate: u64, up: bool) -> u64
     requires { ⌜ rate ≤ shiftedLimit ⌝ }
     ensures { λ r. ⌜ r ≡ multiplierBy (roundingOf up) rate ⌝ }
 {
-    quotient(WHOLE, RATE_SCALE + rate, !up)
+    let part = LARGEST / (RATE_SCALE + rate);
+    if up {
+        HALF_RATE * part
+    } else {
+        HALF_RATE * (part + 1)
+    }
 }

@@ -1,6 +1,7 @@
 // Prices of certificate deposits by the monthly run, at either rounding.
 pub mod discounting;
 pub mod months;
+mod products;
 mod rounding;
 
 // The opening balance, and the scale of balances, flows, survivals, discount factors and prices: billionths.

@@ -8,7 +8,7 @@ use Rattle.lists.specs.Tables.{those}
 use Rattle.schedule.specs.declared.Position.{Position}
 
 -- One of the nine balances is a `Position`: its row (remaining months, 1 to 4), its column (original maturity, 1 to 3), and the numbers of its
--- cells: balance (thousands of dollars), WAC (hundredths of a percent a year) and WARM (months). This one from those five, in that order
+-- cells: balance (thousands of dollars), WAC (hundredths of a percent a year as filed) and WARM (months). This one from those five, in that order
 unfoldable pub position : ℕ → ℕ → ℕ → ℕ → ℕ → Position
 position r j b c m = record { row = r; column = j; balance = b; coupon = c; months = m }
 

@@ -1,72 +1,8 @@
 // The class of a cell and the limit of a class, from tables that the check tests against the definitions.
 ghost use mathlib.Core.Path.{_≡_};
+ghost use Prim.Native.Nat.{_-_};
 ghost use lib.ListN.{getD};
 ghost use Rattle.schedule.specs.Limits.{cellClass, classLimit};
-
-// The classes of cells 601 to 661.
-const CLASSES: [usize; 61] = [
-    1,
-    1,
-    1,
-    7,
-    2,
-    2,
-    2,
-    3,
-    3,
-    3,
-    0,
-    0,
-    0,
-    0,
-    1,
-    1,
-    1,
-    7,
-    2,
-    2,
-    2,
-    3,
-    3,
-    3,
-    0,
-    0,
-    0,
-    0,
-    0,
-    0,
-    1,
-    1,
-    7,
-    2,
-    2,
-    3,
-    3,
-    0,
-    0,
-    0,
-    1,
-    7,
-    2,
-    3,
-    6,
-    0,
-    0,
-    0,
-    0,
-    4,
-    4,
-    4,
-    4,
-    4,
-    4,
-    5,
-    5,
-    5,
-    7,
-    7,
-    7,
-];
 
 // The class of a coupon.
 pub const COUPON_CLASS: usize = 2;
@@ -83,7 +19,7 @@ const LIMITS: [u64; 8] = [
     18_446_744_073_709_551_615,
 ];
 
-// The class of a cell: 0 where it is not listed.
+// The class of a cell: 0 where it is not listed. The digits are the classes of cells 601 to 661.
 pub fn cell_class(cell: u64) -> usize
     ensures { λ r. ⌜ r ≡ cellClass cell ⌝ }
 {
@@ -94,7 +30,10 @@ pub fn cell_class(cell: u64) -> usize
         return 0;
     }
     let i = (cell - 601) as usize;
-    CLASSES[i]
+    digit_at(
+        b"1117222333000011172223330000001172233000172360000444444555777",
+        i,
+    )
 }
 
 // The largest value of a class, as filed.
@@ -109,4 +48,22 @@ pub fn entry_at(table: &[u64], i: usize) -> u64
     ensures { λ r. ⌜ r ≡ getD (now (table .entry)) i 0 ⌝ }
 {
     if i < table.len() { table[i] } else { 0 }
+}
+
+// The digit at a place of a text of digits: 0 past its end.
+fn digit_at(digits: &[u8], i: usize) -> usize
+    ensures { λ r. ⌜ r ≡ getD (now (digits .entry)) i 0 - 48 ⌝ }
+{
+    if i < digits.len() {
+        digit_of(digits[i])
+    } else {
+        0
+    }
+}
+
+// The number of a digit.
+fn digit_of(byte: u8) -> usize
+    ensures { λ r. ⌜ r ≡ byte - 48 ⌝ }
+{
+    if byte < 48 { 0 } else { (byte - 48) as usize }
 }

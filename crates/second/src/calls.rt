@@ -4,6 +4,7 @@ use second_output::filings::print_listing;
 use second_output::filings::print_splitting;
 use second_output::filings::print_valuing;
 use second_output::lines::print_line;
+use second_output::searches::print_search;
 
 // A call, the length of its list of numbers and that of its list of places.
 pub struct Call {
@@ -12,7 +13,7 @@ pub struct Call {
     pub places: u64,
 }
 
-// Call 0 values and splits a filing; call 1 prints its listing.
+// Call 0 values and splits a filing; call 1 prints its listing; call 2 searches a tier.
 pub fn print_call(s: &[u8], survivals: &[u64], call: Call) {
     let number = call.number;
     match number {
@@ -21,6 +22,7 @@ pub fn print_call(s: &[u8], survivals: &[u64], call: Call) {
             print_splitting(s, least(call.places, 40));
         }
         1 => print_listing(s, survivals),
+        2 => print_search(s, survivals),
         _ => print_line(b"no call", number),
     }
 }

@@ -50,7 +50,7 @@ fn run_month(
     run: Run,
 ) -> Run {
     let left = sub(part.months, month);
-    let rate = shifted(retail_rate(s, part.column), scenario);
+    let rate = shifted(retail_rate(s, part.column, month), scenario);
     let q = month_survival(s, survivals, part, rate, left);
     let after = balance_after(run.balance, part.coupon, q, up);
     let flow = add(
@@ -66,7 +66,7 @@ fn run_month(
 
 // B_t of B_(t-1): the coupon's twelfth is added, and 1 - q is withdrawn.
 fn balance_after(balance: u64, coupon: u64, q: u64, up: bool) -> u64 {
-    scaled(balance, add(mul(25000, coupon), mul(3, q)), 3000000000, up)
+    scaled(balance, add(mul(2500, coupon), mul(3, q)), 3000000000, up)
 }
 
 // What is withdrawn of B_(t-1), with the servicing.

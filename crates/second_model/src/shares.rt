@@ -8,6 +8,7 @@ use second_numbers::cells::column;
 use second_numbers::cells::wac_cell;
 use second_numbers::cells::warm_cell;
 use second_records::columns::column_sum;
+use second_records::records::coupon;
 use second_records::records::value;
 
 // The amounts of columns 1 to 3 stand in the three cells after these: brokered balances, balances
@@ -18,7 +19,7 @@ const PENALTY: u64 = 652;
 
 const PENALTY_MONTHS: u64 = 655;
 
-// Balance in thousands of dollars; coupon in hundredths of a percent a year; penalty in hundredths
+// Balance in thousands of dollars; coupon in thousandths of a percent a year; penalty in hundredths
 // of a month, 0 where the sub-balance is not subject to one.
 pub struct SubBalance {
     pub balance: u64,
@@ -35,7 +36,7 @@ pub fn sub_balance(s: &[u8], place: u64) -> SubBalance {
     let kind = place % 4;
     SubBalance {
         balance: share(s, k, kind),
-        coupon: value(s, wac_cell(k)),
+        coupon: coupon(s, wac_cell(k)),
         months: value(s, warm_cell(k)),
         penalty: penalty(s, k, kind),
         column: column(k),

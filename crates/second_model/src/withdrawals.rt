@@ -1,6 +1,6 @@
 // How much of a balance stays on in a month that is not the last, from the gain of withdrawing and
-// its cost, n months before maturity. Coupon c, penalty p and shifted retail rate r as in the
-// filing. What the gain takes off stands on the cost's side, so that no figure is negative.
+// its cost, n months before maturity. Coupon c in thousandths, penalty p and shifted retail rate r as
+// in the filing. What the gain takes off stands apart, so that no figure is negative.
 use crate::shares::SubBalance;
 use second_numbers::arith::add;
 use second_numbers::arith::mul;
@@ -26,33 +26,43 @@ pub fn month_survival(s: &[u8], survivals: &[u64], part: SubBalance, r: u64, n: 
 
 // Brokered money is withdrawn where the gain is above the cost.
 fn brokered_survival(part: SubBalance, r: u64, n: u64) -> u64 {
-    if owed(part, n, 100) < earned(part, r, n) {
+    if add(cost(part, n), lost(part)) < earned(part, r, n) {
         0
     } else {
         WHOLE
     }
 }
 
-// The annual withdrawal of the highest of the tiers at `at` whose edge the gain reaches; that of the
-// first where it reaches none.
+// The annual withdrawal by the tiers at `at`.
 fn withdrawal(s: &[u8], at: u64, part: SubBalance, r: u64, n: u64) -> u64 {
-    let mut withdrawal = tier_withdrawal(s, at, 0);
+    let k = tier(s, at, earned(part, r, n), lost(part), cost(part, n));
+    tier_withdrawal(s, at, k)
+}
+
+// The highest of the tiers at `at`, from 0 on, whose edge the gain, `earned` less `lost`, reaches;
+// 0 where it reaches none.
+pub fn tier(s: &[u8], at: u64, earned: u64, lost: u64, cost: u64) -> u64 {
+    let mut tier = 0;
     for k in 0..tier_count(s, at) {
-        if owed(part, n, tier_edge(s, at, k)) <= earned(part, r, n) {
-            withdrawal = tier_withdrawal(s, at, k);
+        if add(mul(100, lost), mul(tier_edge(s, at, k), cost)) <= mul(100, earned) {
+            tier = k;
         }
     }
-    withdrawal
+    tier
 }
 
-// 100 × (12,000,000 - c × p) × r × n, the first part of 100 × gain.
+// (120,000,000 - c × p) × r × n, what the gain adds.
 fn earned(part: SubBalance, r: u64, n: u64) -> u64 {
-    let kept = sub(12000000, mul(part.coupon, part.penalty));
-    mul(mul(100, kept), mul(r, n))
+    let kept = sub(120000000, mul(part.coupon, part.penalty));
+    mul(kept, mul(r, n))
 }
 
-// Edge × cost, and the second part of 100 × gain: edge × 12,000,000 × c × n + 100 × 120,000 × c × p.
-fn owed(part: SubBalance, n: u64, edge: u64) -> u64 {
-    let c = part.coupon;
-    mul(12000000, add(mul(edge, mul(c, n)), mul(c, part.penalty)))
+// 120,000 × c × p, what the gain takes off.
+fn lost(part: SubBalance) -> u64 {
+    mul(120000, mul(part.coupon, part.penalty))
+}
+
+// 12,000,000 × c × n.
+fn cost(part: SubBalance, n: u64) -> u64 {
+    mul(12000000, mul(part.coupon, n))
 }

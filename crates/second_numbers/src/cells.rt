@@ -59,6 +59,14 @@ pub fn limit(cell: u64) -> u64 {
     }
 }
 
+// The same of a record of kind 6, which has coupons alone.
+pub fn fine_limit(cell: u64) -> u64 {
+    match class(cell) {
+        b'C' => 15000,
+        _ => 0,
+    }
+}
+
 // What cells 601 to 661 hold: a balance, a coupon (WAC), months (WARM), the total, a brokered or
 // penalty share of a column, a penalty, or any value; the others are -.
 fn class(cell: u64) -> u8 {

@@ -1,3 +1,4 @@
 // What the second test program prints of an entry.
 pub mod filings;
 pub mod lines;
+pub mod searches;

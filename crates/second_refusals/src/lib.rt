@@ -6,14 +6,18 @@ use second_numbers::bytes::size;
 use second_numbers::bytes::word;
 use second_numbers::cells::TOTAL;
 use second_numbers::cells::balance_cell;
+use second_numbers::cells::fine_limit;
 use second_numbers::cells::is_within;
 use second_numbers::cells::limit;
 use second_numbers::cells::warm_cell;
 use second_records::columns::column_sum;
 use second_records::records::CELL;
+use second_records::records::FINE;
+use second_records::records::PATH;
 use second_records::records::RATES;
 use second_records::records::YIELDS;
 use second_records::records::found;
+use second_records::records::has_cell;
 use second_records::records::lacks;
 use second_records::records::next;
 use second_records::records::value;
@@ -50,7 +54,7 @@ fn refused_if(holds: bool, number: u64, place: u64) -> Refusal {
     }
 }
 
-// Refusals 1 to 5 and 11: the first record that has a fault.
+// Refusals 1 to 5, 11 and 12: the first record that has a fault.
 fn record_refusal(s: &[u8]) -> Refusal {
     let at = first_faulty(s);
     let fault = record_fault(s, at);
@@ -83,19 +87,50 @@ fn record_fault(s: &[u8], at: u64) -> Refusal {
     )
 }
 
-// Faults 3 to 5 and 11 of a record of a known kind.
+// Faults 3, 4, 12, 5 and 11 of a record of a known kind, in this order.
 fn body_fault(s: &[u8], at: u64, kind: u64, cell: u64) -> Refusal {
-    let most = limit(cell);
+    let most = most(kind, cell);
     first(
-        refused_if((kind == CELL) & (most == 0), 3, at),
         first(
-            refused_if(found(s, at, kind, cell) < at, 4, at),
+            refused_if(has_cell(kind) & (most == 0), 3, at),
+            refused_if(is_repeated(s, at, kind, cell), 4, at),
+        ),
+        first(
+            refused_if(is_beside_other(s, at, kind), 12, at),
             first(
                 refused_if(is_over(s, at, kind, most), 5, at),
                 refused_if(is_disordered(s, at, kind), 11, at),
             ),
         ),
     )
+}
+
+// The largest value of a cell in a record of the kind; 0 for a cell that the kind may not have.
+fn most(kind: u64, cell: u64) -> u64 {
+    match kind {
+        1 => limit(cell),
+        6 => fine_limit(cell),
+        _ => 0,
+    }
+}
+
+// Whether the cell of the record at `at`, or its kind, stands before it. Kinds 1 and 6 have their
+// cells in common.
+fn is_repeated(s: &[u8], at: u64, kind: u64, cell: u64) -> bool {
+    if has_cell(kind) {
+        (found(s, at, CELL, cell) < at) | (found(s, at, FINE, cell) < at)
+    } else {
+        found(s, at, kind, 0) < at
+    }
+}
+
+// Whether one of kinds 3 and 5 stands at `at` and the other before it.
+fn is_beside_other(s: &[u8], at: u64, kind: u64) -> bool {
+    match kind {
+        3 => found(s, at, PATH, 0) < at,
+        5 => found(s, at, RATES, 0) < at,
+        _ => false,
+    }
 }
 
 // Whether the record at `at` runs past the end or is too short for a kind.
@@ -110,6 +145,8 @@ fn length_of(s: &[u8], at: u64, kind: u64) -> u64 {
         2 => 242,
         3 => 8,
         4 => add(4, mul(4, own_count(s, at))),
+        5 => 722,
+        6 => 12,
         _ => 0,
     }
 }
@@ -118,8 +155,10 @@ fn length_of(s: &[u8], at: u64, kind: u64) -> u64 {
 fn is_over(s: &[u8], at: u64, kind: u64, most: u64) -> bool {
     match kind {
         1 => most < quad(s, add(at, 6)),
+        6 => most < quad(s, add(at, 6)),
         2 => is_rate_over(s, add(at, 4), 120),
         3 => is_rate_over(s, add(at, 4), 3),
+        5 => is_rate_over(s, add(at, 4), 360),
         _ => false,
     }
 }
@@ -144,7 +183,7 @@ fn is_rate_over(s: &[u8], at: u64, count: u64) -> bool {
 // Refusals 6 to 9, of a filing whose records are each in order.
 fn whole_refusal(s: &[u8]) -> Refusal {
     first(
-        refused_if(lacks(s, YIELDS) | lacks(s, RATES), 6, size(s)),
+        refused_if(lacks_a_sheet(s), 6, size(s)),
         first(
             month_refusal(s),
             first(
@@ -153,6 +192,11 @@ fn whole_refusal(s: &[u8]) -> Refusal {
             ),
         ),
     )
+}
+
+// Whether the yields are missing, or retail rates of either form.
+fn lacks_a_sheet(s: &[u8]) -> bool {
+    lacks(s, YIELDS) | (lacks(s, RATES) & lacks(s, PATH))
 }
 
 // Refusal 7: the first WARM outside its row while its balance is not zero.

@@ -53,7 +53,7 @@ subBalanceCount = 36
 unfoldable pub positionOf : ℕ → Position
 positionOf place = positionAt (place / 4)
 
--- the balance, and its cell's coupon (hundredths of a percent a year) and remaining months, at a place
+-- the balance, and its cell's coupon (thousandths of a percent a year) and remaining months, at a place
 unfoldable pub balanceAt : Contents → ℕ → ℕ
 balanceAt k place = getD (fourOf k (positionOf place)) (place % 4) 0
 

@@ -2,7 +2,7 @@
 mod apportion;
 pub mod places;
 
-// What a place of the thirty-six holds: the balance in thousands of dollars, its cell's WAC in hundredths of a percent a year and its cell's WARM
+// What a place of the thirty-six holds: the balance in thousands of dollars, its cell's WAC in thousandths of a percent a year and its cell's WARM
 // in months.
 pub struct SubBalance {
     pub balance: u64,
@@ -18,7 +18,7 @@ pub const NO_PLACE: SubBalance = SubBalance {
 };
 
 // A row of a column: the column's sum, the sum of the rows above it, its balance, the column's brokered balance and balance subject to penalty, all
-// in thousands of dollars, and its cells' WAC in hundredths of a percent a year and WARM in months.
+// in thousands of dollars, and its cells' WAC in thousandths of a percent a year and WARM in months.
 pub struct Row {
     pub total: u64,
     pub above: u64,

@@ -1,5 +1,5 @@
 -- The row of a place with the discount factors of the lists has the numbers of the definitions, none above the limit of a value. Assumes nothing.
-use Prim.Native.Nat.{ℕ, zero, suc, _*_, _-_, _≤_, _<_}
+use Prim.Native.Nat.{ℕ, zero, suc, _+_, _*_, _-_, _≤_, _<_}
 use mathlib.Core.Path.{_≡_, ap, _∙_}
 use mathlib.Core.Logic.{⊎-elim}
 use mathlib.Core.List.{List, _∷_}
@@ -10,9 +10,10 @@ use lib.ListN.{getD}
 use borrow.Author.Tests.{ne-eqb}
 use Rattle.lists.specs.Tables.{joined}
 use Rattle.lists.proofs.TableLaws.{table-getD, joined-le}
-use Rattle.schedule.specs.Limits.{balanceLimit, rateLimit}
+use Rattle.schedule.specs.Limits.{balanceLimit}
+use Rattle.schedule.specs.Shift.{pathRate}
 use Rattle.filing.specs.declared.Contents.{Contents}
-use Rattle.filing.specs.Contents.{cdYield, retailRate}
+use Rattle.filing.specs.Contents.{cdYield}
 use Rattle.filing.specs.Valid.{Valid}
 use Rattle.shares.specs.declared.SubBalance.{SubBalance}
 use Rattle.shares.specs.SubBalances.{balanceAt, monthsAt, positionOf}
@@ -27,14 +28,14 @@ use Rattle.pricing.proofs.RoundingLaws.{quotient-le}
 use Rattle.pricing.proofs.LimitLaws.{price-limit}
 use Rattle.deposits.specs.DepositTerms.{sheetYield}
 use Rattle.deposits.specs.Inner.Factors.{factorsBy, WithinRates}
-use Rattle.deposits.specs.Inner.Prices.{DepositLimits, AtMostPar}
+use Rattle.deposits.specs.Inner.Prices.{shiftedPath, DepositLimits, AtMostPar}
 use Rattle.deposits.proofs.FactorLaws.{factors-at-most-par}
 use Rattle.deposits.proofs.ValueLaws.{values-are}
 use Rattle.place_values.specs.PlaceTerms.{depositAt, rateAt, filingTiers, termsAt, monthYield}
 use Rattle.valuation.specs.Run.{valueAt}
 use Rattle.valuation.specs.Numbers.{valuesOf, placeNumbers}
 use Rattle.place_values.specs.Inner.LongestTerm.{termOf, longestTo, longestTerm}
-use Rattle.place_values.specs.Inner.PlaceRows.{rateIn, rowOf}
+use Rattle.place_values.specs.Inner.PlaceRows.{rowOf}
 use Rattle.totals.specs.RowTotals.{valueLimit}
 use Rattle.place_values.proofs.PlaceTermsLaws.{deposit-limits, terms-bounded}
 
@@ -70,9 +71,9 @@ module _ (k : Contents) where
     unfolding cdYield
     yields-within i = let e : suc i - 1 ≡ i = omega arith in rw e at (v .yield-limit (suc i))
 
-    pub rate-within : (place : ℕ) → rateIn (k .rates) place ≤ rateLimit
-    unfolding rateIn retailRate
-    rate-within place = v .rate-limit (positionOf place .column)
+    pub rates-within : WithinRates (k .rates)
+    unfolding pathRate
+    rates-within i = let e : 120 * (1 - 1) + (suc i - 1) ≡ i = omega arith in rw e at (v .rate-limit 1 (suc i))
 
     -- no number of a row is above the limit of a value
     valueAt-le : (ρ : Rounding) (scenario place : ℕ) → place < 36 → valueAt ρ k scenario place ≤ valueLimit
@@ -120,9 +121,9 @@ module _ (k : Contents) (tiers : WithdrawalTiers) (places : List SubBalance) (lo
 
     -- the row of a place has its fifteen numbers
     pub row-is : rowOf (getD places place noPlace) place (k .cells) (k .rates) (tierTable tiers) lower upper ≡ placeNumbers k place
-    unfolding rowOf placeNumbers valuesOf valueAt termsAt rateAt monthYield cdYield retailRate rateIn sheetYield placeAt depositAt
+    unfolding rowOf placeNumbers valuesOf valueAt termsAt rateAt monthYield cdYield shiftedPath sheetYield placeAt depositAt
     row-is =
         rw (p .lower-is, p .upper-is, p .tiers-are, held-is)
         (ap (λ (l : List ℕ). balanceAt k place ∷ l)
         (values-are (filingTiers k) (k .yields) (longestTerm (placesOf k)) (balanceAt k place) (depositAt (k .cells) place (placeAt k place))
-        (rateIn (k .rates) place) (deposit-limits k (p .valid) place h .months-le) (months-le-longest k place h)))
+        (k .rates) (positionOf place .column) (deposit-limits k (p .valid) place h .months-le) (months-le-longest k place h)))

@@ -3,7 +3,8 @@ use Prim.Native.Nat.{ℕ, zero, suc, _+_, _≤_, _<_}
 use mathlib.Core.Path.{_≡_, refl, sym, ap, _∙_}
 use mathlib.Core.Bool.{Bool, true, false, cond}
 use mathlib.Core.List.{List, [], _∷_, _++_, map}
-use borrow.Author.Tests.{ltb-true}
+use borrow.Author.Tests.{ltb-true, lt-ltb, le-ltb}
+use native.Mathlib.Numerals.{add-one}
 use native.Mathlib.Omega.{arith}
 use lib.Dec.{T, leb, ltb, leb→le}
 use lib.ListN.{length, getD, set, take, drop, replicate, length-set, length-map, take-append-drop, List·getD-append}
@@ -15,9 +16,12 @@ use Rattle.lists.proofs.TestLaws.{everyEntry, entries-le}
 use Rattle.withdrawal.specs.declared.WithdrawalTiers.{WithdrawalTiers}
 use Rattle.withdrawal.specs.Survival.{survival}
 use Rattle.schedule.specs.Limits.{tierLimit, edgeLimit, withdrawalLimit}
-use Rattle.withdrawal.specs.Tiers.{WithdrawalTier, TierTable, tier, annualWithdrawal}
-use Rattle.withdrawal.specs.Inner.TierArrays.{tierTable, tierTableOf, withSurvivals, inPlaces, held, tierSurvival, placeReached, TiersFit, Usable}
-use Rattle.withdrawal.proofs.TierLaws.{place-withdrawal}
+use Rattle.withdrawal.specs.declared.ReachedTier.{ReachedTier}
+use Rattle.withdrawal.specs.Tiers.{WithdrawalTier, TierTable, Falling, tier, annualWithdrawal}
+use Rattle.withdrawal.specs.Reached.{reachedTier}
+use Rattle.withdrawal.specs.Inner.TierArrays.{tierTable, tierTableOf, withSurvivals, inPlaces, held, TiersFit, Usable}
+use Rattle.withdrawal.proofs.TierLaws.{placeReached, place-withdrawal}
+use Rattle.withdrawal.proofs.HighestLaws.{edges-tried}
 
 -- an array of which the first i places hold f 0, f 1, .., f (i - 1) and the others 0
 pub record Stored (f : ℕ → ℕ) (i : ℕ) (l : List ℕ) : Type 0 where
@@ -51,19 +55,50 @@ in-places-at xs i n otherwise e = by (ltb i n) refl
     by true t = List·getD-append xs _ 0 i (rw e (ltb-true i n t))
     by false t = refl
 
--- the survival of the tier that is reached, or of the withdrawal where none is
-held-survival : (x : TierTable) (gain : ℤ) (cost : ℕ) → tierSurvival (held x) (placeReached gain cost (x .tiers)) ≡ survival (annualWithdrawal x gain cost)
-unfolding tierSurvival held annualWithdrawal
-held-survival x gain cost =
-    in-places-at (map (λ (y : WithdrawalTier). survival (y .withdrawal)) (x .tiers)) (placeReached gain cost (x .tiers)) (length (x .tiers))
-    (survival (x .otherwise)) (length-map (x .tiers) _)
-    ∙ place-withdrawal gain cost survival (x .otherwise) (x .tiers)
+module _ (gain : ℤ) (cost : ℕ) where
+  -- what a function makes of the withdrawals, at the place of the tier that is reached: what it makes of the annual withdrawal
+  held-at : (f : ℕ → ℕ) (x : TierTable)
+      → cond (ltb (placeReached gain cost (x .tiers)) (length (x .tiers)))
+      (getD (inPlaces (map (λ (y : WithdrawalTier). f (y .withdrawal)) (x .tiers))) (placeReached gain cost (x .tiers)) 0)
+      (f (x .otherwise))
+      ≡ f (annualWithdrawal x gain cost)
+  unfolding annualWithdrawal
+  held-at f x =
+      in-places-at (map (λ (y : WithdrawalTier). f (y .withdrawal)) (x .tiers)) (placeReached gain cost (x .tiers)) (length (x .tiers))
+      (f (x .otherwise)) (length-map (x .tiers) _)
+      ∙ place-withdrawal gain cost f (x .otherwise) (x .tiers)
 
-pub place-survival : (t : WithdrawalTiers) (gain : ℤ) (cost : ℕ) → Usable t
-    → tierSurvival t (placeReached gain cost (tierTable t .tiers)) ≡ survival (annualWithdrawal (tierTable t) gain cost)
-place-survival t gain cost u =
-    ap (λ (x : WithdrawalTiers). tierSurvival x (placeReached gain cost (tierTable t .tiers))) (u .held-is)
-    ∙ held-survival (tierTable t) gain cost
+-- what the code's arrays hold at a place, as the search answers it
+unfoldable answerAt : WithdrawalTiers → ℕ → ReachedTier
+answerAt t i =
+    record {
+      withdrawal = cond (ltb i (t .count)) (getD (t .withdrawals) i 0) (t .otherwise);
+      survival = cond (ltb i (t .count)) (getD (t .survivals) i 0) (t .retained);
+      «edges_tried» = cond (ltb i (t .count)) (suc i) (t .count);
+    }
+
+held-answer : (x : TierTable) (gain : ℤ) (cost : ℕ) → Falling (x .tiers) → answerAt (held x) (placeReached gain cost (x .tiers)) ≡ reachedTier x gain cost
+unfolding answerAt held reachedTier
+held-answer x gain cost f = rw (held-at gain cost (λ (w : ℕ). w) x, held-at gain cost survival x, edges-tried x gain cost f)
+
+-- the search ends at place i, of a tier or past the last
+module _ (t : WithdrawalTiers) (gain : ℤ) (cost i : ℕ) (u : Usable t) (ends : placeReached gain cost (tierTable t .tiers) ≡ i) where
+  -- what stands there is the answer of the definitions
+  answer-is : answerAt t i ≡ reachedTier (tierTable t) gain cost
+  answer-is =
+      rw (← ends)
+      (ap (λ (x : WithdrawalTiers). answerAt x (placeReached gain cost (tierTable t .tiers))) (u .held-is)
+      ∙ held-answer (tierTable t) gain cost (u .falling))
+
+  pub reached-answer : i < t .count
+      → record { withdrawal = getD (t .withdrawals) i 0; survival = getD (t .survivals) i 0; «edges_tried» = i + 1 } ≡ reachedTier (tierTable t) gain cost
+  unfolding answerAt
+  reached-answer h = rw (lt-ltb i (t .count) h, ← (add-one i)) at answer-is
+
+  pub unreached-answer : t .count ≤ i
+      → record { withdrawal = t .otherwise; survival = t .retained; «edges_tried» = t .count } ≡ reachedTier (tierTable t) gain cost
+  unfolding answerAt
+  unreached-answer h = rw (le-ltb i (t .count) h) at answer-is
 
 -- tiers that pass the tests of their count, edges and withdrawals fit
 pub tiers-fit-of-tests :
@@ -81,12 +116,13 @@ tiers-fit-of-tests count edges withdrawals otherwise n e w o =
       otherwise-le = leb→le otherwise withdrawalLimit o;
     }
 
--- tiers that fit, with their survivals, are usable where the arrays hold nothing but them
+-- tiers that fit, with their survivals, are usable where the arrays hold nothing but them and the edges fall
 pub fit-usable : (count : ℕ) (edges withdrawals : List ℕ) (otherwise : ℕ) → TiersFit count edges withdrawals otherwise
     → withSurvivals count edges withdrawals otherwise ≡ held (tierTableOf count edges withdrawals otherwise)
+    → Falling (tierTableOf count edges withdrawals otherwise .tiers)
     → Usable (withSurvivals count edges withdrawals otherwise)
 unfolding tierTable withSurvivals
-fit-usable count edges withdrawals otherwise fit e = record { count-le = fit .count-le; edge-le = fit .edge-le; held-is = e }
+fit-usable count edges withdrawals otherwise fit e f = record { count-le = fit .count-le; edge-le = fit .edge-le; held-is = e; falling = f }
 
 -- a function over a table is the table of what it makes
 map-table : {A B : Type 0} (f : A → B) (s n : ℕ) (g : ℕ → A) → map f (tableFrom s n g) ≡ tableFrom s n (λ (i : ℕ). f (g i))
@@ -141,5 +177,8 @@ module _ (count otherwise : ℕ) (edge withdrawal : ℕ → ℕ) where
         table-ext count (λ (i : ℕ). getD withdrawals i 0) withdrawal (places-hold count withdrawal),
       )
 
-  pub placed-usable : TiersFit count edges withdrawals otherwise → Usable (withSurvivals count edges withdrawals otherwise)
-  placed-usable fit = fit-usable count edges withdrawals otherwise fit placed-held
+  pub placed-usable : TiersFit count edges withdrawals otherwise → Falling (table count (λ (i : ℕ). tier (edge i) (withdrawal i)))
+      → Usable (withSurvivals count edges withdrawals otherwise)
+  unfolding tierTable tierTableOf withSurvivals
+  placed-usable fit f =
+      fit-usable count edges withdrawals otherwise fit placed-held (rw (ap (λ (x : TierTable). x .tiers) placed-table) f)

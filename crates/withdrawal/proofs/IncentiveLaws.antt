@@ -1,32 +1,47 @@
--- The incentive that the code holds: its gain is the definition's, and within the limits its figures are small. Assumes nothing.
+-- The incentive that the code holds: its gain and cost are the definition's, and within the limits its figures are small. Assumes nothing.
 use Prim.Native.Nat.{ℕ, _*_, _-_, _≤_}
-use mathlib.Core.Path.{_≡_}
-use native.Mathlib.Nat.{mul-le-mul, sub-le}
+use mathlib.Core.Path.{_≡_, refl}
+use native.Mathlib.Nat.{mul-le-mul, mul-le-mul-left, sub-le}
 use native.Mathlib.Omega.{arith}
 use Rattle.schedule.specs.Limits.{couponLimit, penaltyLimit, monthsLimit}
 use Rattle.schedule.specs.Shift.{shiftedLimit}
-use Rattle.withdrawal.specs.Gain.{gainScale, gain, cost}
-use Rattle.withdrawal.specs.Inner.Incentives.{incentiveOf, gainOf, Small}
+use Rattle.withdrawal.specs.declared.CouponParts.{CouponParts}
+use Rattle.withdrawal.specs.Gain.{gainScale, penaltyScale, costScale, gain, cost}
+use Rattle.withdrawal.specs.Inner.Incentives.{partsOf, incentiveFrom, gainOf, Small, PartsWithin}
 use Rattle.withdrawal.proofs.GainLaws.{difference-pos}
 
-module _ {c p r n : ℕ} (hc : c ≤ couponLimit) (hp : p ≤ penaltyLimit) (hr : r ≤ shiftedLimit) (hn : n ≤ monthsLimit) where
+module _ {c p : ℕ} (hc : c ≤ couponLimit) (hp : p ≤ penaltyLimit) where
   pub penalty-le : c * p ≤ gainScale
   penalty-le = omega (arith, mul-le-mul hc hp)
 
-  pub earned-le : (gainScale - c * p) * (r * n) ≤ gainScale * (shiftedLimit * monthsLimit)
-  earned-le = mul-le-mul (sub-le gainScale (c * p)) (mul-le-mul hr hn)
+  pub parts-within : PartsWithin (partsOf c p)
+  unfolding partsOf
+  parts-within =
+      record {
+        share-le = sub-le gainScale (c * p);
+        forfeited-le = omega (arith, mul-le-mul hc hp);
+        cost-le = mul-le-mul-left costScale hc;
+      }
 
-  -- its gain
-  pub incentive-gain : gainOf (incentiveOf c p r n) ≡ gain c p r n
-  unfolding incentiveOf gainOf gain
-  incentive-gain = rw (difference-pos gainScale (c * p) penalty-le)
+  -- its gain and its cost
+  pub incentive-gain : (r n : ℕ) → gainOf (incentiveFrom (partsOf c p) r n) ≡ gain c p r n
+  unfolding partsOf incentiveFrom gainOf gain
+  incentive-gain r n = rw (difference-pos gainScale (c * p) penalty-le)
+
+  pub incentive-cost : (r n : ℕ) → incentiveFrom (partsOf c p) r n .cost ≡ cost c n
+  unfolding partsOf incentiveFrom cost
+  incentive-cost r n = refl
+
+module _ {x : CouponParts} {r n : ℕ} (hx : PartsWithin x) (hr : r ≤ shiftedLimit) (hn : n ≤ monthsLimit) where
+  pub earned-le : x .share * (r * n) ≤ gainScale * (shiftedLimit * monthsLimit)
+  earned-le = mul-le-mul (hx .share-le) (mul-le-mul hr hn)
 
   -- its size
-  pub incentive-small : Small (incentiveOf c p r n)
-  unfolding incentiveOf cost
+  pub incentive-small : Small (incentiveFrom x r n)
+  unfolding incentiveFrom
   incentive-small =
       record {
         earned-le = omega (arith, earned-le);
-        forfeited-le = omega (arith, penalty-le);
-        cost-le = omega (arith, mul-le-mul hc hn);
+        forfeited-le = omega (arith, hx .forfeited-le);
+        cost-le = omega (arith, mul-le-mul (hx .cost-le) hn);
       }

@@ -2,6 +2,7 @@ pub mod SurvivalLaws
 pub mod GainLaws
 pub mod IncentiveLaws
 pub mod TierLaws
-pub mod UnreachedLaws
+pub mod HighestLaws
+pub mod FallingLaws
 pub mod HeldLaws
 pub mod MonthSurvivalLaws

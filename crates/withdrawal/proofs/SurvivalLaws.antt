@@ -7,8 +7,11 @@ use native.Mathlib.Nat.{le-trans, le-antisymm, lt-of-not-le, not-le-of-lt, sub-l
 use native.Mathlib.Omega.{arith}
 use lib.Dec.{T, T-not, leb→le, le→leb, lit<}
 use lib.ListN.{length, getD}
+use Rattle.lists.proofs.TableLaws.{table-getD}
 use Rattle.lists.proofs.TestLaws.{both, everyEntry, entry-passes}
-use Rattle.withdrawal.specs.Survival.{fullSurvival, survives, withBits, survival}
+use Rattle.lists.proofs.FillLaws.{fill-all}
+use Rattle.schedule.specs.Limits.{withdrawalLimit}
+use Rattle.withdrawal.specs.Survival.{fullSurvival, survives, withBits, survival, survivalFigures}
 
 -- r is the largest number that passes the test
 pub record Largest (test : ℕ → Bool) (r : ℕ) : Type 0 where
@@ -71,6 +74,14 @@ survival-of-rule w q t =
     rule : T (survives w q) × T (not (survives w (suc q)))
     rule = both (survives w q) (not (survives w (suc q))) t
 
--- the entries of a table whose every entry obeys the rule are the survivals
-pub table-survival : (figures : List ℕ) (w : ℕ) → T (everyEntry isSurvival figures) → w < length figures → getD figures w 0 ≡ survival w
-table-survival figures w t h = survival-of-rule w (getD figures w 0) (entry-passes isSurvival figures t w h)
+-- figures that all obey the rule are the survival figures
+pub figures-are : (figures : List ℕ) → T (everyEntry isSurvival figures) → length figures ≡ suc withdrawalLimit → figures ≡ survivalFigures
+unfolding survivalFigures
+figures-are figures t e =
+    fill-all survival 0 (suc withdrawalLimit) figures
+    (record { long = e; holds = λ w h. survival-of-rule w (getD figures w 0) (entry-passes isSurvival figures t w (rw e h)) })
+
+-- the figure of an annual withdrawal
+pub figure-at : (w : ℕ) → w ≤ withdrawalLimit → getD survivalFigures w 0 ≡ survival w
+unfolding survivalFigures
+figure-at w h = table-getD (suc withdrawalLimit) survival w 0 (omega arith)

@@ -12,17 +12,22 @@ use lib.IntN.{ℤ}
 use Rattle.lists.specs.Tables.{tableFrom}
 use Rattle.withdrawal.specs.declared.WithdrawalTiers.{WithdrawalTiers}
 use Rattle.withdrawal.specs.Tiers.{WithdrawalTier, tier, reached, firstReached}
-use Rattle.withdrawal.specs.Inner.TierArrays.{placeReached, tierTable, tierTableOf}
+use Rattle.withdrawal.specs.Inner.TierArrays.{tierTable, tierTableOf}
 
 module _ (gain : ℤ) (cost : ℕ) where
+  -- the place of the first tier that is reached, counted from 0; the tiers' count where none is
+  unfoldable pub placeReached : List WithdrawalTier → ℕ
+  placeReached [] = 0
+  placeReached (x ∷ xs) = cond (reached gain cost (x .edge)) 0 (suc (placeReached xs))
+
   -- what a function makes of the withdrawal there is what it makes of the first tier's that is reached
   pub place-withdrawal : (f : ℕ → ℕ) (otherwise : ℕ) (xs : List WithdrawalTier)
-      → cond (ltb (placeReached gain cost xs) (length xs)) (getD (map (λ (x : WithdrawalTier). f (x .withdrawal)) xs) (placeReached gain cost xs) 0)
+      → cond (ltb (placeReached xs) (length xs)) (getD (map (λ (x : WithdrawalTier). f (x .withdrawal)) xs) (placeReached xs) 0)
       (f otherwise)
       ≡ f (firstReached gain cost otherwise xs)
   unfolding placeReached firstReached
   place-withdrawal f otherwise [] = refl
-  place-withdrawal f otherwise (x ∷ xs) = by (reached gain cost (x .edge)) (placeReached gain cost xs) (place-withdrawal f otherwise xs)
+  place-withdrawal f otherwise (x ∷ xs) = by (reached gain cost (x .edge)) (placeReached xs) (place-withdrawal f otherwise xs)
     where
       fs : List ℕ
       fs = map (λ (y : WithdrawalTier). f (y .withdrawal)) xs

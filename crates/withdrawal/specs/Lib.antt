@@ -1,5 +1,6 @@
 pub mod Gain
 pub mod Tiers
 pub mod Survival
+pub mod Reached
 pub mod MonthSurvival
 pub mod Inner

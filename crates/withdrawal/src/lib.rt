@@ -1,19 +1,18 @@
 // Early withdrawal of certificate deposits (01:49-53): what survives a month.
-mod gain;
+pub mod gain;
 mod survival_figures;
 pub mod tiers;
 
+use crate::tiers::search;
 ghost use mathlib.Core.Path.{_≡_};
 ghost use mathlib.Core.Bool.{cond};
-ghost use Prim.Native.Nat.{suc, _-_, _≤_};
-ghost use Rattle.schedule.specs.Limits.{couponLimit, penaltyLimit, monthsLimit, withdrawalLimit};
-ghost use Rattle.schedule.specs.Shift.{shiftedLimit};
+ghost use Prim.Native.Nat.{suc, _≤_};
+ghost use Rattle.schedule.specs.Limits.{withdrawalLimit};
 ghost use Rattle.withdrawal.specs.Gain.{atMost};
 ghost use Rattle.withdrawal.specs.Survival as spec;
-ghost use Rattle.withdrawal.specs.Survival.{fullSurvival};
-ghost use Rattle.withdrawal.specs.MonthSurvival.{accountOf, monthSurvival};
-ghost use Rattle.withdrawal.specs.Inner.TierArrays.{tierTable, Usable, NoneUpTo};
-ghost use Rattle.withdrawal.specs.Inner.MonthPlaces.{monthPlace};
+ghost use Rattle.withdrawal.specs.Survival.{fullSurvival, survivalFigures};
+ghost use Rattle.withdrawal.specs.MonthSurvival.{accountOf, earlySurvival};
+ghost use Rattle.withdrawal.specs.Inner.TierArrays.{tierTable, tiersIn, Usable};
 ghost use Rattle.withdrawal.specs.Inner.Incentives.{gainOf, Small};
 
 // The most tiers of annual withdrawal.
@@ -34,6 +33,14 @@ pub struct WithdrawalTiers {
     pub retained: u64,
 }
 
+// What a coupon and a penalty make of an incentive, whatever the month: the gain's share that is earned at a rate of one in a month, what is forfeited, and
+// the cost of a month.
+pub struct CouponParts {
+    pub share: u64,
+    pub forfeited: u64,
+    pub cost: u64,
+}
+
 // The incentive to withdraw early: a gain of `earned` less `forfeited`, and the cost, on one scale.
 pub struct Incentive {
     pub earned: u64,
@@ -41,47 +48,39 @@ pub struct Incentive {
     pub cost: u64,
 }
 
-// q of a month in billionths, and the place of the tier that it comes from.
-pub struct MonthTier {
+// The tier that an incentive reaches: its annual withdrawal in thousandths, the survival of that in billionths, and how many edges were tried.
+pub struct ReachedTier {
+    pub withdrawal: u64,
     pub survival: u64,
-    pub tier: usize,
+    pub edges_tried: usize,
 }
 
-// q of a month of a term. Coupon and shifted retail rate are in hundredths of a percent a year, the penalty in hundredths of a month. The tiers
-// are tried from the place `from` on: as the months pass, the gain falls against the cost, and a tier that is not reached stays so.
-pub fn month_survival(
-    tiers: WithdrawalTiers,
+// q of a month before the term's end, in billionths: of retail money by the tiers, of brokered money by gain and cost alone.
+pub fn early_survival<'a>(
+    count: usize,
+    edges: &'a [u64; TIER_LIMIT],
+    withdrawals: &'a [u64; TIER_LIMIT],
+    survivals: &'a [u64; TIER_LIMIT],
+    otherwise: u64,
+    retained: u64,
     brokered: bool,
-    coupon: u64,
-    penalty: u64,
-    rate: u64,
-    months: u64,
-    month: u64,
-    from: usize,
-) -> MonthTier
-    requires { ⌜ Usable tiers × (from ≤ tiers .count) × NoneUpTo tiers coupon penalty rate (months - month) from ⌝ }
-    requires { ⌜ (coupon ≤ couponLimit) × (penalty ≤ penaltyLimit) × (rate ≤ shiftedLimit) × (months ≤ monthsLimit) ⌝ }
-    ensures { λ r. ⌜ r .survival ≡ monthSurvival (tierTable tiers) (accountOf brokered) coupon penalty rate months month ⌝ }
-    ensures { λ r. ⌜ (r .tier ≤ tiers .count) × NoneUpTo tiers coupon penalty rate (months - month) (r .tier) × (r .tier ≡ monthPlace (tierTable tiers) (accountOf brokered) coupon penalty rate months month from) ⌝ }
+    incentive: Incentive,
+) -> u64
+    requires { ⌜ Usable (tiersIn count (now edges) (now withdrawals) (now survivals) otherwise retained) × Small incentive ⌝ }
+    ensures { λ r. ⌜ r ≡ earlySurvival (tierTable (tiersIn count (now (edges .entry)) (now (withdrawals .entry)) (now (survivals .entry)) otherwise retained)) (accountOf brokered) (gainOf incentive) (incentive .cost) ⌝ }
 {
-    if months <= month {
-        return MonthTier {
-            survival: FULL_SURVIVAL,
-            tier: from,
-        };
-    }
-    let incentive = gain::gain_and_cost(coupon, penalty, rate, months - month);
     if brokered {
-        return MonthTier {
-            survival: brokered_survival(incentive),
-            tier: from,
-        };
+        return brokered_survival(incentive);
     }
-    let tier = tiers::first_reached(tiers, incentive, from);
-    MonthTier {
-        survival: tiers::tier_survival(tiers, tier),
-        tier,
-    }
+    search(
+        count,
+        edges,
+        withdrawals,
+        survivals,
+        otherwise,
+        retained,
+        incentive,
+    ).survival
 }
 
 // q of brokered money before the term's end, in billionths: it is withdrawn whole where the gain is above the cost.
@@ -96,10 +95,17 @@ fn brokered_survival(incentive: Incentive) -> u64
     }
 }
 
-// q of an annual withdrawal of w thousandths, in billionths.
-pub(crate) fn survival(w: u64) -> u64
-    requires { ⌜ w ≤ withdrawalLimit ⌝ }
+// q of an annual withdrawal of w thousandths in billionths, from the figures, which the caller reads once.
+pub(crate) fn survival(figures: &[u64; 601], w: u64) -> u64
+    requires { ⌜ (now figures ≡ survivalFigures) × (w ≤ withdrawalLimit) ⌝ }
     ensures { λ r. ⌜ r ≡ spec.survival w ⌝ }
 {
-    survival_figures::SURVIVAL[w as usize]
+    figures[w as usize]
+}
+
+// All survival figures.
+pub(crate) fn all_survivals() -> [u64; 601]
+    ensures { λ r. ⌜ r ≡ survivalFigures ⌝ }
+{
+    survival_figures::SURVIVAL
 }

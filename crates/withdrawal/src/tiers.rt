@@ -1,41 +1,63 @@
 // Tiers of annual withdrawal, tried from the highest edge.
 use crate::Incentive;
+use crate::ReachedTier;
 use crate::TIER_LIMIT;
 use crate::WithdrawalTiers;
+use crate::all_survivals;
+use crate::survival;
 ghost use mathlib.Core.Path.{_≡_};
 ghost use Prim.Native.Nat.{_≤_};
 ghost use Rattle.schedule.specs.Limits.{edgeLimit};
 ghost use Rattle.withdrawal.specs.Tiers.{reached, houseTiers};
-ghost use Rattle.withdrawal.specs.Inner.TierArrays.{tierTable, withSurvivals, tierSurvival, placeReached, TiersFit, Usable, NoneBefore};
+ghost use Rattle.withdrawal.specs.Reached.{reachedTier};
+ghost use Rattle.withdrawal.specs.Inner.TierArrays.{tierTable, tiersIn, withSurvivals, TiersFit, Usable};
 ghost use Rattle.withdrawal.specs.Inner.Incentives.{gainOf, Small};
 
-// The place of the first tier whose edge is reached, or their count where none is. No tier before `from` is reached.
-pub(crate) fn first_reached(tiers: WithdrawalTiers, incentive: Incentive, from: usize) -> usize
-    requires { ⌜ Usable tiers × Small incentive × (from ≤ tiers .count) ⌝ }
-    requires { ⌜ NoneBefore tiers (gainOf incentive) (incentive .cost) from ⌝ }
-    ensures { λ r. ⌜ r ≡ placeReached (gainOf incentive) (incentive .cost) (tierTable tiers .tiers) ⌝ }
+// The tier that an incentive reaches among given tiers.
+pub fn reached_tier(tiers: WithdrawalTiers, incentive: Incentive) -> ReachedTier
+    requires { ⌜ Usable tiers × Small incentive ⌝ }
+    ensures { λ r. ⌜ r ≡ reachedTier (tierTable tiers) (gainOf incentive) (incentive .cost) ⌝ }
 {
-    let count = tiers.count;
-    let mut i = from;
-    while i < count {
-        if reaches(incentive, tiers.edges[i]) {
-            return i;
-        }
-        i += 1;
-    }
-    i
+    search(
+        tiers.count,
+        &tiers.edges,
+        &tiers.withdrawals,
+        &tiers.survivals,
+        tiers.otherwise,
+        tiers.retained,
+        incentive,
+    )
 }
 
-// The survival of the tier at a place in billionths, or of the withdrawal where no edge is reached.
-pub(crate) fn tier_survival(tiers: WithdrawalTiers, i: usize) -> u64
-    requires { ⌜ Usable tiers ⌝ }
-    ensures { λ r. ⌜ r ≡ tierSurvival tiers i ⌝ }
+// The search in tiers whose arrays are lent: the highest edge is tried first, and it ends at the first that is reached.
+pub(crate) fn search<'a>(
+    count: usize,
+    edges: &'a [u64; TIER_LIMIT],
+    withdrawals: &'a [u64; TIER_LIMIT],
+    survivals: &'a [u64; TIER_LIMIT],
+    otherwise: u64,
+    retained: u64,
+    incentive: Incentive,
+) -> ReachedTier
+    requires { ⌜ Usable (tiersIn count (now edges) (now withdrawals) (now survivals) otherwise retained) × Small incentive ⌝ }
+    ensures { λ r. ⌜ r ≡ reachedTier (tierTable (tiersIn count (now (edges .entry)) (now (withdrawals .entry)) (now (survivals .entry)) otherwise retained)) (gainOf incentive) (incentive .cost) ⌝ }
 {
-    let count = tiers.count;
-    if i < count {
-        tiers.survivals[i]
-    } else {
-        tiers.retained
+    let mut tried: usize = 0;
+    while tried < count {
+        let at = tried;
+        tried += 1;
+        if reaches(incentive, edges[at]) {
+            return ReachedTier {
+                withdrawal: withdrawals[at],
+                survival: survivals[at],
+                edges_tried: tried,
+            };
+        }
+    }
+    ReachedTier {
+        withdrawal: otherwise,
+        survival: retained,
+        edges_tried: count,
     }
 }
 
@@ -56,7 +78,7 @@ pub fn house() -> WithdrawalTiers
     with_survivals(6, edges, withdrawals, 40)
 }
 
-// Tiers with the survival of each withdrawal beside it: the table of survivals is read once for each tier, not once for each month.
+// Tiers with the survival of each withdrawal beside it: the table of survivals is read here, not in each month.
 pub fn with_survivals(
     count: usize,
     edges: [u64; TIER_LIMIT],
@@ -66,10 +88,11 @@ pub fn with_survivals(
     requires { ⌜ TiersFit count edges withdrawals otherwise ⌝ }
     ensures { λ r. ⌜ r ≡ withSurvivals count edges withdrawals otherwise ⌝ }
 {
+    let figures = all_survivals();
     let mut survivals = [0u64; TIER_LIMIT];
     let mut i: usize = 0;
     while i < count {
-        survivals[i] = crate::survival(withdrawals[i]);
+        survivals[i] = survival(&figures, withdrawals[i]);
         i += 1;
     }
     WithdrawalTiers {
@@ -78,6 +101,6 @@ pub fn with_survivals(
         withdrawals,
         survivals,
         otherwise,
-        retained: crate::survival(otherwise),
+        retained: survival(&figures, otherwise),
     }
 }

@@ -2,23 +2,23 @@
 use Prim.Native.Nat.{ℕ, _*_}
 use mathlib.Core.List.{List, [], _∷_}
 use Rattle.lists.specs.Tables.{table, joined}
-use Rattle.schedule.specs.Shift.{shiftedRate, scenarioCount}
+use Rattle.schedule.specs.Shift.{scenarioCount}
 use Rattle.withdrawal.specs.Tiers.{TierTable}
 use Rattle.pricing.specs.Scales.{valueScale}
 use Rattle.pricing.specs.Rounding.{Rounding, down, up, quotient}
 use Rattle.deposits.specs.declared.Deposit.{Deposit}
-use Rattle.deposits.specs.Inner.Prices.{listedPrice}
+use Rattle.deposits.specs.Inner.Prices.{listedPrice, shiftedPath}
 
--- the value of a balance in thousands of dollars at a rounding, at the scenario's retail rate
-unfoldable pub listedValue : Rounding → TierTable → ℕ → Deposit → ℕ → List ℕ → ℕ → ℕ
+-- the value of a balance in thousands of dollars at a rounding, at the scenario's retail rates
+unfoldable pub listedValue : Rounding → TierTable → ℕ → Deposit → (ℕ → ℕ) → List ℕ → ℕ → ℕ
 listedValue ρ tiers balance d rate factors scenario = quotient ρ (balance * listedPrice ρ tiers d rate factors scenario) valueScale
 
 -- lower value by lower factors, upper value by upper factors
-unfoldable pub valueBounds : TierTable → ℕ → Deposit → ℕ → List ℕ → List ℕ → ℕ → List ℕ
+unfoldable pub valueBounds : TierTable → ℕ → Deposit → (ℕ → ℕ) → List ℕ → List ℕ → ℕ → List ℕ
 valueBounds tiers balance d rate lower upper scenario =
     listedValue down tiers balance d rate lower scenario ∷ listedValue up tiers balance d rate upper scenario ∷ []
 
--- lower and upper value in each scenario, at a retail rate that is shifted for each
-unfoldable pub listedValues : TierTable → ℕ → Deposit → ℕ → List ℕ → List ℕ → List ℕ
-listedValues tiers balance d rate lower upper =
-    joined (table scenarioCount (λ (s : ℕ). valueBounds tiers balance d (shiftedRate s rate) lower upper s))
+-- lower and upper value in each scenario, at the retail rates of a column's months, which are shifted for each
+unfoldable pub listedValues : TierTable → ℕ → Deposit → List ℕ → ℕ → List ℕ → List ℕ → List ℕ
+listedValues tiers balance d rates column lower upper =
+    joined (table scenarioCount (λ (s : ℕ). valueBounds tiers balance d (shiftedPath s rates column) lower upper s))

@@ -1,18 +1,13 @@
 -- The fifteen numbers of a place from what it holds, with discount factors from lists (01:60-61). Definitions only.
-use Prim.Native.Nat.{ℕ, _-_}
+use Prim.Native.Nat.{ℕ}
 use mathlib.Core.List.{List, _∷_}
-use lib.ListN.{getD}
 use Rattle.shares.specs.declared.SubBalance.{SubBalance}
 use Rattle.shares.specs.SubBalances.{positionOf}
 use Rattle.withdrawal.specs.Tiers.{TierTable}
 use Rattle.deposits.specs.Inner.Values.{listedValues}
 use Rattle.place_values.specs.PlaceTerms.{depositAt}
 
--- the retail rate of a place's column, among the rates of the three columns, hundredths of a percent a year
-unfoldable pub rateIn : List ℕ → ℕ → ℕ
-rateIn rates place = getD rates (positionOf place .column - 1) 0
-
 -- the balance of what a place holds, then lower and upper value in each scenario
 unfoldable pub rowOf : SubBalance → ℕ → List ℕ → List ℕ → TierTable → List ℕ → List ℕ → List ℕ
 rowOf held place cells rates tiers lower upper =
-    held .balance ∷ listedValues tiers (held .balance) (depositAt cells place held) (rateIn rates place) lower upper
+    held .balance ∷ listedValues tiers (held .balance) (depositAt cells place held) rates (positionOf place .column) lower upper

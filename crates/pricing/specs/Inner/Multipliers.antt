@@ -1,26 +1,28 @@
--- Discount factors of seven rates in step, each division by 120,000 + z as a multiplication and a division by 2^47. Definitions only.
+-- Discount factors of seven rates in step, each division by 120,000 + z as a multiplication and a division by 2^63. Definitions only.
 -- Rates, CD yields, are in hundredths of a percent a year, discount factors in billionths.
-use Prim.Native.Nat.{ℕ, _+_, _*_, _^_, _≤_}
+use Prim.Native.Nat.{ℕ, suc, _+_, _*_, _-_, _/_, _^_, _≤_}
 use mathlib.Core.List.{List}
 use lib.ListN.{getD}
 use Rattle.lists.specs.Tables.{table}
 use Rattle.schedule.specs.Shift.{scenarioCount}
 use Rattle.pricing.specs.Scales.{rateScale}
-use Rattle.pricing.specs.Rounding.{Rounding, down, up, quotient}
+use Rattle.pricing.specs.Rounding.{Rounding, down, up}
 use Rattle.pricing.specs.Run.{discountBy}
 
 -- the scale of multipliers
 abbrev pub multiplierScale : ℕ
-multiplierScale = 2 ^ 47
+multiplierScale = 2 ^ 63
 
--- 120,000 / (120,000 + z) in units of 1 / 2^47: rounded up for the lower factors, down for the upper ones
+-- 120,000 / (120,000 + z) in units of 1 / 2^63, as 60,000 × 2^64 / (120,000 + z) with the quotient rounded: not too low for the lower factors, too low for the
+-- upper ones, by at most 60,000
 unfoldable pub multiplierBy : Rounding → ℕ → ℕ
-multiplierBy down z = quotient up (rateScale * multiplierScale) (rateScale + z)
-multiplierBy up z = quotient down (rateScale * multiplierScale) (rateScale + z)
+multiplierBy down z = 60000 * suc ((2 ^ 64 - 1) / (rateScale + z))
+multiplierBy up z = 60000 * ((2 ^ 64 - 1) / (rateScale + z))
 
--- a factor times a multiplier
+-- a factor times a multiplier: 1 more than the floor for the upper factors, since their multipliers are too low
 unfoldable pub scaledBy : Rounding → ℕ → ℕ → ℕ
-scaledBy ρ x m = quotient ρ (x * m) multiplierScale
+scaledBy down x m = x * m / multiplierScale
+scaledBy up x m = suc (x * m / multiplierScale)
 
 -- the multipliers of seven rates
 unfoldable pub multipliersBy : Rounding → List ℕ → List ℕ

@@ -1,20 +1,17 @@
--- `withdrawal::survival` meets its contract: the power rule is tested over all 601 entries at once. Assumes nothing.
-use Prim.Native.Nat.{_<_}
+-- `withdrawal::survival` meets its contract. Assumes nothing.
 use borrow.Author.Needs.{needs}
-use Rattle.withdrawal.specs.Survival.{survives}
-use Rattle.withdrawal.proofs.SurvivalLaws.{isSurvival, table-survival}
+use Rattle.withdrawal.proofs.SurvivalLaws.{figure-at}
 use Rattle.withdrawal.proofs.survival.Statement.{statement}
 use Rattle.withdrawal.proofs.survival.Tie as tie
 
 mul-result : tie.Need-mul-result
 mul-result c = search needs
 
-array-read-result : tie.Need-array-read-result
-array-read-result c = search needs
+element-copy-out-result : tie.Need-element-copy-out-result
+element-copy-out-result c = search needs
 
 returns : tie.Need-returns
-unfolding isSurvival survives
-returns c = let h : c .args .w < 601 = search needs in rw table-survival
+returns c = rw (c .before .pre .0) (figure-at _ (c .before .pre .1))
 
 pub survival-spec : {M : Type 1} → statement M
-survival-spec = tie.close (tie.spec mul-result array-read-result returns)
+survival-spec = tie.close (tie.spec mul-result element-copy-out-result returns)

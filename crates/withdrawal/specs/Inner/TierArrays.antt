@@ -1,16 +1,12 @@
--- The tiers that the code's arrays hold, and the place of the one that is reached. Definitions only.
-use Prim.Native.Nat.{ℕ, suc, _≤_, _<_}
+-- The tiers that the code's arrays hold. Definitions only.
+use Prim.Native.Nat.{ℕ, _≤_}
 use mathlib.Core.Path.{_≡_}
-use mathlib.Core.Bool.{false, cond}
-use mathlib.Core.List.{List, [], _∷_, _++_, map}
-use lib.Dec.{ltb}
-use lib.IntN.{ℤ}
+use mathlib.Core.List.{List, _++_, map}
 use lib.ListN.{length, getD, drop, replicate}
 use Rattle.lists.specs.Tables.{table}
 use Rattle.withdrawal.specs.declared.WithdrawalTiers.{WithdrawalTiers}
-use Rattle.withdrawal.specs.Gain as of
 use Rattle.schedule.specs.Limits.{tierLimit, edgeLimit, withdrawalLimit}
-use Rattle.withdrawal.specs.Tiers.{WithdrawalTier, TierTable, tier, reached}
+use Rattle.withdrawal.specs.Tiers.{WithdrawalTier, TierTable, Falling, tier}
 use Rattle.withdrawal.specs.Survival.{survival}
 
 -- tiers of which the first `count` places of two arrays have edge and withdrawal, highest edge first
@@ -57,25 +53,21 @@ pub record TiersFit (count : ℕ) (edges withdrawals : List ℕ) (otherwise : �
   pub withdrawal-le : (i : ℕ) → getD withdrawals i 0 ≤ withdrawalLimit
   pub otherwise-le : otherwise ≤ withdrawalLimit
 
--- tiers that a month's survival can be read from: the arrays hold them and nothing else
+-- tiers that can be searched: the arrays hold them and nothing else, and their edges fall
 pub record Usable (t : WithdrawalTiers) : Type 0 where
   pub count-le : t .count ≤ tierLimit
   pub edge-le : (i : ℕ) → getD (t .edges) i 0 ≤ edgeLimit
   pub held-is : t ≡ held (tierTable t)
+  pub falling : Falling (tierTable t .tiers)
 
--- the place of the first tier that is reached by a gain and a cost, counted from 0; the tiers' count where none is
-unfoldable pub placeReached : ℤ → ℕ → List WithdrawalTier → ℕ
-placeReached gain cost [] = 0
-placeReached gain cost (x ∷ xs) = cond (reached gain cost (x .edge)) 0 (suc (placeReached gain cost xs))
-
--- no tier before place n is reached by a gain and a cost
-abbrev pub NoneBefore : WithdrawalTiers → ℤ → ℕ → ℕ → Type 0
-NoneBefore t gain cost n = (j : ℕ) → j < n → reached gain cost (getD (t .edges) j 0) ≡ false
-
--- nor by those of a coupon c, a penalty p and a retail rate r with 1 to `left` months left
-abbrev pub NoneUpTo : WithdrawalTiers → ℕ → ℕ → ℕ → ℕ → ℕ → Type 0
-NoneUpTo t c p r left n = (m : ℕ) → 1 ≤ m → m ≤ left → NoneBefore t (of.gain c p r m) (of.cost c m) n
-
--- the survival of the tier at a place, or of the withdrawal where no edge is reached, billionths
-unfoldable pub tierSurvival : WithdrawalTiers → ℕ → ℕ
-tierSurvival t i = cond (ltb i (t .count)) (getD (t .survivals) i 0) (t .retained)
+-- the tiers that arrays and numbers apart hold
+abbrev pub tiersIn : (count : ℕ) (edges withdrawals survivals : List ℕ) (otherwise retained : ℕ) → WithdrawalTiers
+tiersIn count edges withdrawals survivals otherwise retained =
+    record {
+      count = count;
+      edges = edges;
+      withdrawals = withdrawals;
+      survivals = survivals;
+      otherwise = otherwise;
+      retained = retained;
+    }

@@ -1,7 +1,7 @@
 -- `deposits::values::value_bounds` meets its contract. Assumes nothing.
 use Rattle.withdrawal.specs.Inner.TierArrays.{tierTable}
 use Rattle.pricing.specs.Rounding.{down, up, roundingOf}
-use Rattle.deposits.specs.Inner.Prices.{listedPrices}
+use Rattle.deposits.specs.Inner.Prices.{listedPrices, shiftedPath}
 use Rattle.deposits.specs.Inner.Values.{listedValue, valueBounds}
 use Rattle.deposits.proofs.PriceLaws.{listed-price-limit}
 use borrow.Author.Needs.{needs}
@@ -17,7 +17,7 @@ value-of-requires c κs =
     let start = c .before in
     let a = start .args in (
       start .pre .0 .0,
-      rw (c .price-of .ensures) (listed-price-limit down (tierTable (a .tiers)) (a .d) (a .rate) (a .lower .now) _ (start .pre .0 .1)
+      rw (c .price-of .ensures) (listed-price-limit down (tierTable (a .tiers)) (a .d) (shiftedPath (a .scenario) (a .rates .now) (a .column)) (a .lower .now) _ (start .pre .0 .1)
           (start .pre .1 .0)),
     )
 
@@ -27,7 +27,7 @@ value-of-requires-2 c κs =
     let start = c .before .before in
     let a = start .args in (
       start .pre .0 .0,
-      rw (c .before .price-of .ensures) (listed-price-limit up (tierTable (a .tiers)) (a .d) (a .rate) (a .upper .now) _ (start .pre .0 .1)
+      rw (c .before .price-of .ensures) (listed-price-limit up (tierTable (a .tiers)) (a .d) (shiftedPath (a .scenario) (a .rates .now) (a .column)) (a .upper .now) _ (start .pre .0 .1)
           (start .pre .1 .1)),
     )
 

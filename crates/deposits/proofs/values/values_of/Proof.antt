@@ -6,45 +6,33 @@ use native.Mathlib.Omega.{arith}
 use lib.ListN.{replicate}
 use Rattle.lists.specs.Tables.{tableFrom, table, joined}
 use Rattle.lists.proofs.RunLaws.{Overwritten, overwritten-none, overwritten-row, overwritten-all}
-use Rattle.schedule.specs.Shift.{shiftedRate}
-use Rattle.schedule.proofs.ShiftLaws.{shifted-rates-le}
 use Rattle.withdrawal.specs.Inner.TierArrays.{tierTable}
+use Rattle.deposits.specs.Inner.Prices.{shiftedPath}
 use Rattle.deposits.specs.Inner.Values.{valueBounds, listedValues}
-use Rattle.deposits.proofs.FactorLaws.{shifted-at}
 use Rattle.deposits.proofs.ValueLaws.{bounds-length, no-values}
 use Rattle.deposits.proofs.values.values_of.Statement.{statement}
 use Rattle.deposits.proofs.values.values_of.Tie as tie
 
 abbrev Inv-loop : tie.InvT-loop
-Inv-loop balance d rate tiers lower upper values₀ rates scenario₀ values scenario =
-    (scenario ≤ 7) × Overwritten (joined (table scenario (λ (s : ℕ). valueBounds (tierTable tiers) balance d (shiftedRate s rate) lower upper s))) (2 * scenario)
+Inv-loop balance d rates column tiers lower upper values₀ scenario₀ values scenario =
+    (scenario ≤ 7) × Overwritten (joined (table scenario (λ (s : ℕ). valueBounds (tierTable tiers) balance d (shiftedPath s rates column) lower upper s))) (2 * scenario)
     (replicate 14 0) values
 
 abbrev μ-loop : tie.MeasureT-loop
-μ-loop balance d rate tiers lower upper values₀ rates scenario₀ values scenario = 7 - scenario
+μ-loop balance d rates column tiers lower upper values₀ scenario₀ values scenario = 7 - scenario
 
 returns : tie.Need-returns Inv-loop μ-loop
-returns c = rw (c .if1 .taken) (no-values _ _ _ _ _)
-
-shifted-rates-requires : tie.Need-shifted-rates-requires Inv-loop μ-loop
-shifted-rates-requires c κs = tt
+returns c = rw (c .if1 .taken) (no-values _ _ _ _ _ _)
 
 loop-holds : tie.Need-loop-holds Inv-loop μ-loop
 unfolding tableFrom joined
 loop-holds c = (omega arith, overwritten-none _)
 
-mul-value-bounds : tie.Need-mul-value-bounds Inv-loop μ-loop
-mul-value-bounds c = omega arith
-
-array-read-value-bounds : tie.Need-array-read-value-bounds Inv-loop μ-loop
-array-read-value-bounds c = omega arith
-
 value-bounds-requires : tie.Need-value-bounds-requires Inv-loop μ-loop
 value-bounds-requires c κs =
-    let start = c .before .before .before .before in
+    let start = c .before .before .before in
     let limits = start .pre .0 in
-    let rate-le = shifted-rates-le (start .args .rate) (limits .2) (c .before .loop .scenario) in
-    ((limits .0, limits .1, rw (c .before .before .shifted-rates .ensures) rate-le, limits .3, omega arith), start .pre .1)
+    ((limits .0, limits .1, limits .2, limits .3, omega arith), start .pre .1)
 
 slice-aggregate-write : tie.Need-slice-aggregate-write Inv-loop μ-loop
 slice-aggregate-write c = omega arith
@@ -68,14 +56,13 @@ loop-again : tie.Need-loop-again Inv-loop μ-loop
 loop-again c =
     let bounds = c .before .before .before .before in
     let at = bounds .before .before in
-    let a = at .before .before .before .args in
-    let state = at .loop in
-    let rate = shifted-at (a .rate) (state .scenario) (omega arith) in (
+    let a = at .before .before .args in
+    let state = at .loop in (
       omega arith,
       rw (c .before .write .ensures)
-          (overwritten-row [] (λ (s : ℕ). valueBounds (tierTable (a .tiers)) (a .balance) (a .d) (shiftedRate s (a .rate)) (a .lower .now) (a .upper .now) s) 2
+          (overwritten-row [] (λ (s : ℕ). valueBounds (tierTable (a .tiers)) (a .balance) (a .d) (shiftedPath s (a .rates .now) (a .column)) (a .lower .now) (a .upper .now) s) 2
           (λ s. bounds-length _ _ _ _ _ _ s) (state .scenario) (2 * state .scenario) (2 * (state .scenario + 1)) (replicate 14 0) (state .values)
-          (bounds .value-bounds .result) (state .inv .1) (rw (at .before .shifted-rates .ensures, rate) at (bounds .value-bounds .ensures)) (omega arith) (omega arith)),
+          (bounds .value-bounds .result) (state .inv .1) (bounds .value-bounds .ensures) (omega arith) (omega arith)),
     )
 
 returns-2 : tie.Need-returns-2 Inv-loop μ-loop
@@ -91,10 +78,7 @@ values-of-spec =
     Inv-loop
     μ-loop
     returns
-    shifted-rates-requires
     loop-holds
-    mul-value-bounds
-    array-read-value-bounds
     value-bounds-requires
     slice-aggregate-write
     mul-write

@@ -11,6 +11,7 @@ use Rattle.withdrawal.proofs.HeldLaws.{places-le, placed-table, placed-usable}
 use Rattle.filing.specs.declared.FiledTiers.{FiledTiers}
 use Rattle.place_values.specs.PlaceTerms.{ownTiers, tiersOf}
 use Rattle.place_values.specs.Inner.FiledLimits.{FiledLimits}
+use Rattle.place_values.proofs.FilingTierLaws.{own-falling}
 use borrow.Author.Needs.{needs}
 use Rattle.place_values.proofs.filing_tiers.tiers_of.Statement.{statement}
 use Rattle.place_values.proofs.filing_tiers.tiers_of.Tie as tie
@@ -66,7 +67,8 @@ returns-2 c =
     rw (c .with-survivals .ensures, edges .from-the-top .ensures .0, withdrawals .from-the-top2 .ensures .0, c .before .wide .ensures .0, ne-eqb _ 0 (edges .before .before .before .if1 .left)) (
       placed-table count (getD (filed .withdrawals) 0 0) (λ (i : ℕ). getD (filed .edges) (count - 1 - i) 0) (λ (i : ℕ). getD (filed .withdrawals) (count - 1 - i) 0),
       placed-usable count (getD (filed .withdrawals) 0 0) (λ (i : ℕ). getD (filed .edges) (count - 1 - i) 0) (λ (i : ℕ). getD (filed .withdrawals) (count - 1 - i) 0)
-          (fit filed (start .pre) _ _ _ (rw (edges .from-the-top .ensures .0) at (edges .from-the-top .ensures .1)) refl refl),
+          (fit filed (start .pre) _ _ _ (rw (edges .from-the-top .ensures .0) at (edges .from-the-top .ensures .1)) refl refl)
+          (own-falling filed (start .pre)),
     )
 
 pub tiers-of-spec : {M : Type 1} → statement M

@@ -5,7 +5,7 @@ use native.Mathlib.Numerals.{add-one}
 use native.Mathlib.Omega.{arith}
 use Rattle.pricing.specs.Rounding.{roundingOf}
 use Rattle.pricing.specs.Inner.Multipliers.{discountsBy}
-use Rattle.pricing.proofs.MultiplierLaws.{multipliers-at-most, discounts-at-most, discounts-zero, discounts-suc}
+use Rattle.pricing.proofs.MultiplierLaws.{discounts-at-most, discounts-zero, discounts-suc}
 use Rattle.pricing.proofs.discounting.discount_factors.Statement.{statement}
 use Rattle.pricing.proofs.discounting.discount_factors.Tie as tie
 
@@ -22,10 +22,7 @@ loop-holds : tie.Need-loop-holds Inv-loop μ-loop
 loop-holds c = (omega arith, discounts-zero (roundingOf (c .before .args .up)) (c .before .args .rates .now))
 
 next-factors-requires : tie.Need-next-factors-requires Inv-loop μ-loop
-next-factors-requires c κs = (
-  rw (c .before .before .before .loop .inv .1) (discounts-at-most _ _ _),
-  rw (c .before .before .before .before .multipliers-of .ensures) (multipliers-at-most _ _),
-)
+next-factors-requires c κs = rw (c .before .before .before .loop .inv .1) (discounts-at-most _ _ _)
 
 add-counter : tie.Need-add-counter Inv-loop μ-loop
 add-counter c = omega arith

@@ -1,28 +1,42 @@
 -- `pricing::discounting::multiplier` meets its contract. Assumes nothing.
-use Prim.Native.Nat.{ℕ, _+_, _*_}
-use mathlib.Core.Path.{_≡_, refl, _∙_}
-use mathlib.Core.Bool.{Bool, true, false, not}
-use borrow.Author.Needs.{needs}
+use Prim.Native.Nat.{_+_, _*_, _-_, _/_, _^_, _≤_}
+use native.Mathlib.Nat.{div-mul-le-self}
+use native.Mathlib.Numerals.{add-one}
+use native.Mathlib.Omega.{arith}
 use Rattle.pricing.specs.Scales.{rateScale}
-use Rattle.pricing.specs.Rounding.{quotient, roundingOf}
-use Rattle.pricing.specs.Inner.Multipliers.{multiplierScale, multiplierBy}
+use Rattle.pricing.specs.Rounding.{roundingOf}
+use Rattle.pricing.specs.Inner.Multipliers.{multiplierBy}
+use borrow.Author.Needs.{needs}
 use Rattle.pricing.proofs.discounting.multiplier.Statement.{statement}
 use Rattle.pricing.proofs.discounting.multiplier.Tie as tie
 
--- the multiplier is rounded to the other side
-other-side : (up : Bool) (rate : ℕ) → quotient (roundingOf (not up)) (rateScale * multiplierScale) (rateScale + rate) ≡ multiplierBy (roundingOf up) rate
-unfolding multiplierBy roundingOf
-other-side true rate = refl
-other-side false rate = refl
+add-part : tie.Need-add-part
+add-part c = search needs
 
-add-quotient : tie.Need-add-quotient
-add-quotient c = search needs
+div-part : tie.Need-div-part
+div-part c = search needs
 
-quotient-requires : tie.Need-quotient-requires
-quotient-requires c κs = search needs
+-- 120,000 parts are below 2^64
+part-le : (c : tie.Start) → 120000 * ((2 ^ 64 - 1) / (rateScale + c .args .rate)) ≤ 2 ^ 64 - 1
+part-le c = omega (arith, div-mul-le-self (2 ^ 64 - 1) (rateScale + c .args .rate))
+
+mul-result : tie.Need-mul-result
+mul-result c = omega (arith, part-le (c .before))
+
+add-result : tie.Need-add-result
+add-result c = omega (arith, part-le (c .before))
+
+mul-result-2 : tie.Need-mul-result-2
+mul-result-2 c = omega (arith, part-le (c .before))
 
 returns : tie.Need-returns
-returns c = c .quotient .ensures ∙ other-side (c .before .args .up) (c .before .args .rate)
+unfolding multiplierBy roundingOf
+returns c = simp (c .if1 .taken)
+
+returns-2 : tie.Need-returns-2
+unfolding multiplierBy roundingOf
+returns-2 c = simp (c .if1 .left, add-one)
 
 pub multiplier-spec : {M : Type 1} → statement M
-multiplier-spec = tie.close (tie.spec add-quotient quotient-requires returns)
+multiplier-spec =
+    tie.close (tie.spec add-part div-part mul-result add-result mul-result-2 returns returns-2)

@@ -34,7 +34,7 @@ element-copy-out-next-factor-2 c = omega arith
 next-factor-requires : tie.Need-next-factor-requires Inv-loop μ-loop
 next-factor-requires c κs =
     let start = c .before .before .before .before in
-    (start .pre .0 (c .before .before .before .loop .i), start .pre .1 (c .before .before .before .loop .i))
+    start .pre (c .before .before .before .loop .i)
 
 mul-next : tie.Need-mul-next Inv-loop μ-loop
 mul-next c = omega arith

@@ -9,8 +9,9 @@ use Rattle.lists.proofs.RunLaws.{Overwritten, overwritten-none, overwritten-row
 use Rattle.pricing.specs.Rounding.{roundingOf}
 use Rattle.valuation.specs.Numbers.{placeNumbers}
 use Rattle.place_values.specs.Inner.LongestTerm.{longestTerm}
+use Rattle.place_values.proofs.FilingTierLaws.{filed-limits}
 use Rattle.valuation.proofs.NumberLaws.{row-length}
-use Rattle.valuation.proofs.RowLaws.{Prepared, yields-within, rate-within, held-limits, factors-limits, row-is}
+use Rattle.valuation.proofs.RowLaws.{Prepared, yields-within, rates-within, held-limits, factors-limits, row-is}
 use Rattle.valuation.proofs.filing_numbers.write_rows.Statement.{statement}
 use Rattle.valuation.proofs.filing_numbers.write_rows.Tie as tie
 
@@ -22,9 +23,7 @@ abbrev μ-loop : tie.MeasureT-loop
 μ-loop list₀ k cells tiers places longest lower upper place₀ list place = 36 - place
 
 tiers-of-requires : tie.Need-tiers-of-requires Inv-loop μ-loop
-tiers-of-requires c κs =
-    let valid = c .before .before .before .pre .0 in
-    record { count-le = valid .tier-count-limit; withdrawal-le = valid .withdrawal-limit }
+tiers-of-requires c κs = filed-limits _ (c .before .before .before .pre .0)
 
 places-of-requires : tie.Need-places-of-requires Inv-loop μ-loop
 places-of-requires c κs = c .before .before .before .before .pre .0
@@ -77,7 +76,7 @@ row-of-requires c κs =
     let prepared = state .inv .2 in
     let held = held-limits _ _ _ _ _ prepared (state .place) (omega arith) in
     let factors = factors-limits _ _ _ _ _ prepared in
-    ((omega arith, held .0, held .1), (rate-within _ (prepared .valid) (state .place), prepared .usable, factors .0, factors .1))
+    ((omega arith, held .0, held .1), (rates-within _ (prepared .valid), prepared .usable, factors .0, factors .1))
 
 mul-write : tie.Need-mul-write Inv-loop μ-loop
 mul-write c = omega arith

@@ -3,6 +3,7 @@ use mathlib.Core.Path.{refl}
 use Rattle.lists.specs.Tables.{tableFrom}
 use Rattle.withdrawal.specs.Tiers.{tier, houseTiers}
 use Rattle.withdrawal.specs.Inner.TierArrays.{tierTable, tierTableOf, withSurvivals, inPlaces, held}
+use Rattle.withdrawal.proofs.FallingLaws.{house-falling}
 use Rattle.withdrawal.proofs.HeldLaws.{tiers-fit-of-tests, fit-usable}
 use Rattle.withdrawal.proofs.tiers.house.Statement.{statement}
 use Rattle.withdrawal.proofs.tiers.house.Tie as tie
@@ -12,7 +13,7 @@ with-survivals-requires c κs = tiers-fit-of-tests _ _ _ _ tt tt tt tt
 
 returns : tie.Need-returns
 unfolding houseTiers tier tierTable tierTableOf withSurvivals inPlaces held tableFrom
-returns c = rw (c .with-survivals .ensures) (refl, fit-usable _ _ _ _ (tiers-fit-of-tests _ _ _ _ tt tt tt tt) refl)
+returns c = rw (c .with-survivals .ensures) (refl, fit-usable _ _ _ _ (tiers-fit-of-tests _ _ _ _ tt tt tt tt) refl house-falling)
 
 pub house-spec : {M : Type 1} → statement M
 house-spec = tie.close (tie.spec with-survivals-requires returns)

@@ -12,10 +12,13 @@ use Rattle.withdrawal.proofs.tiers.with_survivals.Statement.{statement}
 use Rattle.withdrawal.proofs.tiers.with_survivals.Tie as tie
 
 abbrev Inv-loop : tie.InvT-loop
-Inv-loop count edges otherwise withdrawals survivals₀ i₀ survivals i = (i ≤ count) × Stored (λ (j : ℕ). survival (getD withdrawals j 0)) i survivals
+Inv-loop count edges otherwise withdrawals figures survivals₀ i₀ survivals i = (i ≤ count) × Stored (λ (j : ℕ). survival (getD withdrawals j 0)) i survivals
 
 abbrev μ-loop : tie.MeasureT-loop
-μ-loop count edges otherwise withdrawals survivals₀ i₀ survivals i = count - i
+μ-loop count edges otherwise withdrawals figures survivals₀ i₀ survivals i = count - i
+
+all-survivals-requires : tie.Need-all-survivals-requires Inv-loop μ-loop
+all-survivals-requires c κs = tt
 
 loop-holds : tie.Need-loop-holds Inv-loop μ-loop
 loop-holds c = (search needs, stored-none _)
@@ -27,7 +30,9 @@ array-read-survival : tie.Need-array-read-survival Inv-loop μ-loop
 array-read-survival c = search needs
 
 survival-requires : tie.Need-survival-requires Inv-loop μ-loop
-survival-requires c κs = c .before .before .pre .withdrawal-le (c .before .loop .i)
+survival-requires c κs =
+    let at = c .before .before in
+    (at .before .all-survivals .ensures, at .before .before .pre .withdrawal-le (at .loop .i))
 
 mul-survivals : tie.Need-mul-survivals Inv-loop μ-loop
 mul-survivals c = search needs
@@ -42,16 +47,19 @@ loop-less : tie.Need-loop-less Inv-loop μ-loop
 loop-less c = search needs
 
 loop-again : tie.Need-loop-again Inv-loop μ-loop
-loop-again c = (search needs, stored-more _ _ _ _ (search needs) (c .survival .ensures) (c .before .before .loop .inv .1))
+loop-again c = (search needs, stored-more _ _ _ _ (search needs) (c .survival .ensures) (c .before .before .before .loop .inv .1))
 
 survival-requires-2 : tie.Need-survival-requires-2 Inv-loop μ-loop
-survival-requires-2 c κs = search needs
+survival-requires-2 c κs =
+    let figures = c .before .before .before in
+    (figures .all-survivals .ensures, figures .before .pre .otherwise-le)
 
 returns : tie.Need-returns Inv-loop μ-loop
 unfolding withSurvivals
 returns c =
-    let e : c .before .before .loop .i ≡ c .before .before .before .args .count = omega arith in
-    rw (stored-all _ _ _ (c .before .before .loop .inv .1), c .survival2 .ensures, e)
+    let at = c .before .before .before in
+    let e : at .loop .i ≡ at .before .before .args .count = omega arith in
+    rw (stored-all _ _ _ (at .loop .inv .1), c .survival2 .ensures, e)
 
 pub with-survivals-spec : {M : Type 1} → statement M
 with-survivals-spec =
@@ -59,6 +67,7 @@ with-survivals-spec =
     (tie.spec
     Inv-loop
     μ-loop
+    all-survivals-requires
     loop-holds
     mul-survival
     array-read-survival

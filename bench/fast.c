@@ -1,0 +1,224 @@
+/*
+ * Version c: plain C as fast as it was made here, with 128-bit products (gcc, clang), for the same numbers as plain.c. No month and no factor
+ * divides: x * n / d rounded down is the upper half of x * m, where m is 2^64 * n / d rounded up; rounded up it is 1 more than the upper half of
+ * x * (m - 1), for x from 1 on. Both are exact where x * d is at most 2^64: balances and flows stay under 4.6 * 10^9, and d is at most 3 * 10^9.
+ */
+#include "read.h"
+#include <string.h>
+
+#define PAR UINT64_C(1000000000)
+
+struct pair {
+    uint64_t lower, upper;
+};
+
+/* The upper half of x * m; m from 2^63 on stands for m - 2^64 in the second. */
+static inline uint64_t high(uint64_t x, uint64_t m) { return (uint64_t)((unsigned __int128)x * m >> 64); }
+static inline uint64_t high_signed(uint64_t x, uint64_t m) { return (uint64_t)((__int128)(int64_t)x * (int64_t)m >> 64); }
+
+/* n * 2^64 / 10^9, n * 2^64 / (3 * 10^9) less the multiples of 2^64, and n * 2^63 / 10^9, rounded up. */
+static inline uint64_t of_par(uint64_t n) { return n * 18446744073 + (n * 709551616 + PAR - 1) / PAR; }
+static inline uint64_t of_three_par(uint64_t n) { return n * 6148914691 + (n * 709551616 + 3 * PAR - 1) / (3 * PAR); }
+static inline uint64_t of_two_par(uint64_t n) { return n * 9223372036 + (n * 854775808 + PAR - 1) / PAR; }
+
+static inline uint64_t shifted(uint64_t rate, int scenario)
+{
+    uint64_t v = rate + 100 * (uint64_t)scenario;
+    return v < 300 ? 0 : v - 300;
+}
+
+/*
+ * The discount factors of month t, the scenarios in step, as multipliers of twice a flow. 120,000 * floor(2^64 / (120,000 + z)) is less than 120,000
+ * below 2^64 * 120,000 / (120,000 + z): near enough for factors up to 10^9. A yield of 0 leaves par; its lower multiplier would be 2^64.
+ */
+static void discount(uint64_t yield, int t, struct pair to[7][120])
+{
+    uint64_t m[7], lower[7], upper[7];
+    for (int s = 0; s < 7; s++) {
+        m[s] = UINT64_MAX / (120000 + shifted(yield, s)) * 120000;
+        upper[s] = PAR;
+    }
+    for (int i = 0; i < t; i++)
+        for (int s = 0; s < 7; s++) upper[s] = high(upper[s], m[s]) + 1;
+    for (int s = 0; s < 7; s++) {
+        m[s] += 120000;
+        lower[s] = PAR;
+    }
+    for (int i = 0; i < t; i++)
+        for (int s = 0; s < 7; s++) lower[s] = high(lower[s], m[s]);
+    for (int s = 0; s < 7; s++) {
+        to[s][t - 1].lower = of_two_par(shifted(yield, s) == 0 ? PAR : lower[s]);
+        to[s][t - 1].upper = of_two_par(upper[s]) - 1;
+    }
+}
+
+/* Multipliers of a month: what is paid of the balance, and by how much the balance changes. */
+struct month {
+    uint64_t paid, growth;
+};
+
+/* The balances, and the sums of the flows' products. The upper sum lacks 1 a month. */
+struct run {
+    struct pair balance, price;
+};
+
+static const struct run at_par = {{PAR, PAR}, {0, 0}};
+
+static inline void add_products(struct run *run, struct pair flow, const struct pair *factor)
+{
+    run->price.lower += high(2 * flow.lower, factor->lower);
+    run->price.upper += high(2 * flow.upper, factor->upper);
+}
+
+static inline struct pair paid(struct pair b, struct month m) { return (struct pair){high(b.lower, m.paid), high(b.upper, m.paid - 1) + 1}; }
+
+static inline struct pair grown(struct pair b, struct month m)
+{
+    return (struct pair){b.lower + high_signed(b.lower, m.growth), b.upper + high_signed(b.upper, m.growth - 1) + 1};
+}
+
+static inline struct pair sum(struct pair x, struct pair y) { return (struct pair){x.lower + y.lower, x.upper + y.upper}; }
+
+static inline void step(struct run *run, struct month m, const struct pair *factor)
+{
+    add_products(run, paid(run->balance, m), factor);
+    run->balance = grown(run->balance, m);
+}
+
+/* A brokered month in which all of the balance is withdrawn and its interest stays. */
+static inline void step_withdrawn(struct run *run, struct month m, const struct pair *factor)
+{
+    struct pair b = run->balance;
+    add_products(run, sum(b, paid(b, m)), factor);
+    run->balance = (struct pair){high(b.lower, m.growth), high(b.upper, m.growth - 1) + 1};
+}
+
+/* The term's last month; the price. */
+static inline struct pair step_last(struct run *run, struct month m, const struct pair *factor, int months)
+{
+    add_products(run, sum(paid(run->balance, m), grown(run->balance, m)), factor);
+    return (struct pair){run->price.lower, run->price.upper + (uint64_t)months};
+}
+
+/*
+ * One place. With n months to come after this one its gain is scale * r * n - loss and its cost is cost * n: it reaches an edge where
+ * n * (100 * scale * r - edge * cost) is at least 100 * loss. `kept` is a month without withdrawal.
+ */
+struct deposit {
+    int months, flat, tiers;
+    const uint64_t *rate;
+    int64_t scale, loss, cost, edge_cost[16];
+    struct month tier[17], kept;
+};
+
+/* The least n with n * rise >= loss, for a rise above 0. */
+static inline int months_to(int64_t rise, int64_t loss) { return loss <= rise ? 1 : (int)((loss + rise - 1) / rise); }
+
+/* At one rate the tiers only fall towards the term's end: each holds for a run of months. */
+static struct pair retail_flat(const struct deposit *d, int s, const struct pair *factor)
+{
+    struct run run = at_par;
+    int64_t gain = 100 * d->scale * (int64_t)shifted(d->rate[0], s), loss = 100 * d->loss;
+    int n = d->months - 1, i = 0;
+    while (n > 0) {
+        while (i < d->tiers && n * (gain - d->edge_cost[i]) < loss) i++;
+        int stop = i < d->tiers && loss > 0 ? months_to(gain - d->edge_cost[i], loss) : 1;
+        for (; n >= stop; n--) step(&run, d->tier[i], factor++);
+    }
+    return step_last(&run, d->kept, factor, d->months);
+}
+
+/* With a rate for each month the tier is looked for from the month before on. */
+static struct pair retail_path(const struct deposit *d, int s, const struct pair *factor)
+{
+    struct run run = at_par;
+    const uint64_t *rate = d->rate;
+    int64_t loss = 100 * d->loss;
+    for (int n = d->months - 1, i = 0; n > 0; n--) {
+        int64_t gain = 100 * d->scale * (int64_t)shifted(*rate++, s);
+        while (i > 0 && n * (gain - d->edge_cost[i - 1]) >= loss) i--;
+        while (i < d->tiers && n * (gain - d->edge_cost[i]) < loss) i++;
+        step(&run, d->tier[i], factor++);
+    }
+    return step_last(&run, d->kept, factor, d->months);
+}
+
+static struct pair brokered(const struct deposit *d, int s, const struct pair *factor)
+{
+    struct run run = at_par;
+    const uint64_t *rate = d->rate;
+    int n = d->months - 1;
+    while (n > 0) {
+        int64_t rise = d->scale * (int64_t)shifted(*rate, s) - d->cost;
+        int withdrawn = n * rise > d->loss;
+        if (withdrawn && d->cost == 0) {
+            /* No interest stays, and no month has a flow after this one. */
+            step_withdrawn(&run, d->kept, factor);
+            return (struct pair){run.price.lower, run.price.upper + (uint64_t)(d->months - n)};
+        }
+        int stop = !d->flat ? n : withdrawn ? months_to(rise, d->loss + 1) : 1;
+        rate += n - stop + 1;
+        if (withdrawn)
+            for (; n >= stop; n--) step_withdrawn(&run, d->kept, factor++);
+        else
+            for (; n >= stop; n--) step(&run, d->kept, factor++);
+    }
+    return step_last(&run, d->kept, factor, d->months);
+}
+
+static void open(struct deposit *d, const struct contents *k, const struct place *p, int is_brokered)
+{
+    uint64_t servicing = is_brokered ? 19000 : 175000, interest = 2500 * p->coupon;
+    d->months = p->months;
+    d->flat = k->flat;
+    d->tiers = k->tiers.count;
+    d->rate = k->rate[p->column];
+    d->scale = (int64_t)(120000000 - p->coupon * p->penalty);
+    d->loss = (int64_t)(120000 * p->coupon * p->penalty);
+    d->cost = (int64_t)(12000000 * p->coupon);
+    d->kept = (struct month){of_par(servicing), of_three_par(interest + 3 * PAR)};
+    if (is_brokered) return;
+    for (int i = 0; i < d->tiers; i++) d->edge_cost[i] = k->tiers.edge[i] * d->cost;
+    for (int i = 0; i <= d->tiers; i++) {
+        uint64_t q = k->tiers.survival[i];
+        d->tier[i] = (struct month){of_par(servicing + PAR - q), of_three_par(interest + 3 * q)};
+    }
+}
+
+static struct pair price(const struct deposit *d, int is_brokered, int s, const struct pair *factor)
+{
+    if (is_brokered) return brokered(d, s, factor);
+    return d->flat ? retail_flat(d, s, factor) : retail_path(d, s, factor);
+}
+
+uint64_t value_multiplied(const uint8_t *filing, size_t filing_length, uint64_t *numbers, size_t numbers_length, uint64_t *place)
+{
+    struct contents k;
+    struct place places[36];
+    struct pair factor[7][120];
+    struct deposit d;
+    int longest = 0;
+    *place = numbers_length;
+    if (numbers_length < 568) return 10;
+    int refusal = read_filing(filing, filing_length, &k, place);
+    if (refusal != 0) return (uint64_t)refusal;
+    split(&k, places);
+    for (int i = 0; i < 36; i++)
+        if (places[i].balance != 0 && places[i].months > longest) longest = places[i].months;
+    for (int t = 1; t <= longest; t++) discount(k.yield[t - 1], t, factor);
+    memset(numbers, 0, 568 * sizeof *numbers);
+    for (int i = 0; i < 36; i++) {
+        uint64_t balance = places[i].balance, *to = numbers + 15 * i, *total = numbers + 540 + (i < 24 ? 0 : 2);
+        if (balance == 0) continue;
+        open(&d, &k, &places[i], i % 4 >= 2);
+        to[0] = balance;
+        for (int s = 0; s < 7; s++) {
+            struct pair p = price(&d, i % 4 >= 2, s, factor[s]);
+            to[1 + 2 * s] = balance * p.lower / 1000000;
+            to[2 + 2 * s] = (balance * p.upper + 999999) / 1000000;
+            total[4 * s] += to[1 + 2 * s];
+            total[4 * s + 1] += to[2 + 2 * s];
+        }
+    }
+    return 0;
+}

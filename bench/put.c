@@ -1,0 +1,89 @@
+/* Writes records at the end of a filing. */
+#include "put.h"
+#include <stdlib.h>
+
+const unsigned balance_cell[9] = {601, 602, 603, 615, 616, 617, 631, 632, 641};
+const unsigned coupon_cell[9] = {605, 606, 607, 619, 620, 621, 634, 635, 643};
+const unsigned months_cell[9] = {608, 609, 610, 622, 623, 624, 636, 637, 644};
+const uint64_t least_months[9] = {1, 1, 1, 4, 4, 4, 13, 13, 37};
+const uint64_t most_months[9] = {3, 3, 3, 12, 12, 12, 36, 36, 120};
+
+struct input empty(const char *name, size_t capacity)
+{
+    struct input f = {name, calloc(capacity, 1), 0};
+    if (f.bytes == NULL) abort();
+    return f;
+}
+
+static void put(struct input *f, uint64_t v, int width)
+{
+    for (int i = 0; i < width; i++) f->bytes[f->size++] = (uint8_t)(v >> 8 * i);
+}
+
+void put_cell_of(struct input *f, unsigned kind, unsigned n, uint64_t v)
+{
+    put(f, 12, 2);
+    put(f, kind, 2);
+    put(f, n, 2);
+    put(f, v, 8);
+}
+
+void put_cell(struct input *f, unsigned n, uint64_t v) { put_cell_of(f, 1, n, v); }
+
+void put_cells(struct input *f, const uint64_t balance[9], const uint64_t months[9], uint64_t coupon, unsigned fine, uint64_t penalty)
+{
+    static const int column[9] = {0, 1, 2, 0, 1, 2, 1, 2, 2};
+    uint64_t sum[3] = {0};
+    for (int i = 0; i < 9; i++) {
+        sum[column[i]] += balance[i];
+        if (balance[i] == 0) continue;
+        put_cell(f, balance_cell[i], balance[i]);
+        if (coupon != 0 && fine >> i & 1)
+            put_cell_of(f, 6, coupon_cell[i], 10 * coupon + 203 * (unsigned)i + 1);
+        else if (coupon != 0)
+            put_cell(f, coupon_cell[i], coupon + 20 * (unsigned)i);
+        put_cell(f, months_cell[i], months[i]);
+    }
+    put_cell(f, 645, sum[0] + sum[1] + sum[2]);
+    for (unsigned j = 0; j < 3; j++) {
+        put_cell(f, 650 + j, sum[j] / 3);
+        put_cell(f, 653 + j, sum[j] / 2);
+        put_cell(f, 656 + j, penalty);
+    }
+}
+
+void put_yields(struct input *f, unsigned first, unsigned step)
+{
+    put(f, 242, 2);
+    put(f, 2, 2);
+    for (unsigned i = 0; i < 120; i++) put(f, first + step * i > 2500 ? 2500 : first + step * i, 2);
+}
+
+void put_rates(struct input *f, unsigned rate)
+{
+    put(f, 8, 2);
+    put(f, 3, 2);
+    for (unsigned i = 0; i < 3; i++) put(f, rate + 25 * i, 2);
+}
+
+void put_path(struct input *f, unsigned first, unsigned step, unsigned swing)
+{
+    put(f, 722, 2);
+    put(f, 5, 2);
+    for (unsigned j = 0; j < 3; j++)
+        for (unsigned i = 0; i < 120; i++) {
+            unsigned rate = first + 25 * j + step * i + swing * (37 * i % 11);
+            put(f, rate > 2500 ? 2500 : rate, 2);
+        }
+}
+
+void put_tiers(struct input *f, const struct tier *tiers, unsigned pairs, unsigned count)
+{
+    put(f, 4 + 4 * pairs, 2);
+    put(f, 4, 2);
+    put(f, count, 2);
+    for (unsigned i = 0; i < pairs; i++) {
+        put(f, tiers[i].edge, 2);
+        put(f, tiers[i].withdrawal, 2);
+    }
+}

@@ -1,0 +1,39 @@
+/* Records of every kind, valid or not, written at the end of a filing; for filings.c and random.c. */
+#ifndef PUT_H
+#define PUT_H
+
+#include "filings.h"
+
+enum { CAPACITY = 4096 };
+
+/* Cells and rows' months by position. */
+extern const unsigned balance_cell[9], coupon_cell[9], months_cell[9];
+extern const uint64_t least_months[9], most_months[9];
+
+struct input empty(const char *name, size_t capacity);
+
+/* Kind 1, and kind 1 or 6. */
+void put_cell(struct input *f, unsigned n, uint64_t v);
+void put_cell_of(struct input *f, unsigned kind, unsigned n, uint64_t v);
+
+/*
+ * Balances and months by position; coupons from `coupon` hundredths up, in thousandths at the positions whose bit is set in `fine`, none where it
+ * is 0; brokered and penalty balances are a third and half of each column's sum, rounded down.
+ */
+void put_cells(struct input *f, const uint64_t balance[9], const uint64_t months[9], uint64_t coupon, unsigned fine, uint64_t penalty);
+
+/* Kind 2: yields from `first` up by `step` each month, capped at 2,500. */
+void put_yields(struct input *f, unsigned first, unsigned step);
+
+/* Kind 3, and kind 5 with each month's rate up by `step`, and by up to ten times `swing` in no order. */
+void put_rates(struct input *f, unsigned rate);
+void put_path(struct input *f, unsigned first, unsigned step, unsigned swing);
+
+struct tier {
+    unsigned edge, withdrawal;
+};
+
+/* Kind 4: a record of `pairs` tiers that says `count`. */
+void put_tiers(struct input *f, const struct tier *tiers, unsigned pairs, unsigned count);
+
+#endif

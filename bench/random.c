@@ -1,0 +1,93 @@
+/* Makes the random filings of filings.h. */
+#include "put.h"
+#include <stdlib.h>
+#include <string.h>
+
+static uint64_t random_state = 20240611;
+
+void start_random(uint64_t seed) { random_state = 2 * seed + 1; }
+
+static uint64_t below(uint64_t n)
+{
+    random_state ^= random_state << 13;
+    random_state ^= random_state >> 7;
+    random_state ^= random_state << 17;
+    return random_state % n;
+}
+
+/* Tiers of any count, edges close together or far apart; one in six records has a fault. */
+static void put_any_tiers(struct input *f)
+{
+    static const unsigned spread[4] = {3, 25, 300, 4000};
+    struct tier tiers[17] = {{0, (unsigned)below(2) * (unsigned)below(200)}};
+    unsigned count = 1 + (unsigned)below(16), pairs = count, most = spread[below(4)], i = (unsigned)below(count);
+    for (unsigned l = 1; l < 17; l++) {
+        unsigned withdrawal = tiers[l - 1].withdrawal + (unsigned)below(80);
+        tiers[l] = (struct tier){tiers[l - 1].edge + 1 + (unsigned)below(most), withdrawal > 600 ? 600 : withdrawal};
+    }
+    switch (below(48)) {
+    case 0: count = pairs = 0; break;
+    case 1: count = pairs = 17; break;
+    case 2: count++; break;
+    case 3: count = 16384 + pairs; break;
+    case 4: tiers[0].edge = 1; break;
+    case 5: tiers[i].edge = tiers[i + 1].edge, count = pairs = 16; break;
+    case 6: tiers[i].withdrawal = 1 + tiers[i + 1].withdrawal, count = pairs = 16; break;
+    case 7: tiers[count - 1].withdrawal = 601 + (unsigned)below(2) * 64000; break;
+    }
+    put_tiers(f, tiers, pairs, count);
+}
+
+/* Where each record begins; their number. */
+static int records_of(struct input f, size_t start[64])
+{
+    int count = 0;
+    for (size_t at = 0; at < f.size; at += 2u + f.bytes[at] + 256u * f.bytes[at + 1]) start[count++] = at;
+    start[count] = f.size;
+    return count;
+}
+
+/* The same records in any order, one of them twice now and then. */
+static void shuffle(struct input *f)
+{
+    size_t start[64];
+    struct input from = *f;
+    int order[64], count = records_of(from, start);
+    *f = empty("random", CAPACITY);
+    for (int i = 0; i < count; i++) {
+        int l = (int)below((uint64_t)i + 1);
+        order[i] = order[l];
+        order[l] = i;
+    }
+    if (below(8) == 0) {
+        order[count] = (int)below((uint64_t)count);
+        count++;
+    }
+    for (int i = 0; i < count; i++) {
+        size_t size = start[order[i] + 1] - start[order[i]];
+        memcpy(f->bytes + f->size, from.bytes + start[order[i]], size);
+        f->size += size;
+    }
+    free(from.bytes);
+}
+
+struct input any(void)
+{
+    uint64_t balance[9], months[9];
+    struct input f = empty("random", CAPACITY);
+    for (int i = 0; i < 9; i++) {
+        balance[i] = below(3) == 0 ? 0 : below(below(2) ? 1000000000 : 50);
+        months[i] = least_months[i] + below(most_months[i] - least_months[i] + 1);
+    }
+    put_cells(&f, balance, months, below(6) == 0 ? below(3) : below(1340), below(2) ? 0 : (unsigned)below(512), below(3601));
+    if (below(16) == 0) put_cell_of(&f, below(4) ? 6 : 1, below(4) ? coupon_cell[below(9)] : 600 + (unsigned)below(64), below(20000));
+    put_yields(&f, (unsigned)below(600), (unsigned)below(18));
+    unsigned sheets = (unsigned)below(24);
+    if (sheets < 12) put_rates(&f, (unsigned)below(2400));
+    if (sheets > 10 && sheets < 23) put_path(&f, (unsigned)below(1800), (unsigned)below(4), (unsigned)below(2) * (unsigned)below(80));
+    if (below(2)) put_any_tiers(&f);
+    shuffle(&f);
+    if (below(5) == 0) f.bytes[below(f.size)] = (uint8_t)below(256);
+    if (below(16) == 0) f.size = below(f.size);
+    return f;
+}

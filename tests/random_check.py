@@ -1,0 +1,164 @@
+#!/usr/bin/env python3
+"""Random filings, sound, faulty and damaged, through the two test programs and the plain C versions: random_check.py [COUNT [SEED]].
+
+Needs target/bin/second and target/bin/figures_test (`rt check`) and target/bench/check (`bench/run check`); what is missing is left out. Not run by
+the gate."""
+import random
+import subprocess
+import sys
+from pathlib import Path
+
+sys.dont_write_bytecode = True
+
+from calls import VALUE_AND_SPLIT
+from filings import entry
+from records import COLUMNS, LIMITS, POSITIONS, UNUSED, brokered_cell, cell, fine, path, penalty_balance_cell, penalty_cell, rates, record, tiers, yields
+
+TARGET = Path(__file__).resolve().parent.parent / "target"
+PROGRAMS = "second", "figures_test"
+PLAIN = TARGET / "bench" / "check"
+
+
+def rate(r):
+    return r.choice((0, 1, 299, 300, 600, 2_500, r.randint(0, 2_500), r.randint(200, 900)))
+
+
+def months_of_rates(r):
+    course = r.randrange(3)
+    if course == 0:
+        return [rate(r)] * 120
+    if course == 1:
+        first, step = r.randint(0, 900), r.randint(0, 13)
+        return [first + step * month for month in range(120)]
+    return [rate(r) for _ in range(120)]
+
+
+def own_tiers(r):
+    count, most = r.randint(1, 16), r.choice((3, 25, 300, 4_000))
+    edges = [0]
+    while len(edges) < count:
+        edges.append(edges[-1] + r.randint(1, most))
+    return tiers(*zip(edges, sorted(r.choice((0, 40, 600, r.randint(0, 600))) for _ in range(count))))
+
+
+def cell_records(r):
+    """Cells with a true total, brokered and penalty balances within their columns."""
+    sums = dict.fromkeys(COLUMNS, 0)
+    for place in POSITIONS:
+        balance = 0 if r.random() < 0.3 else r.choice((1, 2, r.randint(1, 60), r.randint(1, 999_999_999), 999_999_999))
+        sums[place.column] += balance
+        if balance or r.random() < 0.2:
+            yield cell(place.balance, balance)
+            yield cell(place.months, r.choice((place.first, place.last, r.randint(place.first, place.last))))
+        if r.random() < 0.9:
+            yield coupon_record(r, place.coupon)
+    yield cell(645, sum(sums.values()))
+    for n, total in sums.items():
+        if r.random() < 0.7:
+            yield cell(brokered_cell(n), r.choice((0, total, r.randint(0, total))))
+        if r.random() < 0.7:
+            yield cell(penalty_balance_cell(n), r.choice((0, total, r.randint(0, total))))
+            yield cell(penalty_cell(n), r.choice((0, 90, 3_600, r.randint(0, 3_600))))
+    if r.random() < 0.2:
+        yield cell(r.choice(UNUSED), r.getrandbits(64))
+
+
+def coupon_record(r, number):
+    coupon = r.choice((0, 1, 1_500, r.randint(0, 1_500), r.randint(300, 700)))
+    if r.random() < 0.5:
+        return cell(number, coupon)
+    return fine(number, r.choice((10 * coupon, r.randint(0, 15_000), 15_000)))
+
+
+def faulty_record(r):
+    """A record that may break any rule."""
+    kind = r.choice((1, 1, 2, 3, 4, 5, 6, 6, 11))
+    if kind == 1:
+        number = r.choice((*LIMITS, *UNUSED, r.randint(595, 665)))
+        limit = LIMITS.get(number, 1)
+        return cell(number, r.choice((limit, limit + 1, 0, r.randint(0, limit), r.getrandbits(64))))
+    if kind == 2:
+        return yields([r.choice((0, 2_500, 2_501))] * 120)
+    if kind == 3:
+        return rates([r.choice((0, 2_500, 2_501)) for _ in COLUMNS])
+    if kind == 4:
+        return tiers(*((r.randint(0, 3), r.choice((0, 600, 601))) for _ in range(r.choice((0, 1, 2, 16, 17)))))
+    if kind == 5:
+        return path(*([r.choice((0, 2_500, 2_501))] * 120 for _ in COLUMNS))
+    if kind == 6:
+        number = r.choice((*(place.coupon for place in POSITIONS), *LIMITS, r.randint(595, 665)))
+        return fine(number, r.choice((0, 15_000, 15_001, r.randint(0, 15_000), r.getrandbits(64))))
+    return record(kind, bytes(r.randint(0, 12)))
+
+
+def random_filing(r):
+    records = [*cell_records(r), yields(months_of_rates(r))]
+    records.append(path(*(months_of_rates(r) for _ in COLUMNS)) if r.random() < 0.5 else rates([rate(r) for _ in COLUMNS]))
+    if r.random() < 0.5:
+        records.append(own_tiers(r))
+    if r.random() < 0.15:
+        records.append(faulty_record(r))
+    if r.random() < 0.05:
+        records.append(r.choice(records))
+    if r.random() < 0.05:
+        records.remove(r.choice(records))
+    r.shuffle(records)
+    data = b"".join(records)
+    if r.random() < 0.1:
+        at = r.randrange(len(data))
+        data = data[:at] + bytes([r.randrange(256)]) + data[at + 1:]
+    if r.random() < 0.04:
+        data = data[:r.randrange(len(data))]
+    return data
+
+
+def printed(program, data):
+    """What a test program prints of each filing."""
+    corpus = b"".join(entry(VALUE_AND_SPLIT, filing) for filing in data)
+    text = subprocess.run([program], input=corpus, stdout=subprocess.PIPE, check=True).stdout.decode()
+    return [part.split("\n", 1)[1] for part in text.split("entry ")[1:]]
+
+
+def numbers_in(text):
+    """The plain versions' lines, made of a test program's."""
+    lines = [line.split() for line in text.splitlines()]
+    if lines[0][1] != "0":
+        return "refused {} {}\n".format(*lines[0][1:])
+    numbers = [0] * 568
+    for word, *line in lines:
+        if word == "value":
+            at = 15 * int(line[0])
+            numbers[at:at + 15] = map(int, line[1:])
+        elif word == "total":
+            at = 540 + (int(line[0]) + 300) // 25
+            numbers[at:at + 4] = map(int, line[1:])
+    return "".join(f"{number}\n" for number in numbers)
+
+
+def plain(filing):
+    return subprocess.run([PLAIN], input=filing, stdout=subprocess.PIPE).stdout.decode()
+
+
+def differ(name, filing):
+    Path("differs.filing").write_bytes(filing)
+    sys.exit(f"{name} differs on the filing in differs.filing")
+
+
+def check(count, seed):
+    r = random.Random(seed)
+    data = [random_filing(r) for _ in range(count)]
+    programs = [name for name in PROGRAMS if (TARGET / "bin" / name).exists()]
+    texts = [printed(TARGET / "bin" / name, data) for name in programs]
+    for filing, *parts in zip(data, *texts):
+        for name, part in zip(programs, parts):
+            if part != parts[0]:
+                differ(name, filing)
+        if PLAIN.exists() and plain(filing) != numbers_in(parts[0]):
+            differ("plain C", filing)
+    answers = [part.split()[1] for part in texts[0]]
+    counts = ", ".join(f"{number}: {answers.count(number)}" for number in sorted(set(answers), key=int))
+    print(f"{count} filings, the same from {', '.join(programs)}{' and plain C' if PLAIN.exists() else ''}; answers by number {counts}")
+
+
+words = [int(word) for word in sys.argv[1:]]
+check(*words, *(1_000, 1)[len(words):])
