@@ -1,7 +1,8 @@
 -- The faults of a certificate by itself: the first that holds answers, and a certificate without one is sound. Assumes nothing.
 use Prim.Native.Nat.{ℕ, _≤_, _<_}
-use mathlib.Core.Path.{_≡_}
-use mathlib.Core.Bool.{true, false, not}
+use mathlib.Core.Path.{_≡_, refl}
+use mathlib.Core.Bool.{Bool, true, false, not}
+use mathlib.Core.List.{[], _∷_}
 use borrow.Author.Tests.{ltb-false, not-false}
 use lib.Dec.{ltb}
 use Rattle.schedule.specs.Limits.{balanceLimit, filedCouponLimit, monthsLimit}
@@ -40,6 +41,20 @@ module _ (v : Date) (k : ℕ) (c : Certificate) where
       → accepted ≡ ownVerdict v k c
   unfolding ownVerdict firstOf firstRefusal refusedIf refused accepted
   own-none a b d e = rw (a, b, d, e)
+
+-- a refusal is at the certificate's index
+places : (a b d e : Bool) (k : ℕ) → (firstOf (refusedIf a 5 k ∷ refusedIf b 13 k ∷ refusedIf d 14 k ∷ refusedIf e 15 k ∷ []) .number ≡ 0 → ⊥)
+    → firstOf (refusedIf a 5 k ∷ refusedIf b 13 k ∷ refusedIf d 14 k ∷ refusedIf e 15 k ∷ []) .place ≡ k
+unfolding firstOf firstRefusal refusedIf refused accepted
+places true b d e k h = refl
+places false true d e k h = refl
+places false false true e k h = refl
+places false false false true k h = refl
+places false false false false k h = absurd (h refl)
+
+pub own-place : (v : Date) (k : ℕ) (c : Certificate) → (ownVerdict v k c .number ≡ 0 → ⊥) → ownVerdict v k c .place ≡ k
+unfolding ownVerdict
+own-place v k c h = places (overLimit c) (noSuchDay v c) (notOutstanding v c) (tooManyMonths v c) k h
 
 -- all three dates are days
 pub days-are : (v : Date) (c : Certificate) → noSuchDay v c ≡ false

@@ -2,7 +2,7 @@
 use Prim.Native.Nat.{ℕ, suc, _+_, _*_, _≤_, _<_}
 use native.Mathlib.Nat.{not-suc-le-zero, le-antisymm}
 use borrow.Author.Count.{below-more}
-use borrow.Author.Tests.{lt-ltb, le-ltb}
+use borrow.Author.Tests.{lt-ltb, le-ltb, ne-eqb}
 use mathlib.Core.Path.{_≡_, refl, sym, ap, _∙_}
 use mathlib.Core.Bool.{true, false}
 use mathlib.Core.List.{List}
@@ -20,8 +20,8 @@ use Rattle.certificate_terms.specs.Faults.{ownVerdict}
 use Rattle.filled_cells.specs.declared.Totals.{Totals}
 use Rattle.certificates.specs.Sums.{positionSum, balanceOf, weightedCoupon, weightedMonths, totalsOf}
 use Rattle.certificates.specs.Verdict.{sumOverLimit, certificateVerdict, eachVerdict}
-use Rattle.certificates.specs.Inner.Totals.{totalsWith}
-use Rattle.certificate_terms.proofs.FaultLaws.{Sound, own-sound, sound-position}
+use Rattle.certificates.specs.Inner.Totals.{totalsWith, summedCount}
+use Rattle.certificate_terms.proofs.FaultLaws.{Sound, own-place, own-sound, sound-position}
 use Rattle.certificates.proofs.SumLaws.{Passed, sum-here, balance-sum-le, coupon-sum-le, months-sum-le, totals-suc}
 
 module _ (v : Date) (s : List ℕ) where
@@ -42,8 +42,9 @@ module _ (v : Date) (s : List ℕ) where
       }
 
   -- all passed
-  pub scan-all : (k : ℕ) (t : Totals) → Scanning k t → certificateCount s ≤ k → (accepted ≡ eachVerdict v s) × (t ≡ totalsOf v s (certificateCount s))
-  unfolding eachVerdict
+  pub scan-all : (k : ℕ) (t : Totals) → Scanning k t → certificateCount s ≤ k
+      → (accepted ≡ eachVerdict v s) × (t ≡ totalsOf v s (summedCount accepted (certificateCount s)))
+  unfolding eachVerdict summedCount accepted
   scan-all k t at h = (
     tried-all (certificateVerdict v s) (certificateCount s) k (at .untried) h,
     at .totals-are ∙ ap (totalsOf v s) (le-antisymm (at .untried .within) h),
@@ -86,6 +87,15 @@ module _ (v : Date) (s : List ℕ) where
         sym first
         ∙ tried-here (certificateVerdict v s) (certificateCount s) k (at .untried) h
         (λ z. r (ap (λ (u : Verdict). u .number) (sym first) ∙ z))
+
+    -- what is summed then
+    pub own-summed : (ownVerdict v k c .number ≡ 0 → ⊥) → t ≡ totalsOf v s (summedCount (ownVerdict v k c) (certificateCount s))
+    unfolding summedCount
+    own-summed r = at .totals-are ∙ rw (ne-eqb (ownVerdict v k c .number) 0 r, own-place v k c r)
+
+    pub over-summed : t ≡ totalsOf v s (summedCount (refused 5 k) (certificateCount s))
+    unfolding summedCount refused
+    over-summed = at .totals-are
 
     module _ (none : ownVerdict v k c .number ≡ 0) where
       pub scan-sound : Sound v c

@@ -11,13 +11,13 @@ ghost use mathlib.Core.Path.{_≡_};
 ghost use Prim.Native.Nat.{_≤_, _<_, _+_, _*_};
 ghost use lib.ListN.{getD};
 ghost use Rattle.schedule.specs.Limits.{balanceLimit, filedCouponLimit, monthsLimit};
-ghost use Rattle.answers.specs.Answers.{numberOf, verdictOf};
+ghost use Rattle.answers.specs.Answers.{verdictOf};
 ghost use Rattle.certificate_terms.specs.Terms.{certificateCount};
 ghost use Rattle.certificates.specs.Verdict.{eachVerdict};
 ghost use Rattle.certificates.specs.Sums.{totalsOf};
-ghost use Rattle.certificates.specs.Inner.Totals.{totalsWith};
+ghost use Rattle.certificates.specs.Inner.Totals.{totalsWith, summedCount};
 
-// The answer on the certificates in turn, and on acceptance their sums.
+// The answer on the certificates in turn, and the sums of those before the one that is refused, of all where none is.
 pub struct Scanned {
     pub answer: Answer,
     pub totals: Totals,
@@ -25,7 +25,7 @@ pub struct Scanned {
 
 pub(crate) fn scan(valuation: Date, certificates: &[u64]) -> Scanned
     ensures { λ r. ⌜ verdictOf (r .answer) ≡ eachVerdict valuation (now (certificates .entry)) ⌝ }
-    ensures { λ r. ⌜ (numberOf (r .answer) ≡ 0 → r .totals ≡ totalsOf valuation (now (certificates .entry)) (certificateCount (now (certificates .entry)))) ⌝ }
+    ensures { λ r. ⌜ r .totals ≡ totalsOf valuation (now (certificates .entry)) (summedCount (verdictOf (r .answer)) (certificateCount (now (certificates .entry)))) ⌝ }
 {
     let mut totals = Totals {
         balance: [0; 9],

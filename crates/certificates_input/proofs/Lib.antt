@@ -2,3 +2,4 @@ pub mod NumeralLaws
 pub mod LineLaws
 pub mod FormLaws
 pub mod TextLaws
+pub mod ReadLaws

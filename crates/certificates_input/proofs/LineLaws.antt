@@ -133,3 +133,7 @@ module _ (s : List ℕ) (at : ℕ) (form : List ℕ) (r : Line) (e : r ≡ lineA
       → r ≡ record { readable = true; next = formEnd s at form; numbers = formNumbers s at form ++ replicate (8 - length form) 0 }
   unfolding lineAt
   line-is h = e ∙ rw h
+
+  pub line-none : hasForm s at form ≡ false → r ≡ record { readable = false; next = 0; numbers = replicate 8 0 }
+  unfolding lineAt
+  line-none h = e ∙ rw h

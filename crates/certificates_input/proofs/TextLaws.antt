@@ -5,24 +5,24 @@ use native.Mathlib.Numerals.{add-one}
 use native.Mathlib.Omega.{arith}
 use mathlib.Core.Path.{_≡_, refl, sym, ap, _∙_}
 use mathlib.Core.Logic.{⊎-elim}
-use mathlib.Core.Bool.{Bool, true, false, not}
+use mathlib.Core.Bool.{Bool, true, false, not, cond}
 use mathlib.Core.List.{List, [], _∷_, append-nil}
 use borrow.Author.Count.{below-more}
 use borrow.Author.Tests.{lt-ltb, le-ltb, le-leb, lt-leb}
 use lib.Dec.{leb}
-use lib.ListN.{length, getD, take, drop}
-use lib.Seq.{take-at}
+use lib.ListN.{length, getD}
 use Rattle.lists.specs.Runs.{written}
 use Rattle.lists.specs.Tables.{table, joined}
 use Rattle.lists.specs.Ranges.{firstFrom}
 use Rattle.lists.proofs.LogicLaws.{lt-or-le}
 use Rattle.lists.proofs.RunLaws.{Overwritten, overwritten-row}
 use Rattle.lists.proofs.RangeLaws.{least-is, least-passes, least-ge}
+use Rattle.calendar.specs.declared.Date.{Date}
 use Rattle.certificates_input.specs.declared.lines.Line.{Line}
 use Rattle.certificates_input.specs.Lines.{dateForm, certificateForm, hasForm, formNumbers, formEnd}
-use Rattle.certificates_input.specs.Texts.{lineEnd, lineStart, lineCount, lineForm, isReadable, firstUnreadable, unreadableLine, lineNumbers, valuationOf, certificatesOf}
+use Rattle.certificates_input.specs.Texts.{lineEnd, lineStart, lineCount, lineForm, isReadable, firstUnreadable, unreadableLine, lineNumbers, valuationOf, readDate}
 use Rattle.certificates_input.specs.Inner.Fields.{lineAt}
-use Rattle.certificates_input.proofs.LineLaws.{line-is}
+use Rattle.certificates_input.proofs.LineLaws.{line-is, line-none}
 use Rattle.certificates_input.proofs.FormLaws.{form-line, form-room, form-end-le, form-length}
 
 -- a search in which nothing passes
@@ -118,21 +118,28 @@ module _ (s : List ℕ) where
             omega arith
 
     -- line l is the first that is not of its form
-    pub line-fails : hasForm s at certificateForm ≡ false → unreadableLine s ≡ l + 1
-    unfolding unreadableLine firstUnreadable isReadable
-    line-fails h =
+    pub line-first : hasForm s at certificateForm ≡ false → firstUnreadable s ≡ l
+    unfolding firstUnreadable isReadable
+    line-first h =
         let form : hasForm s (lineStart s l) (lineForm l) ≡ false = rw (form-is, sym (read .begins)) h in
-        let first : firstUnreadable s ≡ l =
-        least-is _ 0 (lineCount s) l (omega arith) (omega (arith, count-lt)) (ap not form) (λ k a u. ap not (read .readable k u)) in
-        rw (first, lt-ltb l (lineCount s) count-lt) (sym (add-one l))
+        least-is _ 0 (lineCount s) l (omega arith) (omega (arith, count-lt)) (ap not form) (λ k a u. ap not (read .readable k u))
+
+    pub line-fails : hasForm s at certificateForm ≡ false → unreadableLine s ≡ l + 1
+    unfolding unreadableLine
+    line-fails h = rw (line-first h, lt-ltb l (lineCount s) count-lt) (sym (add-one l))
 
   -- the first line is not of its form
+  pub count-some : 0 < lineCount s
+  unfolding lineCount
+  count-some = least-ge _ 1 (length s)
+
+  pub first-none : hasForm s 0 dateForm ≡ false → firstUnreadable s ≡ 0
+  unfolding firstUnreadable isReadable lineStart lineForm
+  first-none h = least-is _ 0 (lineCount s) 0 (omega arith) (omega (arith, count-some)) (ap not h) (λ k a u. absurd (not-suc-le-zero u))
+
   pub first-fails : hasForm s 0 dateForm ≡ false → unreadableLine s ≡ 1
-  unfolding unreadableLine firstUnreadable isReadable lineStart lineForm lineCount
-  first-fails h =
-      let some : 0 < lineCount s = least-ge _ 1 (length s) in
-      let first : firstUnreadable s ≡ 0 = least-is _ 0 (lineCount s) 0 (omega arith) (omega (arith, some)) (ap not h) (λ k a u. absurd (not-suc-le-zero u)) in
-      rw (first, lt-ltb 0 (lineCount s) some)
+  unfolding unreadableLine
+  first-fails h = rw (first-none h, lt-ltb 0 (lineCount s) count-some)
 
   module _ (l at : ℕ) (read : LinesRead l at) (done : length s ≤ at) where
     -- the text's end
@@ -142,18 +149,31 @@ module _ (s : List ℕ) where
         least-is _ 1 (length s) l (read .some) (omega (arith, read .room, read .bound)) (rw (sym (read .begins)) (le-leb (length s) at done))
         (λ k a u. lt-leb (length s) (lineStart s k) (read .within k a u))
 
+    pub none-first : firstUnreadable s ≡ l
+    unfolding firstUnreadable
+    none-first = rw count-is (none-passes _ 0 l (λ k a u. ap not (read .readable k (omega (arith, u)))) ∙ zero-add l)
+
     pub none-fails : unreadableLine s ≡ 0
-    unfolding unreadableLine firstUnreadable
-    none-fails =
-        let first : firstUnreadable s ≡ l =
-        rw count-is (none-passes _ 0 l (λ k a u. ap not (read .readable k (omega (arith, u)))) ∙ zero-add l) in
-        rw (first, count-is, le-ltb l l (omega arith))
+    unfolding unreadableLine
+    none-fails = rw (none-first, count-is, le-ltb l l (omega arith))
 
 -- the valuation date of the first line
-pub valuation-read : (s : List ℕ) (r : Line) → r ≡ lineAt s 0 dateForm → hasForm s 0 dateForm ≡ true
+valuation-read : (s : List ℕ) (r : Line) → r ≡ lineAt s 0 dateForm → hasForm s 0 dateForm ≡ true
     → record { year = getD (r .numbers) 0 0; month = getD (r .numbers) 1 0; day = getD (r .numbers) 2 0 } ≡ valuationOf s
 unfolding valuationOf lineNumbers lineStart lineForm dateForm formNumbers
 valuation-read s r e h = rw (line-is s 0 dateForm r e h)
+
+-- all 0 where the first line is no date
+pub date-read : (s : List ℕ) (r : Line) → r ≡ lineAt s 0 dateForm
+    → record { year = getD (r .numbers) 0 0; month = getD (r .numbers) 1 0; day = getD (r .numbers) 2 0 } ≡ readDate s
+unfolding readDate isReadable lineStart lineForm
+date-read s r e = by (hasForm s 0 dateForm) refl
+  where
+    by : (b : Bool) → hasForm s 0 dateForm ≡ b
+        → record { year = getD (r .numbers) 0 0; month = getD (r .numbers) 1 0; day = getD (r .numbers) 2 0 }
+        ≡ cond {A = Date} b (valuationOf s) (record { year = 0; month = 0; day = 0 })
+    by true h = valuation-read s r e h
+    by false h = rw (line-none s 0 dateForm r e h)
 
 -- the numbers of a certificate's line
 pub certificate-read : (s : List ℕ) (at : ℕ) (r : Line) → r ≡ lineAt s at certificateForm → hasForm s at certificateForm ≡ true
@@ -169,7 +189,7 @@ pub certificate-length : (s : List ℕ) (at : ℕ) → length (formNumbers s at 
 unfolding certificateForm
 certificate-length s at = form-length s at certificateForm
 
-certificate-eight : (s : List ℕ) (k : ℕ) → length (lineNumbers s (suc k)) ≡ 8
+pub certificate-eight : (s : List ℕ) (k : ℕ) → length (lineNumbers s (suc k)) ≡ 8
 unfolding lineNumbers lineForm
 certificate-eight s k = certificate-length s (lineStart s (suc k))
 
@@ -177,13 +197,6 @@ certificate-eight s k = certificate-length s (lineStart s (suc k))
 module _ (s before numbers : List ℕ) (count : ℕ) where
   abbrev pub Stored : Type 0
   Stored = Overwritten (joined (table count (λ (k : ℕ). lineNumbers s (suc k)))) (8 * count) before numbers
-
-  -- those of all lines
-  pub stored-all : lineCount s ≡ count + 1 → Stored → take (8 * count) numbers ≡ certificatesOf s
-  unfolding certificatesOf
-  stored-all e w =
-      let less : lineCount s - 1 ≡ count = omega (arith, e) in
-      rw (less, w .is) (take-at _ (drop (8 * count) before) (8 * count) (w .long))
 
   -- one line more
   pub stored-next : (values : List ℕ) → values ≡ lineNumbers s (suc count) → 8 * count + 8 ≤ length before → Stored

@@ -2,8 +2,8 @@
 use Prim.Native.Nat.{ℕ, zero, suc, _+_, _*_, _-_, _≤_}
 use mathlib.Core.Path.{_≡_}
 use mathlib.Core.Bool.{Bool, cond, not}
-use mathlib.Core.List.{List}
-use lib.ListN.{length, getD, take}
+use mathlib.Core.List.{List, _++_}
+use lib.ListN.{length, getD, drop}
 use lib.Dec.{leb, ltb, eqb}
 use Rattle.lists.specs.Tables.{table, joined}
 use Rattle.calendar.specs.declared.Date.{Date}
@@ -52,9 +52,19 @@ valuationOf s = record { year = getD (lineNumbers s 0) 0 0; month = getD (lineNu
 unfoldable pub certificatesOf : List ℕ → List ℕ
 certificatesOf s = joined (table (lineCount s - 1) (λ (k : ℕ). lineNumbers s (suc k)))
 
--- what is read of a text: the first line that is not of its form, or the valuation date, and the certificates' numbers in front of a list
-pub record TextRead (s : List ℕ) (r : Text) (numbers : List ℕ) : Type 0 where
+-- what is read of any text: the valuation date, all 0 where the first line is not of its form, and how many certificates, those before the first line
+-- that is not of its form
+unfoldable pub readDate : List ℕ → Date
+readDate s = cond (isReadable s 0) (valuationOf s) (record { year = 0; month = 0; day = 0 })
+
+unfoldable pub readCount : List ℕ → ℕ
+readCount s = firstUnreadable s - 1
+
+-- what the call promises: before and after are the lent numbers at the call and at the return. The numbers of the certificates that are read stand in
+-- front, the rest is as it was
+pub record TextRead (s before after : List ℕ) (r : Text) : Type 0 where
   pub unreadable-is : r .unreadable ≡ unreadableLine s
-  pub valuation-is : unreadableLine s ≡ 0 → r .valuation ≡ valuationOf s
-  pub counted : 8 * r .count ≤ length numbers
-  pub numbers-are : unreadableLine s ≡ 0 → take (8 * r .count) numbers ≡ certificatesOf s
+  pub valuation-is : r .valuation ≡ readDate s
+  pub count-is : r .count ≡ readCount s
+  pub numbers-are : after ≡ joined (table (readCount s) (λ (k : ℕ). lineNumbers s (suc k))) ++ drop (8 * readCount s) before
+  pub fits : 8 * r .count ≤ length after

@@ -10,7 +10,8 @@ ghost use Prim.Native.Nat.{_+_, _*_, _≤_};
 ghost use lib.ListN.{length};
 ghost use Rattle.certificates_input.specs.Texts.{TextRead};
 
-// The first line that is not of its form, counted from 1, or 0 with the valuation date and the count of certificates.
+// The first line that is not of its form, counted from 1, or 0 where there is none; the valuation date, all 0 where the first line is no date; and the
+// count of the certificates before that line.
 pub struct Text {
     pub unreadable: usize,
     pub valuation: Date,
@@ -20,7 +21,7 @@ pub struct Text {
 // Reads a text; the certificates' numbers come into a list, where each number has room: it takes at least two bytes of the text.
 pub fn read_text(text: &[u8], numbers: &mut [u64]) -> Text
     requires { ⌜ length (now text) + 1 ≤ 2 * length (now numbers) ⌝ }
-    ensures { λ r. ⌜ TextRead (now (text .entry)) r (now (numbers .exit)) ⌝ }
+    ensures { λ r. ⌜ TextRead (now (text .entry)) (now (numbers .entry)) (now (numbers .exit)) r ⌝ }
 {
     let first = date_line(text, 0);
     let valuation = Date {

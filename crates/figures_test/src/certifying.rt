@@ -15,16 +15,24 @@ const NUMBERS: usize = 8192;
 
 // An input has numbers of 8 bytes: year, month and day of the valuation date, and eight for each certificate.
 pub fn print_certificates(input: &[u8]) {
+    let mut numbers = [0u64; NUMBERS];
+    for i in 0..NUMBERS {
+        numbers[i] = number_at(input, 24 + 8 * i);
+    }
+    print_made(input, &numbers);
+}
+
+// The first numbers of the room are those behind the date.
+fn print_made(input: &[u8], room: &[u64]) {
     let valuation = Date {
         year: number_at(input, 0),
         month: number_at(input, 8),
         day: number_at(input, 16),
     };
-    let mut numbers = [0u64; NUMBERS];
-    for i in 0..NUMBERS {
-        numbers[i] = number_at(input, 24 + 8 * i);
+    let count = number_count(input);
+    if count <= room.len() {
+        print_cells(to_cells(valuation, &room[..count]));
     }
-    print_made(valuation, &numbers, number_count(input));
 }
 
 // How many whole numbers stand behind the date.
@@ -36,12 +44,6 @@ fn number_count(input: &[u8]) -> usize
     }
     let count = (input.len() - 24) / 8;
     if count < NUMBERS { count } else { NUMBERS }
-}
-
-fn print_made(valuation: Date, numbers: &[u64; NUMBERS], count: usize)
-    requires { ⌜ count ≤ 8192 ⌝ }
-{
-    print_cells(to_cells(valuation, &numbers[..count]));
 }
 
 // The answer, the count and the cells with their values.

@@ -1,11 +1,13 @@
 -- `to_cells` meets its contract: the count, then the certificates in turn, then the cells of their sums. Assumes nothing.
 use native.Mathlib.Omega.{arith}
 use mathlib.Core.Path.{_≡_, sym, ap, _∙_}
+use borrow.Author.Tests.{eq-eqb}
 use Rattle.answers.specs.Verdict.{Verdict, refused}
-use Rattle.answers.specs.Answers.{verdictOf}
+use Rattle.answers.specs.Answers.{numberOf, verdictOf}
 use Rattle.answers.proofs.AnswerLaws.{accepted-answer}
 use Rattle.certificate_terms.specs.Terms.{certificateCount}
 use Rattle.certificates.specs.Sums.{totalsOf}
+use Rattle.certificates.specs.Inner.Totals.{summedCount}
 use Rattle.certificates.specs.Verdict.{eachVerdict, certificatesVerdict}
 use Rattle.certificates.proofs.SumLaws.{Passed}
 use Rattle.certificates.proofs.CallLaws.{each-passed, count-none, count-many, count-passes, totals-bounded, call-refused, call-accepted}
@@ -54,7 +56,10 @@ totals-are : (c : tie.Else3)
     → c .before .before .scan .result .totals
     ≡ totalsOf (c .before .before .before .before .before .before .args .valuation) (c .before .before .before .before .before .before .args .certificates .now)
     (certificateCount (c .before .before .before .before .before .before .args .certificates .now))
-totals-are c = c .before .before .scan .ensures .1 (sym (c .before .number .ensures) ∙ c .if3 .left)
+unfolding verdictOf summedCount
+totals-are c =
+    let zero = sym (c .before .number .ensures) ∙ c .if3 .left in
+    c .before .before .scan .ensures .1 ∙ rw (eq-eqb (numberOf (c .before .before .scan .result .answer)) 0 zero)
 
 returns-3 : tie.Need-returns-3
 returns-3 c = let scanned = c .before .before .before .scan .ensures .0 in

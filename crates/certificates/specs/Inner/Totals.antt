@@ -1,7 +1,10 @@
--- The sums of the nine positions with a certificate more. Definitions only.
+-- The sums of the nine positions with a certificate more, and of the certificates that are summed. Definitions only.
 use Prim.Native.Nat.{ℕ, _+_, _*_}
 use mathlib.Core.List.{List}
+use mathlib.Core.Bool.{cond}
+use lib.Dec.{eqb}
 use lib.ListN.{getD, set}
+use Rattle.answers.specs.Verdict.{Verdict}
 use Rattle.filled_cells.specs.declared.Totals.{Totals}
 
 -- an amount added at a place
@@ -16,3 +19,7 @@ totalsWith t i months balance coupon =
       coupon = addedAt (t .coupon) i (balance * coupon);
       months = addedAt (t .months) i (balance * months);
     }
+
+-- how many of n certificates are summed: those before the one that is refused, all where none is
+unfoldable pub summedCount : Verdict → ℕ → ℕ
+summedCount v n = cond (eqb (v .number) 0) n (v .place)

@@ -9,9 +9,10 @@ use lib.ListN.{length}
 use Rattle.lists.specs.Tables.{tableFrom, joined}
 use Rattle.lists.proofs.RunLaws.{overwritten-none}
 use Rattle.certificates_input.specs.declared.lines.Line.{Line}
+use Rattle.certificates_input.specs.Texts.{readCount}
 use Rattle.certificates_input.specs.Lines.{dateForm, certificateForm, hasForm, formNumbers, formEnd}
 use Rattle.certificates_input.proofs.LineLaws.{line-readable, line-is}
-use Rattle.certificates_input.proofs.TextLaws.{LinesRead, Stored, first-read, form-takes, next-read, line-fails, first-fails, count-is, none-fails, stored-all, stored-next, valuation-read, certificate-read, numbers-are, certificate-length}
+use Rattle.certificates_input.proofs.TextLaws.{LinesRead, Stored, first-read, form-takes, next-read, line-fails, first-fails, count-is, none-fails, stored-next, certificate-read, numbers-are, certificate-length, first-none, line-first, none-first, date-read}
 use Rattle.certificates_input.proofs.read_text.Statement.{statement}
 use Rattle.certificates_input.proofs.read_text.Tie as tie
 
@@ -34,14 +35,17 @@ element-copy-out-t18 : tie.Need-element-copy-out-t18 Inv-loop μ-loop
 element-copy-out-t18 c = search needs
 
 returns : tie.Need-returns Inv-loop μ-loop
+unfolding readCount joined tableFrom
 returns c = let s = c .before .before .before .before .before .before .before .args .text .now in
     let line = c .before .before .before .before .date-line in
-    let fails = first-fails s (sym (line-readable s 0 dateForm (line .result) (line .ensures)) ∙ not-true _ (c .if1 .taken)) in
+    let form = sym (line-readable s 0 dateForm (line .result) (line .ensures)) ∙ not-true _ (c .if1 .taken) in
+    let none : readCount s ≡ 0 = omega (arith, first-none s form) in
     record {
-      unreadable-is = sym fails;
-      valuation-is = λ z. absurd (omega (arith, fails, z));
-      counted = omega arith;
-      numbers-are = λ z. absurd (omega (arith, fails, z));
+      unreadable-is = sym (first-fails s form);
+      valuation-is = date-read s (line .result) (line .ensures);
+      count-is = sym none;
+      numbers-are = rw none;
+      fits = omega arith;
     }
 
 -- the first line is a date
@@ -67,16 +71,21 @@ same-length : tie.Need-same-length Inv-loop μ-loop
 same-length c = c .before .before .before .before .loop .inv .1 .as-long
 
 returns-2 : tie.Need-returns-2 Inv-loop μ-loop
+unfolding readCount
 returns-2 c = let s = c .before .before .before .before .before .before .before .before .before .before .before .before .args .text .now in
     let at = c .before .before .before .before .loop in
     let line = c .before .before .certificate-line in
     let form = sym (line-readable s (at .at) certificateForm (line .result) (line .ensures)) ∙ not-true _ (c .if2 .taken) in
-    let fails = line-fails s (at .count + 1) (at .at) (at .inv .0) (c .before .before .before .loop-test .taken) form in
+    let more = c .before .before .before .loop-test .taken in
+    let first = line-first s (at .count + 1) (at .at) (at .inv .0) more form in
+    let count : readCount s ≡ at .count = omega (arith, first) in
+    let day = c .before .before .before .before .before .before .before .before .before .date-line in
     record {
-      unreadable-is = omega (arith, fails);
-      valuation-is = λ z. absurd (omega (arith, fails, z));
-      counted = omega (arith, at .inv .1 .as-long, at .inv .0 .room, at .inv .0 .bound, c .before .before .before .before .before .before .before .before .before .before .before .before .pre);
-      numbers-are = λ z. absurd (omega (arith, fails, z));
+      unreadable-is = omega (arith, line-fails s (at .count + 1) (at .at) (at .inv .0) more form);
+      valuation-is = date-read s (day .result) (day .ensures);
+      count-is = sym count;
+      numbers-are = rw count (at .inv .1 .is);
+      fits = omega (arith, at .inv .1 .as-long, at .inv .0 .room, at .inv .0 .bound, c .before .before .before .before .before .before .before .before .before .before .before .before .pre);
     }
 
 -- the line is a certificate: its numbers, the place behind it, and room for them
@@ -131,15 +140,18 @@ same-length-2 : tie.Need-same-length-2 Inv-loop μ-loop
 same-length-2 c = c .before .loop .inv .1 .as-long
 
 returns-3 : tie.Need-returns-3 Inv-loop μ-loop
+unfolding readCount
 returns-3 c = let s = c .before .before .before .before .before .before .before .before .before .args .text .now in
     let at = c .before .loop in
-    let count = count-is s (at .count + 1) (at .at) (at .inv .0) (c .loop-test .left) in
+    let first = none-first s (at .count + 1) (at .at) (at .inv .0) (c .loop-test .left) in
+    let count : readCount s ≡ at .count = omega (arith, first) in
     let line = c .before .before .before .before .before .before .date-line in
     record {
       unreadable-is = sym (none-fails s (at .count + 1) (at .at) (at .inv .0) (c .loop-test .left));
-      valuation-is = λ z. valuation-read s (line .result) (line .ensures) (dated (c .before .before));
-      counted = omega (arith, at .inv .1 .as-long, at .inv .0 .room, at .inv .0 .bound, c .before .before .before .before .before .before .before .before .before .pre);
-      numbers-are = λ z. stored-all s _ (at .numbers) (at .count) count (at .inv .1);
+      valuation-is = date-read s (line .result) (line .ensures);
+      count-is = sym count;
+      numbers-are = rw count (at .inv .1 .is);
+      fits = omega (arith, at .inv .1 .as-long, at .inv .0 .room, at .inv .0 .bound, c .before .before .before .before .before .before .before .before .before .pre);
     }
 
 pub read-text-spec : {M : Type 1} → statement M

@@ -2,6 +2,7 @@
 use native.Mathlib.Omega.{arith}
 use mathlib.Core.Path.{sym, _∙_}
 use lib.Seq.{length-take-le}
+use Rattle.certificates_input.proofs.ReadLaws.{date-all, numbers-all}
 use Rattle.certificates_text.specs.Printed.{tooLong}
 use Rattle.certificates_text.proofs.PrintingLaws.{text-too-long, text-unreadable, text-readable, printed}
 use borrow.Author.Needs.{needs}
@@ -46,7 +47,7 @@ array-share-prefix-numbers c = search needs
 slice-aggregate-append-answer : tie.Need-slice-aggregate-append-answer
 slice-aggregate-append-answer c =
     let r = c .before .before .before .before .before .before .read-text in
-    sym (length-take-le _ _ (r .ensures .counted))
+    sym (length-take-le _ _ (r .ensures .fits))
 
 append-answer-requires : tie.Need-append-answer-requires
 append-answer-requires c κs = search needs
@@ -58,7 +59,7 @@ returns-3 c =
     let read = r .read-text .ensures in
     let lines = c .append-answer .ensures in
     let readable = sym (read .unreadable-is) ∙ c .before .before .before .before .before .if2 .left in
-    let text = text-readable s _ _ (omega arith) readable (read .valuation-is readable) (read .numbers-are readable) in
+    let text = text-readable s _ _ (omega arith) readable (read .valuation-is ∙ date-all s readable) (numbers-all s readable _ _ _ read) in
     printed _ _ _ _ _ (omega (arith, lines .0 .end-is, lines .1)) text (lines .0)
 
 pub write-cells-spec : {M : Type 1} → statement M

@@ -8,7 +8,7 @@ use Rattle.answers.specs.Answers.{verdictOf}
 use Rattle.certificate_terms.specs.Terms.{certificateCount, positionOf}
 use Rattle.certificate_terms.specs.Faults.{ownVerdict}
 use Rattle.certificate_terms.proofs.FaultLaws.{Sound, remaining-one, remaining-le-original, sound-position}
-use Rattle.certificates.proofs.ScanLaws.{Scanning, scan-start, scan-all, balance-at-le, coupon-at-le, months-at-le, scan-own, scan-sound, scan-over, scan-next}
+use Rattle.certificates.proofs.ScanLaws.{Scanning, scan-start, scan-all, balance-at-le, coupon-at-le, months-at-le, scan-own, own-summed, over-summed, scan-sound, scan-over, scan-next}
 use Rattle.certificates.proofs.scan.scan.Statement.{statement}
 use Rattle.certificates.proofs.scan.scan.Tie as tie
 
@@ -45,8 +45,10 @@ unfolding verdictOf
 returns c =
     let l = c .before .before .before .before .before in
     let own = c .before .before .before .certificate-at in
+    let found = c .before .before .check-certificate .ensures in
     let first = scan-own _ _ _ _ (l .loop .inv) (counted (c .before .before .before .before)) (own .result) (own .ensures) (λ e. c .if1 .taken (own-number (c .before) ∙ e)) in
-    (c .before .before .check-certificate .ensures ∙ first, λ z. absurd (c .if1 .taken (c .before .number .ensures ∙ z)))
+    let summed = own-summed _ _ _ _ (l .loop .inv) (counted (c .before .before .before .before)) (own .result) (own .ensures) (λ e. c .if1 .taken (own-number (c .before) ∙ e)) in
+    (found ∙ first, rw found summed)
 
 own-none : (c : tie.Else1 Inv-loop μ-loop) → ownVerdict (c .before .before .before .before .before .before .before .args .valuation) (c .before .before .before .before .before .loop .k) (c .before .before .before .certificate-at .result) .number ≡ 0
 own-none c = sym (own-number (c .before)) ∙ c .if1 .left
@@ -98,7 +100,7 @@ returns-2 c =
     let own = n .before .before .before .certificate-at in
     let over = rw (sum-tested (c .before .before .before)) at (c .if2 .taken) in (
       scan-over _ _ _ _ (n .before .before .before .before .before .loop .inv) (counted (n .before .before .before .before)) (own .result) (own .ensures) (own-none n) over,
-      λ z. absurd (omega arith),
+      over-summed _ _ _ _ (n .before .before .before .before .before .loop .inv) (counted (n .before .before .before .before)) (own .result) (own .ensures),
     )
 
 added-requires : tie.Need-added-requires Inv-loop μ-loop
@@ -130,7 +132,7 @@ loop-again c =
 returns-3 : tie.Need-returns-3 Inv-loop μ-loop
 unfolding verdictOf accepted certificateCount
 returns-3 c = let all = scan-all _ _ (c .before .loop .k) (c .before .loop .totals) (c .before .loop .inv) (c .loop-test .left) in
-    (all .0, λ z. all .1)
+    all
 
 pub scan-spec : {M : Type 1} → statement M
 scan-spec =
