@@ -19,9 +19,9 @@ static value_function *const version[VERSIONS] = {value_recomputed, value_tabled
 static const char *const version_name[VERSIONS] = {"a recomputed", "b tabled", "c multiplied", "d in runs", "proved"};
 
 /* The filings that are timed. */
-enum { WORST, WORST_TIERS, WORST_PATH, WORST_FINE, WORST_ALL, TYPICAL, TYPICAL_ALL, FULLEST, ONE_BALANCE, NO_BALANCES, FILINGS };
+enum { WORST, WORST_TIERS, WORST_PATH, WORST_FINE, WORST_AMENDED, WORST_ALL, TYPICAL, TYPICAL_ALL, FULLEST, ONE_BALANCE, NO_BALANCES, FILINGS };
 static const char *const filing_name[FILINGS] = {
-    "worst", "worst-tiers", "worst-path", "worst-fine", "worst-all", "typical", "typical-all", "fullest", "one-balance", "no-balances"};
+    "worst", "worst-tiers", "worst-path", "worst-fine", "worst-amended", "worst-all", "typical", "typical-all", "fullest", "one-balance", "no-balances"};
 
 /* All versions give the same answer, place and list; the list past the 568 is left. */
 static uint64_t agree(struct input f)
@@ -47,7 +47,7 @@ static void same_kinds(void)
 {
     static uint64_t list[LIST];
     uint64_t place;
-    for (int i = WORST_TIERS; i <= WORST_FINE; i++) {
+    for (int i = WORST_TIERS; i <= WORST_AMENDED; i++) {
         struct input f = named(filing_name[i]);
         if (spritapricot_value(f.bytes, f.size, list, LIST, &place) == 2) {
             printf("the library does not know a kind of record in the filing %s\n", f.name);
@@ -59,14 +59,14 @@ static void same_kinds(void)
 
 static void compare_random(int filings)
 {
-    int with[13] = {0};
+    int with[17] = {0};
     for (int i = 0; i < filings; i++) {
         struct input f = any();
         with[agree(f)]++;
         free(f.bytes);
     }
     printf("%d random filings, the same answers and numbers from all versions\n%d accepted; refused, by number:", filings, with[0]);
-    for (int n = 1; n < 13; n++)
+    for (int n = 1; n < 17; n++)
         if (with[n] != 0) printf(" %d: %d", n, with[n]);
     printf("\n\n");
 }
@@ -148,12 +148,12 @@ static void stacks(void)
     free(f.bytes);
 }
 
-static void hostile_times(struct input f, size_t read)
+static void hostile_times(struct input f, size_t read, int rounds)
 {
     double least[1][VERSIONS];
     uint64_t answer = agree(f);
-    measure(&f, 1, 40, least);
-    printf("%-34s%10zu%6llu%8zu%10.0f%10.0f%10.2f\n", f.name, f.size, (unsigned long long)answer, read, least[0][B], least[0][PROVED],
+    measure(&f, 1, rounds, least);
+    printf("%-34s%10zu%6llu%10zu%12.0f%12.0f%10.2f\n", f.name, f.size, (unsigned long long)answer, read, least[0][B], least[0][PROVED],
         least[0][PROVED] / (double)read);
     free(f.bytes);
 }
@@ -162,14 +162,25 @@ static void refused_inputs(void)
 {
     static const size_t size[3] = {2048, 65536, 16777216};
     struct input f = named("fullest");
-    printf("\n%-34s%10s%6s%8s%10s%10s%10s\n", "refused inputs, ns a call", "bytes", "no.", "read", version_name[B], version_name[PROVED], "ns/byte");
+    printf("\n%-34s%10s%6s%10s%12s%12s%10s\n", "hostile inputs, ns a call", "bytes", "no.", "read", version_name[B], version_name[PROVED], "ns/byte");
     for (int i = 0; i < 3; i++) {
-        hostile_times(hostile("early: zero length", size[i], 0, 0), 2);
-        hostile_times(hostile("early: unknown kind", size[i], 0, 3), 4);
-        hostile_times(hostile("late: fullest filing, then zeros", size[i], 1, 0), f.size + 2);
-        hostile_times(hostile("late: fullest filing, then 0xff", size[i], 1, 255), f.size + 2);
+        hostile_times(hostile("early: zero length", size[i], 0, 0), 2, 40);
+        hostile_times(hostile("early: unknown kind", size[i], 0, 3), 4, 40);
+        hostile_times(hostile("late: fullest filing, then zeros", size[i], 1, 0), f.size + 2, 40);
+        hostile_times(hostile("late: fullest filing, then 0xff", size[i], 1, 255), f.size + 2, 40);
     }
     free(f.bytes);
+}
+
+static void amended_inputs(void)
+{
+    static const char *const name[3] = {"amendments: cell after cell", "amendments: cells in turn", "amendments: the last two alike"};
+    static const size_t size[3] = {65536, 1048576, 16777216};
+    for (int shape = ONE_CELL; shape <= LAST_TWO_ALIKE; shape++)
+        for (int i = 0; i < 3; i++) {
+            struct input f = amendments(name[shape], size[i], (enum shape)shape);
+            hostile_times(f, f.size, 5);
+        }
 }
 
 static void once(int which, const char *name)
@@ -199,5 +210,6 @@ int main(int argc, char **argv)
     take_apart(least);
     stacks();
     refused_inputs();
+    amended_inputs();
     return 0;
 }

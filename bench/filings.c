@@ -2,7 +2,7 @@
 #include "put.h"
 #include <string.h>
 
-enum { OWN_TIERS = 1, PATH = 2, FINE = 4, ALL = OWN_TIERS | PATH | FINE };
+enum { OWN_TIERS = 1, PATH = 2, FINE = 4, ALL = OWN_TIERS | PATH | FINE, AMENDED = 8 };
 
 /* Sixteen tiers with edges from 4,000 on: a ratio below 40 makes a month try them all. */
 static void put_high_tiers(struct input *f)
@@ -28,6 +28,8 @@ static struct input worst(const char *name, int features)
     static const uint64_t balance[9] = {999999999, 99999999, 9999999, 999999, 123456789, 987654321, 55555555, 777777777, 999999999};
     struct input f = empty(name, CAPACITY);
     put_cells(&f, balance, most_months, 700, features & FINE ? ~0u : 0, 180);
+    if (features & AMENDED)
+        for (size_t at = 0, end = f.size; at < end; at += 14) amend(&f, at);
     put_sheets(&f, 310, 7, 900, 50, features);
     return f;
 }
@@ -75,6 +77,7 @@ struct input named(const char *name)
     if (strstr(name, "-tiers") != NULL) features |= OWN_TIERS;
     if (strstr(name, "-path") != NULL) features |= PATH;
     if (strstr(name, "-fine") != NULL) features |= FINE;
+    if (strstr(name, "-amended") != NULL) features |= AMENDED;
     if (strcmp(name, "no-balances") == 0) return worst_with(name, 0);
     if (strcmp(name, "one-balance") == 0) return worst_with(name, 999999999);
     if (name[0] == 'w') return worst(name, features);
@@ -89,5 +92,25 @@ struct input hostile(const char *name, size_t size, int late, int fill)
     struct input f = late ? fullest(name, size) : empty(name, size);
     memset(f.bytes + f.size, fill, size - f.size);
     f.size = size;
+    return f;
+}
+
+struct input amendments(const char *name, size_t size, enum shape shape)
+{
+    static const unsigned listed[44] = {
+        601, 602, 603, 604, 605, 606, 607, 608, 609, 610, 615, 616, 617, 618, 619, 620, 621, 622, 623, 624, 631, 632,
+        633, 634, 635, 636, 637, 641, 642, 643, 644, 645, 650, 651, 652, 653, 654, 655, 656, 657, 658, 659, 660, 661};
+    struct input f = empty(name, size + 18);
+    put_yields(&f, 100, 1);
+    put_rates(&f, 300);
+    for (unsigned i = 0; f.size + 36 <= size; i++)
+        if (shape == ONE_CELL)
+            put_amendment(&f, listed[i / 65535], i % 65535 + 1, 0, 0);
+        else
+            put_amendment(&f, listed[i % 44], i / 44 + 1, 0, 0);
+    if (shape == LAST_TWO_ALIKE) {
+        memcpy(f.bytes + f.size, f.bytes + f.size - 18, 18);
+        f.size += 18;
+    }
     return f;
 }

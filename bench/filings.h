@@ -15,17 +15,25 @@ struct input {
  * A filing by name:
  *   worst        nine cells, longest terms, all 36 sub-balances, 120 distinct yields, none of them cut at 0 by a shift
  *   typical      six cells, terms of 2 to 52 months
- *   fullest      every listed cell with the longest records, shortest terms: no accepted filing is longer
+ *   fullest      every listed cell with the longest records, shortest terms: no accepted filing without amendments is longer
  *   no-balances  the records of the worst filing with every balance 0: read and split, and no month priced
  *   one-balance  the same with one sub-balance of 120 months, retail without penalty
  *   refused      the fullest filing, then a cell a second time
  * The first two may go on with -tiers: sixteen tiers of its own, of which a retail month reaches only the lowest; -path: retail rates by month,
- * in the worst filing up and down from month to month; -fine: coupons in thousandths. -all is all three.
+ * in the worst filing up and down from month to month; -fine: coupons in thousandths. -all is all three. The worst may go on with -amended: each
+ * cell amended twice, to its own value.
  */
 struct input named(const char *name);
 
 /* A long input: the records of the fullest filing or none, and then bytes `fill` that no rule allows, up to `size`. */
 struct input hostile(const char *name, size_t size, int late, int fill);
+
+/*
+ * Amendments up to `size` bytes, all of value 0, and sheets before them: each cell's 65,535 numbers before the next cell's (65,535 fill 1.1 MiB), the 44
+ * cells in turn, or in turn with the last record twice, which is refused.
+ */
+enum shape { ONE_CELL, IN_TURN, LAST_TWO_ALIKE };
+struct input amendments(const char *name, size_t size, enum shape shape);
 
 /* A random filing, records in any order, some with a fault and some damaged, more than half of them accepted; and where the sequence starts. */
 struct input any(void);

@@ -28,6 +28,16 @@ void put_cell_of(struct input *f, unsigned kind, unsigned n, uint64_t v)
     put(f, v, 8);
 }
 
+void put_amendment(struct input *f, unsigned n, unsigned number, unsigned state, uint64_t v)
+{
+    put(f, 16, 2);
+    put(f, 7, 2);
+    put(f, n, 2);
+    put(f, number, 2);
+    put(f, state, 2);
+    put(f, v, 8);
+}
+
 void put_cell(struct input *f, unsigned n, uint64_t v) { put_cell_of(f, 1, n, v); }
 
 void put_cells(struct input *f, const uint64_t balance[9], const uint64_t months[9], uint64_t coupon, unsigned fine, uint64_t penalty)
@@ -86,4 +96,19 @@ void put_tiers(struct input *f, const struct tier *tiers, unsigned pairs, unsign
         put(f, tiers[i].edge, 2);
         put(f, tiers[i].withdrawal, 2);
     }
+}
+
+static uint64_t number(const uint8_t *p, int width)
+{
+    uint64_t n = 0;
+    for (int i = width - 1; i >= 0; i--) n = n << 8 | p[i];
+    return n;
+}
+
+void amend(struct input *f, size_t at)
+{
+    unsigned n = (unsigned)number(f->bytes + at + 4, 2);
+    uint64_t v = number(f->bytes + at + 6, 8);
+    put_amendment(f, n, 2, 0, f->bytes[at + 2] == 6 ? v / 10 : v);
+    put_amendment(f, n, 1, 1, 0);
 }

@@ -22,6 +22,10 @@ void put_cell_of(struct input *f, unsigned kind, unsigned n, uint64_t v);
  */
 void put_cells(struct input *f, const uint64_t balance[9], const uint64_t months[9], uint64_t coupon, unsigned fine, uint64_t penalty);
 
+/* Kind 7; and two of them that give the cell of the record at `at` (kind 1 or 6) its own value, a coupon in whole hundredths. */
+void put_amendment(struct input *f, unsigned n, unsigned number, unsigned state, uint64_t v);
+void amend(struct input *f, size_t at);
+
 /* Kind 2: yields from `first` up by `step` each month, capped at 2,500. */
 void put_yields(struct input *f, unsigned first, unsigned step);
 

@@ -38,8 +38,16 @@ static void put_any_tiers(struct input *f)
     put_tiers(f, tiers, pairs, count);
 }
 
+/* Amends some of the cells, and now and then one without regard to the rules. */
+static void put_any_amendments(struct input *f)
+{
+    size_t cells = f->size / 14;
+    for (uint64_t i = 1 + below(6); i > 0; i--) amend(f, 14 * below(cells));
+    if (below(3) == 0) put_amendment(f, below(8) ? balance_cell[below(9)] : 600 + (unsigned)below(64), (unsigned)below(4), (unsigned)below(3), below(2));
+}
+
 /* Where each record begins; their number. */
-static int records_of(struct input f, size_t start[64])
+static int records_of(struct input f, size_t start[96])
 {
     int count = 0;
     for (size_t at = 0; at < f.size; at += 2u + f.bytes[at] + 256u * f.bytes[at + 1]) start[count++] = at;
@@ -50,9 +58,9 @@ static int records_of(struct input f, size_t start[64])
 /* The same records in any order, one of them twice now and then. */
 static void shuffle(struct input *f)
 {
-    size_t start[64];
+    size_t start[96];
     struct input from = *f;
-    int order[64], count = records_of(from, start);
+    int order[96], count = records_of(from, start);
     *f = empty("random", CAPACITY);
     for (int i = 0; i < count; i++) {
         int l = (int)below((uint64_t)i + 1);
@@ -81,6 +89,7 @@ struct input any(void)
     }
     put_cells(&f, balance, months, below(6) == 0 ? below(3) : below(1340), below(2) ? 0 : (unsigned)below(512), below(3601));
     if (below(16) == 0) put_cell_of(&f, below(4) ? 6 : 1, below(4) ? coupon_cell[below(9)] : 600 + (unsigned)below(64), below(20000));
+    if (below(3) == 0) put_any_amendments(&f);
     put_yields(&f, (unsigned)below(600), (unsigned)below(18));
     unsigned sheets = (unsigned)below(24);
     if (sheets < 12) put_rates(&f, (unsigned)below(2400));

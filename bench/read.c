@@ -1,6 +1,7 @@
 /* Reads a filing front to back, tests its contents, and splits its nine balances into thirty-six. */
 #include "read.h"
 #include "survival.h"
+#include <stdlib.h>
 #include <string.h>
 
 static const int balance_cell[9] = {601, 602, 603, 615, 616, 617, 631, 632, 641};
@@ -24,9 +25,13 @@ static const uint64_t limit[61] = {
     BAL, ANY, 1500, 1500, 120, 120, 0, 0, 0, BAL, ANY, 1500, 120, TOT, 0, 0, 0, 0, SUB, SUB, SUB, SUB, SUB, SUB, 3600, 3600, 3600, ANY, ANY, ANY,
 };
 
-/* What has been read: cells by number less 601, sheets and tiers by kind. */
+/*
+ * What has been read: cells by number less 601, sheets and tiers by kind; the highest amendment of each cell, and a bit for each cell and number, made
+ * with the first amendment.
+ */
 struct seen {
     uint8_t cell[61], kind[6];
+    uint64_t number[61], *amended;
 };
 
 static uint64_t number(const uint8_t *p, int width)
@@ -49,7 +54,32 @@ static int read_cell(const uint8_t *body, size_t length, int fine, struct conten
     if (seen->cell[n - 601]) return 4;
     if (v > (fine ? 15000 : limit[n - 601])) return 5;
     seen->cell[n - 601] = 1;
-    k->cell[n - 601] = coupon && !fine ? 10 * v : v;
+    if (seen->number[n - 601] == 0) k->cell[n - 601] = coupon && !fine ? 10 * v : v;
+    return 0;
+}
+
+/* Whether a cell and number have been read; they have then. */
+static int amended_before(uint64_t cell, uint64_t number, struct seen *seen)
+{
+    if (seen->amended == NULL) seen->amended = calloc(61 * 1024, 8);
+    if (seen->amended == NULL) abort();
+    uint64_t *word = &seen->amended[1024 * cell + number / 64], bit = UINT64_C(1) << number % 64, before = *word & bit;
+    *word |= bit;
+    return before != 0;
+}
+
+/* Kind 7: an amended or withdrawn cell. */
+static int read_amendment(const uint8_t *body, size_t length, struct contents *k, struct seen *seen)
+{
+    if (length != 16) return 2;
+    uint64_t n = number(body, 2), i = number(body + 2, 2), state = number(body + 4, 2), v = number(body + 6, 8);
+    if (n < 601 || n > 661 || limit[n - 601] == 0) return 3;
+    if (amended_before(n - 601, i, seen)) return 16;
+    if (i == 0 || state > 1 || v > limit[n - 601] || (state == 1 && v != 0)) return 5;
+    if (i > seen->number[n - 601]) {
+        seen->number[n - 601] = i;
+        k->cell[n - 601] = limit[n - 601] == 1500 ? 10 * v : v;
+    }
     return 0;
 }
 
@@ -98,10 +128,9 @@ static int read_tiers(const uint8_t *body, size_t length, uint8_t *seen, struct 
     return 0;
 }
 
-/* Reads the records: 1 to 6, 11 and 12. */
-static int read_records(const uint8_t *s, size_t size, struct contents *k, uint64_t *place)
+/* Reads the records: 1 to 6, 11, 12 and 16. */
+static int read_records(const uint8_t *s, size_t size, struct contents *k, struct seen *seen, uint64_t *place)
 {
-    struct seen seen = {{0}, {0}};
     size_t at = 0;
     memset(k->cell, 0, sizeof k->cell);
     k->tiers = house;
@@ -113,19 +142,20 @@ static int read_records(const uint8_t *s, size_t size, struct contents *k, uint6
         const uint8_t *body = s + at + 4;
         int fault = 2;
         switch (number(s + at + 2, 2)) {
-        case 1: fault = read_cell(body, length, 0, k, &seen); break;
-        case 2: fault = read_sheet(body, length, 120, &seen.kind[2], 0, k->yield); break;
-        case 3: fault = read_flat_rates(body, length, &seen, k); break;
-        case 4: fault = read_tiers(body, length, &seen.kind[4], &k->tiers); break;
-        case 5: fault = read_sheet(body, length, 360, &seen.kind[5], seen.kind[3], k->rate[0]); break;
-        case 6: fault = read_cell(body, length, 1, k, &seen); break;
+        case 1: fault = read_cell(body, length, 0, k, seen); break;
+        case 2: fault = read_sheet(body, length, 120, &seen->kind[2], 0, k->yield); break;
+        case 3: fault = read_flat_rates(body, length, seen, k); break;
+        case 4: fault = read_tiers(body, length, &seen->kind[4], &k->tiers); break;
+        case 5: fault = read_sheet(body, length, 360, &seen->kind[5], seen->kind[3], k->rate[0]); break;
+        case 6: fault = read_cell(body, length, 1, k, seen); break;
+        case 7: fault = read_amendment(body, length, k, seen); break;
         }
         if (fault != 0) return fault;
         at += 2 + length;
     }
     *place = size;
-    k->flat = seen.kind[3];
-    return seen.kind[2] && (seen.kind[3] || seen.kind[5]) ? 0 : 6;
+    k->flat = seen->kind[3];
+    return seen->kind[2] && (seen->kind[3] || seen->kind[5]) ? 0 : 6;
 }
 
 /* The conditions on the contents: 7 to 9. */
@@ -151,7 +181,9 @@ static int check_contents(const struct contents *k, uint64_t *place)
 
 int read_filing(const uint8_t *filing, size_t size, struct contents *k, uint64_t *place)
 {
-    int refusal = read_records(filing, size, k, place);
+    struct seen seen = {{0}, {0}, {0}, NULL};
+    int refusal = read_records(filing, size, k, &seen, place);
+    free(seen.amended);
     return refusal != 0 ? refusal : check_contents(k, place);
 }
 

@@ -2,8 +2,8 @@
 from accepted import paper_figures
 from monthly_rates import DOWN, NO_PATH, SAW, UP
 from records import (
-    LISTING, RISING, SHEETS, cell, cells, deposits, filing, fine_cells, flat, middle_month, path_filing, rates, record, shared, tiers,
-    yields,
+    LISTING, RISING, SHEETS, amended, cell, cells, deposits, filing, fine_cells, flat, middle_month, path_filing, rates, record, shared, tiers,
+    withdrawn, yields,
 )
 from refused import refusal_table
 
@@ -41,6 +41,7 @@ def listed():
     yield "all positions, all four kinds", WHOLE
     yield "the same with own tiers", WHOLE + tiers((0, 0), (90, 300), (110, 600))
     yield "coupons in thousandths", fine_cells(VALUES) + yields(RISING) + rates((400, 500, 600))
+    yield "amended and withdrawn cells", WHOLE + amended(605, 2, 700) + withdrawn(605, 1) + withdrawn(656, 1)
     yield "a path of retail rates", path_filing(VALUES, RISING, UP, DOWN, SAW)
     yield "sheets alone", filing({})
     yield from paper_figures()
@@ -52,6 +53,7 @@ def not_listed():
             yield name, data
     yield "no rates", cells(LISTING) + yields(flat(0))
     yield "12: rates and a path", SHEETS + NO_PATH
+    yield "16: an amendment twice", amended(605, 1, 0) * 2
 
 
 def long_inputs():

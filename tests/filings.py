@@ -10,6 +10,7 @@ from pathlib import Path
 sys.dont_write_bytecode = True
 
 import accepted
+import amendments
 import calls
 import certificates
 import fine_coupons
@@ -27,7 +28,8 @@ MOST_PLACES = 40
 
 
 FILINGS = (
-    accepted.FAMILIES + refused.FAMILIES + own_tiers.FAMILIES + monthly_rates.FAMILIES + fine_coupons.FAMILIES + calls.FAMILIES
+    accepted.FAMILIES + refused.FAMILIES + own_tiers.FAMILIES + monthly_rates.FAMILIES + fine_coupons.FAMILIES + amendments.FAMILIES
+    + calls.FAMILIES
 )
 
 

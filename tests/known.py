@@ -4,6 +4,7 @@ import sys
 
 sys.dont_write_bytecode = True
 
+import amendments
 import certificates
 import filings
 import fine_coupons
@@ -24,7 +25,7 @@ def printed():
 def check():
     texts = printed()
     figures = monthly_rates.FIGURES | fine_coupons.FIGURES | certificates.FIGURES | searches.known()
-    pairs = {*monthly_rates.SAME, *fine_coupons.SAME}
+    pairs = {*monthly_rates.SAME, *fine_coupons.SAME, *amendments.SAME}
     for name, line in figures.items():
         assert f"{line}\n" in texts[name], f"{name}: no line {line}"
     for one, other in pairs:

@@ -4,6 +4,7 @@
 Needs target/bin/second and target/bin/figures_test (`rt check`) and target/bench/check (`bench/run check`); what is missing is left out. Not run by
 the gate."""
 import random
+import struct
 import subprocess
 import sys
 from pathlib import Path
@@ -13,8 +14,8 @@ sys.dont_write_bytecode = True
 from calls import VALUE_AND_SPLIT
 from filings import entry
 from records import (
-    COLUMNS, LIMITS, POSITIONS, UNUSED, brokered_cell, cell, fine, path, penalty_balance_cell, penalty_cell, rates, record,
-    tiers, yields,
+    COLUMNS, LIMITS, POSITIONS, UNUSED, amended, amendment_record, brokered_cell, cell, fine, path, penalty_balance_cell, penalty_cell, rates, record,
+    tiers, withdrawn, yields,
 )
 
 TARGET = Path(__file__).resolve().parent.parent / "target"
@@ -73,9 +74,23 @@ def coupon_record(r, number):
     return fine(number, r.choice((10 * coupon, r.randint(0, 15_000), 15_000)))
 
 
+def amendment_records(r, records):
+    """Amendments that say the same as the records, or something else that a higher number undoes."""
+    for data in r.sample(records, r.randint(1, min(8, len(records)))):
+        kind, number, value = struct.unpack("<2xHHQ", data)
+        numbers = r.sample((1, 2, 3, 4, 255, 256, 65_535, r.randint(5, 60_000)), r.randint(1, 3))
+        if kind == 1:
+            last = amended(number, max(numbers), value) if value or r.random() < 0.5 else withdrawn(number, max(numbers))
+        else:
+            last = amended(number, max(numbers), value // 10)
+        yield last
+        for n in sorted(numbers)[:-1]:
+            yield r.choice((withdrawn(number, n), amended(number, n, 0)))
+
+
 def faulty_record(r):
     """A record that may break any rule."""
-    kind = r.choice((1, 1, 2, 3, 4, 5, 6, 6, 11))
+    kind = r.choice((1, 1, 2, 3, 4, 5, 6, 6, 7, 7, 7, 11))
     if kind == 1:
         number = r.choice((*LIMITS, *UNUSED, r.randint(595, 665)))
         limit = LIMITS.get(number, 1)
@@ -91,11 +106,17 @@ def faulty_record(r):
     if kind == 6:
         number = r.choice((*(place.coupon for place in POSITIONS), *LIMITS, r.randint(595, 665)))
         return fine(number, r.choice((0, 15_000, 15_001, r.randint(0, 15_000), r.getrandbits(64))))
+    if kind == 7:
+        number = r.choice((*LIMITS, *UNUSED, r.randint(595, 665)))
+        value = r.choice((0, 0, LIMITS.get(number, 1), LIMITS.get(number, 1) + 1))
+        return amendment_record(number, r.choice((0, 1, 2, 65_535)), r.choice((0, 0, 1, 2)), value)
     return record(kind, bytes(r.randint(0, 12)))
 
 
 def random_filing(r):
     records = [*cell_records(r)]
+    if r.random() < 0.4:
+        records += amendment_records(r, records)
     records.append(yields(months_of_rates(r)))
     records.append(path(*(months_of_rates(r) for _ in COLUMNS)) if r.random() < 0.5 else rates([rate(r) for _ in COLUMNS]))
     if r.random() < 0.5:

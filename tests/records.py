@@ -53,6 +53,19 @@ def fine(number, value):
     return record(6, struct.pack("<HQ", number, value))
 
 
+def amended(number, amendment, value):
+    """A cell's amendment by its number."""
+    return amendment_record(number, amendment, 0, value)
+
+
+def withdrawn(number, amendment):
+    return amendment_record(number, amendment, 1, 0)
+
+
+def amendment_record(number, amendment, state, value):
+    return record(7, struct.pack("<HHHQ", number, amendment, state, value))
+
+
 def cells(values):
     return b"".join(cell(number, value) for number, value in values.items())
 

@@ -3,7 +3,7 @@
 use native.Mathlib.Omega.{arith}
 use mathlib.Core.Path.{_≡_, refl, ap}
 use Rattle.answers.specs.declared.Answer.{Answer}
-use Rattle.answers.specs.declared.Answer.the-variants.{Accepted, RecordIncomplete, RecordMisshapen, CellUnlisted, Repeated, PathBesideFlat, OverLimit, TiersUnsound, SheetMissing, MonthsOutsideRow, AboveColumnSum, TotalDiffers, ListTooShort, NoSuchDay, NotOutstanding, TooManyMonths}
+use Rattle.answers.specs.declared.Answer.the-variants.{Accepted, RecordIncomplete, RecordMisshapen, CellUnlisted, Repeated, PathBesideFlat, AmendmentRepeated, OverLimit, TiersUnsound, SheetMissing, MonthsOutsideRow, AboveColumnSum, TotalDiffers, ListTooShort, NoSuchDay, NotOutstanding, TooManyMonths}
 use Rattle.answers.specs.Verdict.{accepted}
 use Rattle.answers.specs.Answers.{numberOf, verdictOf}
 
@@ -15,6 +15,7 @@ number-accepted (RecordMisshapen at) h = absurd (omega arith)
 number-accepted (CellUnlisted at) h = absurd (omega arith)
 number-accepted (Repeated at) h = absurd (omega arith)
 number-accepted (PathBesideFlat at) h = absurd (omega arith)
+number-accepted (AmendmentRepeated at) h = absurd (omega arith)
 number-accepted (OverLimit at) h = absurd (omega arith)
 number-accepted (TiersUnsound at) h = absurd (omega arith)
 number-accepted (SheetMissing at) h = absurd (omega arith)

@@ -1,7 +1,7 @@
--- The answers of the code as verdicts of the paper's table (01:28-39; 02:CR 1, CR 3, CR 5): each case's number and place. Definitions only.
+-- The answers of the code as verdicts of the paper's table (01:28-39; 02:CR 1, CR 3, CR 5, CR 6): each case's number and place. Definitions only.
 use Prim.Native.Nat.{ℕ}
 use Rattle.answers.specs.declared.Answer.{Answer}
-use Rattle.answers.specs.declared.Answer.the-variants.{Accepted, RecordIncomplete, RecordMisshapen, CellUnlisted, Repeated, PathBesideFlat, OverLimit, TiersUnsound, SheetMissing, MonthsOutsideRow, AboveColumnSum, TotalDiffers, ListTooShort, NoSuchDay, NotOutstanding, TooManyMonths}
+use Rattle.answers.specs.declared.Answer.the-variants.{Accepted, RecordIncomplete, RecordMisshapen, CellUnlisted, Repeated, PathBesideFlat, AmendmentRepeated, OverLimit, TiersUnsound, SheetMissing, MonthsOutsideRow, AboveColumnSum, TotalDiffers, ListTooShort, NoSuchDay, NotOutstanding, TooManyMonths}
 use Rattle.answers.specs.Verdict.{Verdict}
 
 -- the number of an answer
@@ -12,6 +12,7 @@ numberOf (RecordMisshapen offset) = 2
 numberOf (CellUnlisted offset) = 3
 numberOf (Repeated offset) = 4
 numberOf (PathBesideFlat offset) = 12
+numberOf (AmendmentRepeated offset) = 16
 numberOf (OverLimit offset) = 5
 numberOf (TiersUnsound offset) = 11
 numberOf (SheetMissing size) = 6
@@ -31,6 +32,7 @@ placeOf (RecordMisshapen offset) = offset
 placeOf (CellUnlisted offset) = offset
 placeOf (Repeated offset) = offset
 placeOf (PathBesideFlat offset) = offset
+placeOf (AmendmentRepeated offset) = offset
 placeOf (OverLimit offset) = offset
 placeOf (TiersUnsound offset) = offset
 placeOf (SheetMissing size) = size

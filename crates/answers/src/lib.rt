@@ -12,6 +12,7 @@ pub enum Answer {
     CellUnlisted(usize),
     Repeated(usize),
     PathBesideFlat(usize),
+    AmendmentRepeated(usize),
     OverLimit(usize),
     TiersUnsound(usize),
     // At the input's length.
@@ -39,6 +40,7 @@ pub fn number(answer: Answer) -> u64
         Answer::CellUnlisted(_) => 3,
         Answer::Repeated(_) => 4,
         Answer::PathBesideFlat(_) => 12,
+        Answer::AmendmentRepeated(_) => 16,
         Answer::OverLimit(_) => 5,
         Answer::TiersUnsound(_) => 11,
         Answer::SheetMissing(_) => 6,
@@ -63,6 +65,7 @@ pub fn place(answer: Answer) -> usize
         Answer::CellUnlisted(at) => at,
         Answer::Repeated(at) => at,
         Answer::PathBesideFlat(at) => at,
+        Answer::AmendmentRepeated(at) => at,
         Answer::OverLimit(at) => at,
         Answer::TiersUnsound(at) => at,
         Answer::SheetMissing(size) => size,

@@ -3,16 +3,16 @@
 use Prim.Native.Nat.{ℕ, suc, _-_, _≤_, _<_}
 use native.Mathlib.Omega.{arith}
 use mathlib.Core.Path.{_≡_, refl, sym, ap}
-use mathlib.Core.Bool.{Bool, true, false, cond, _||_, true≢false}
+use mathlib.Core.Bool.{Bool, true, false, cond, not, _||_, true≢false}
 use mathlib.Core.List.{List}
-use borrow.Author.Tests.{leb-false, ltb-false, eqb-true, eq-eqb, ne-eqb}
-use lib.Dec.{leb, ltb, eqb}
+use borrow.Author.Tests.{ltb-false, eqb-true, eqb-false, eq-eqb, ne-eqb, leb-false}
+use lib.Dec.{ltb, eqb, leb}
 use Rattle.lists.specs.Tables.{anyBelow}
 use Rattle.lists.proofs.TestLaws.{any-fails}
-use Rattle.schedule.specs.Limits.{tierLimit, withdrawalLimit}
-use Rattle.records.specs.Records.{recordKind, recordValue, sheetNumber, tierCount, tierEdge, tierWithdrawal}
-use Rattle.records.specs.Kinds.{cellKind, fineCouponKind, givesCell, sheetOf, sheetKinds, sheetKind, tiersKind}
-use Rattle.bodies.specs.Bodies.{valueLimit, numberOver, overLimit, unfitTier, unsoundTiers}
+use Rattle.schedule.specs.Limits.{cellClass, classLimit, tierLimit, withdrawalLimit}
+use Rattle.records.specs.Records.{recordKind, recordCell, recordValue, amendmentNumber, amendmentState, amendmentValue, sheetNumber, tierCount, tierWithdrawal, tierEdge}
+use Rattle.records.specs.Kinds.{cellKind, fineCouponKind, givesCell, amendmentKind, sheetOf, sheetKinds, sheetKind, tiersKind}
+use Rattle.bodies.specs.Bodies.{valueLimit, unfitAmendment, numberOver, overLimit, unfitTier, unsoundTiers}
 use Rattle.bodies.proofs.SheetLaws.{none-over}
 
 -- neither of two tests passes
@@ -51,24 +51,76 @@ cell-no-sheet kind = by (eqb kind cellKind) (eqb kind fineCouponKind) refl refl
     by false true e f h = ap (λ (k : ℕ). sheetKind k .numbers) (eqb-true kind fineCouponKind f)
     by false false e f h = absurd (true≢false (sym h))
 
+amendment-no-sheet : (kind : ℕ) → kind ≡ amendmentKind → sheetKind kind .numbers ≡ 0
+unfolding sheetOf sheetKinds sheetKind
+amendment-no-sheet kind e = ap (λ (k : ℕ). sheetKind k .numbers) e
+
+-- an amendment that fits: its value is within its class's limit, or it withdraws the cell and its value is 0
+pub record FitAmendment (s : List ℕ) (at : ℕ) : Type 0 where
+  pub numbered : 1 ≤ amendmentNumber s at
+  pub limited : amendmentState s at ≡ 0 → amendmentValue s at ≤ classLimit (cellClass (recordCell s at))
+  pub emptied : (amendmentState s at ≡ 0 → ⊥) → amendmentValue s at ≡ 0
+
+pub amendment-fits : (s : List ℕ) (at : ℕ) → unfitAmendment s at ≡ false → FitAmendment s at
+unfolding unfitAmendment
+amendment-fits s at =
+    by (eqb (amendmentNumber s at) 0) (eqb (amendmentState s at) 0) (eqb (amendmentState s at) 1) (eqb (amendmentValue s at) 0) refl refl refl
+  where
+    by : (none valued withdrawn empty : Bool)
+        → eqb (amendmentNumber s at) 0 ≡ none
+        → eqb (amendmentState s at) 0 ≡ valued
+        → eqb (amendmentValue s at) 0 ≡ empty
+        → cond none true
+        (cond valued (ltb (classLimit (cellClass (recordCell s at))) (amendmentValue s at)) (cond withdrawn (not empty) true)) ≡ false
+        → FitAmendment s at
+    by true valued withdrawn empty n v z h = absurd (true≢false h)
+    by false true withdrawn empty n v z h =
+        let some = eqb-false (amendmentNumber s at) 0 n in
+        record {
+          numbered = omega arith;
+          limited = λ e. ltb-false (classLimit (cellClass (recordCell s at))) (amendmentValue s at) h;
+          emptied = λ o. absurd (o (eqb-true (amendmentState s at) 0 v));
+        }
+    by false false true true n v z h =
+        let some = eqb-false (amendmentNumber s at) 0 n in
+        record {
+          numbered = omega arith;
+          limited = λ e. absurd (eqb-false (amendmentState s at) 0 v e);
+          emptied = λ o. eqb-true (amendmentValue s at) 0 z;
+        }
+    by false false true false n v z h = absurd (true≢false h)
+    by false false false empty n v z h = absurd (true≢false h)
+
 module _ (s : List ℕ) (at : ℕ) where
   -- 5 does not hold at a cell: the value is within its limit
   pub value-within : overLimit s at ≡ false → givesCell (recordKind s at) ≡ true → recordValue s at ≤ valueLimit s at
   unfolding overLimit
   value-within h e = ltb-false (valueLimit s at) (recordValue s at) (simp e at h)
 
+  -- 5 does not hold at an amendment: it fits
+  pub amendment-within : overLimit s at ≡ false → recordKind s at ≡ amendmentKind → unfitAmendment s at ≡ false
+  unfolding overLimit givesCell
+  amendment-within h e =
+      simp (
+        ne-eqb (recordKind s at) cellKind (λ k. omega arith),
+        ne-eqb (recordKind s at) fineCouponKind (λ k. omega arith),
+        eq-eqb (recordKind s at) amendmentKind e,
+      ) at h
+
   -- 5 does not hold at a sheet: each of its numbers is within the limit
   pub numbers-within : overLimit s at ≡ false → (i : ℕ) → 1 ≤ i → i ≤ sheetKind (recordKind s at) .numbers
       → sheetNumber s at i ≤ sheetKind (recordKind s at) .limit
   unfolding overLimit
-  numbers-within h i l u = by (givesCell (recordKind s at)) refl h
+  numbers-within h i l u = by (givesCell (recordKind s at)) (eqb (recordKind s at) amendmentKind) refl refl h
     where
-      by : (b : Bool) → givesCell (recordKind s at) ≡ b
-          → cond b (ltb (valueLimit s at) (recordValue s at))
-          (numberOver s at (sheetKind (recordKind s at) .limit) (sheetKind (recordKind s at) .numbers)) ≡ false
+      by : (gives amends : Bool) → givesCell (recordKind s at) ≡ gives → eqb (recordKind s at) amendmentKind ≡ amends
+          → cond gives (ltb (valueLimit s at) (recordValue s at))
+          (cond amends (unfitAmendment s at)
+          (numberOver s at (sheetKind (recordKind s at) .limit) (sheetKind (recordKind s at) .numbers))) ≡ false
           → sheetNumber s at i ≤ sheetKind (recordKind s at) .limit
-      by true e h = absurd (omega (arith, cell-no-sheet (recordKind s at) e))
-      by false e h = none-over s at (sheetKind (recordKind s at) .limit) (sheetKind (recordKind s at) .numbers) h i l u
+      by true amends e f h = absurd (omega (arith, cell-no-sheet (recordKind s at) e))
+      by false true e f h = absurd (omega (arith, amendment-no-sheet (recordKind s at) (eqb-true (recordKind s at) amendmentKind f)))
+      by false false e f h = none-over s at (sheetKind (recordKind s at) .limit) (sheetKind (recordKind s at) .numbers) h i l u
 
   -- 11 does not hold: the tiers load
   pub tiers-load : unsoundTiers s at ≡ false → recordKind s at ≡ tiersKind → SoundTiers s at

@@ -1,12 +1,20 @@
--- What can be wrong with the body of a record: refusals 5 (01:35; 02:CR 4) and 11 (02:CR 1). Definitions only.
+-- What can be wrong with the body of a record: refusals 5 (01:35; 02:CR 4, CR 6) and 11 (02:CR 1). Definitions only.
 use Prim.Native.Nat.{ℕ, suc, _-_}
-use mathlib.Core.Bool.{Bool, cond, not, _||_, _&&_}
+use mathlib.Core.Bool.{Bool, true, cond, not, _||_, _&&_}
 use mathlib.Core.List.{List}
 use lib.Dec.{leb, ltb, eqb}
 use Rattle.lists.specs.Tables.{anyBelow}
 use Rattle.schedule.specs.Limits.{couponLimit, cellClass, classLimit, tierLimit, withdrawalLimit}
-use Rattle.records.specs.Records.{recordKind, recordCell, recordValue, sheetNumber, tierCount, tierEdge, tierWithdrawal}
-use Rattle.records.specs.Kinds.{fineCouponKind, givesCell, sheetKind, tiersKind}
+use Rattle.records.specs.Records.{recordKind, recordCell, recordValue, amendmentNumber, amendmentState, amendmentValue, sheetNumber, tierCount, tierEdge, tierWithdrawal}
+use Rattle.records.specs.Kinds.{fineCouponKind, givesCell, amendmentKind, sheetKind, tiersKind}
+
+-- an amendment (02:CR 6) whose number is 0, whose value is over its class's limit, which withdraws a cell and holds a value, or whose state is another
+unfoldable pub unfitAmendment : List ℕ → ℕ → Bool
+unfitAmendment s at =
+    cond (eqb (amendmentNumber s at) 0) true
+    (cond (eqb (amendmentState s at) 0) (ltb (classLimit (cellClass (recordCell s at))) (amendmentValue s at))
+    (cond (eqb (amendmentState s at) 1) (not (eqb (amendmentValue s at) 0))
+    true))
 
 -- one of a sheet's first n numbers is over the limit
 unfoldable pub numberOver : List ℕ → ℕ → ℕ → ℕ → Bool
@@ -21,7 +29,8 @@ unfoldable pub overLimit : List ℕ → ℕ → Bool
 overLimit s at =
     let sheet = sheetKind (recordKind s at) in
     cond (givesCell (recordKind s at)) (ltb (valueLimit s at) (recordValue s at))
-    (numberOver s at (sheet .limit) (sheet .numbers))
+    (cond (eqb (recordKind s at) amendmentKind) (unfitAmendment s at)
+    (numberOver s at (sheet .limit) (sheet .numbers)))
 
 -- The i-th tier, from 0, does not load (02:CR 1): its withdrawal is above 600; the first edge is not 0; a later edge does not rise above the one
 -- before, or its withdrawal falls

@@ -1,15 +1,19 @@
 // Refusal 5: the limits of a cell's value and of a sheet's numbers.
+use records::fields::amendment_number;
+use records::fields::amendment_state;
+use records::fields::amendment_value;
 use records::fields::record_cell;
 use records::fields::record_kind;
 use records::fields::record_value;
 use records::fields::sheet_number;
+use records::kinds::AMENDMENT_KIND;
 use records::kinds::FINE_COUPON_KIND;
 use records::kinds::gives_cell;
 use records::kinds::sheet_kind;
 use schedule::tables::cell_class;
 use schedule::tables::class_limit;
 ghost use mathlib.Core.Path.{_≡_};
-ghost use Rattle.bodies.specs.Bodies.{valueLimit, numberOver, overLimit};
+ghost use Rattle.bodies.specs.Bodies.{valueLimit, unfitAmendment, numberOver, overLimit};
 
 // The largest coupon, in thousandths of a percent a year.
 const COUPON_LIMIT: u64 = 15_000;
@@ -21,6 +25,9 @@ pub fn over_limit(s: &[u8], at: usize) -> bool
     let kind = record_kind(s, at);
     if gives_cell(kind) {
         return value_limit(s, at) < record_value(s, at);
+    }
+    if kind == AMENDMENT_KIND {
+        return unfit_amendment(s, at);
     }
     let sheet = sheet_kind(kind);
     number_over(s, at, sheet.limit, sheet.numbers as usize)
@@ -34,6 +41,24 @@ fn value_limit(s: &[u8], at: usize) -> u64
         return COUPON_LIMIT;
     }
     class_limit(cell_class(record_cell(s, at)))
+}
+
+// An amendment whose number is 0, whose value is over its class's limit, which withdraws a cell and holds a value, or whose state is another.
+fn unfit_amendment(s: &[u8], at: usize) -> bool
+    ensures { λ r. ⌜ r ≡ unfitAmendment (now (s .entry)) at ⌝ }
+{
+    if amendment_number(s, at) == 0 {
+        return true;
+    }
+    let state = amendment_state(s, at);
+    let value = amendment_value(s, at);
+    if state == 0 {
+        return class_limit(cell_class(record_cell(s, at))) < value;
+    }
+    if state == 1 {
+        return value != 0;
+    }
+    true
 }
 
 // One of a sheet's first n numbers is over the limit.

@@ -1,8 +1,8 @@
--- The verdict on one record, and what holds of a record that has none of the faults 1 to 5, 11 and 12.
+-- The verdict on one record, and what holds of a record that has none of the faults but perhaps 16.
 -- Assumes nothing.
 use Prim.Native.Nat.{ℕ, suc, _+_, _*_, _≤_}
 use native.Mathlib.Omega.{arith}
-use mathlib.Core.Path.{_≡_, refl, ap}
+use mathlib.Core.Path.{_≡_, refl, ap, _∙_}
 use mathlib.Core.Bool.{Bool, true, false, _||_}
 use mathlib.Core.List.{List}
 use borrow.Author.Tests.{ltb-false, eqb-true, eqb-false, ne-eqb, not-false}
@@ -11,14 +11,15 @@ use lib.ListN.{length}
 use Rattle.answers.specs.Verdict.{Verdict, accepted, refused, refusedIf, firstRefusal, firstOf}
 use Rattle.answers.proofs.VerdictLaws.{first-passed, first-refused, first-none, condition-fails}
 use Rattle.records.specs.Records.{recordLength, recordKind, recordValue, sheetNumber, nextRecord}
-use Rattle.records.specs.Kinds.{givesCell, sheetOf, sheetKinds, sheetKind, sheetLength, tiersKind, dueLength}
+use Rattle.records.specs.Kinds.{givesCell, amendmentKind, sheetOf, sheetKinds, sheetKind, sheetLength, tiersKind, dueLength}
 use Rattle.records.proofs.ItemLaws.{OfSheet}
 use Rattle.bodies.specs.Bodies.{valueLimit, overLimit, unsoundTiers}
-use Rattle.bodies.proofs.BodyLaws.{neither, SoundTiers, value-within, numbers-within, tiers-load}
+use Rattle.bodies.proofs.BodyLaws.{neither, SoundTiers, FitAmendment, value-within, numbers-within, amendment-within, amendment-fits, tiers-load}
 use Rattle.faults.specs.Faults.{incomplete, misshapen, unlisted, repeated, pathBesideFlat}
-use Rattle.faults.specs.RecordVerdicts.{recordVerdict}
+use Rattle.faults.specs.RecordVerdicts.{shapeVerdict, bodyVerdict, recordVerdict}
+use Rattle.faults.specs.Inner.PlainVerdicts.{plainVerdict}
 
--- each of the tests fails
+-- each of the tests but 16 fails
 pub record Faultless (s : List ℕ) (at : ℕ) : Type 0 where
   pub complete : incomplete s at ≡ false
   pub shaped : misshapen s at ≡ false
@@ -35,6 +36,7 @@ pub record Sound (s : List ℕ) (at : ℕ) : Type 0 where
   pub shaped : recordLength s at ≡ dueLength s at
   pub value-limit : givesCell (recordKind s at) ≡ true → recordValue s at ≤ valueLimit s at
   pub number-limit : (i : ℕ) → 1 ≤ i → i ≤ sheetKind (recordKind s at) .numbers → sheetNumber s at i ≤ sheetKind (recordKind s at) .limit
+  pub amendment : recordKind s at ≡ amendmentKind → FitAmendment s at
   pub tiers : recordKind s at ≡ tiersKind → SoundTiers s at
 
 -- rows in turn: what the first two give, then the third
@@ -52,23 +54,23 @@ last-row true n at = simp (ne-eqb (suc n) 0 (λ e. omega arith))
 last-row false n at = refl
 
 module _ (s : List ℕ) (at : ℕ) where
-  -- the verdict, row by row
-  pub verdict-rows :
-      recordVerdict s at
+  -- the verdicts before and after 16, row by row
+  pub shape-rows :
+      shapeVerdict s at
       ≡ firstRefusal
-      (firstRefusal
-      (firstRefusal
       (firstRefusal
       (firstRefusal
       (firstRefusal (refusedIf (incomplete s at) 1 at)
       (refusedIf (misshapen s at) 2 at))
       (refusedIf (unlisted s at) 3 at))
       (refusedIf (repeated s at) 4 at))
-      (refusedIf (pathBesideFlat s at) 12 at))
-      (refusedIf (overLimit s at) 5 at))
-      (refusedIf (unsoundTiers s at) 11 at)
-  unfolding recordVerdict firstOf
-  verdict-rows = rw (last-row (unsoundTiers s at) 10 at) (simp first-assoc)
+      (refusedIf (pathBesideFlat s at) 12 at)
+  unfolding shapeVerdict firstOf
+  shape-rows = rw (last-row (pathBesideFlat s at) 11 at) (simp first-assoc)
+
+  pub body-rows : bodyVerdict s at ≡ firstRefusal (refusedIf (overLimit s at) 5 at) (refusedIf (unsoundTiers s at) 11 at)
+  unfolding bodyVerdict firstOf
+  body-rows = rw (last-row (unsoundTiers s at) 10 at)
 
   -- 1 does not hold: the record ends within the bytes
   pub complete-ends : incomplete s at ≡ false → nextRecord s at ≤ length s
@@ -88,20 +90,22 @@ module _ (s : List ℕ) (at : ℕ) where
       rw (of .kind-is)
       (simp (
         of .no-cell,
+        ne-eqb kind amendmentKind (of .no-amendment),
         ne-eqb kind tiersKind (λ e. some (ap (λ (k : ℕ). sheetKind k .numbers) e)),
         ne-eqb (sheetKind kind .numbers) 0 some,
       ))
 
-  -- a record that is not refused: no test passed
-  pub faultless : recordVerdict s at .number ≡ 0 → Faultless s at
-  unfolding recordVerdict firstOf
+  -- a record that is not refused by them: no test passed
+  pub faultless : plainVerdict s at .number ≡ 0 → Faultless s at
+  unfolding plainVerdict shapeVerdict bodyVerdict firstOf
   faultless h =
-      let h1 = first-none _ _ h in
+      let parts = first-none _ _ h in
+      let h1 = first-none _ _ (parts .0) in
       let h2 = first-none _ _ (h1 .1) in
       let h3 = first-none _ _ (h2 .1) in
       let h4 = first-none _ _ (h3 .1) in
       let h5 = first-none _ _ (h4 .1) in
-      let h6 = first-none _ _ (h5 .1) in
+      let h6 = first-none _ _ (parts .1) in
       let h7 = first-none _ _ (h6 .1) in
       record {
         complete = condition-fails (incomplete s at) 0 at (h1 .0);
@@ -113,7 +117,15 @@ module _ (s : List ℕ) (at : ℕ) where
         loaded = condition-fails (unsoundTiers s at) 10 at (h7 .0);
       }
 
-  pub faultless-sound : recordVerdict s at .number ≡ 0 → Sound s at
+  -- a record that is not refused at all is not refused by them
+  pub record-plain : recordVerdict s at .number ≡ 0 → plainVerdict s at .number ≡ 0
+  unfolding recordVerdict plainVerdict
+  record-plain h =
+      let h1 = first-none (shapeVerdict s at) _ h in
+      let h2 = first-none _ _ (h1 .1) in
+      ap (λ (v : Verdict). v .number) (first-passed (shapeVerdict s at) (bodyVerdict s at) (h1 .0)) ∙ h2 .1
+
+  pub faultless-sound : plainVerdict s at .number ≡ 0 → Sound s at
   faultless-sound h =
       let f = faultless h in
       record {
@@ -121,6 +133,7 @@ module _ (s : List ℕ) (at : ℕ) where
         shaped = shaped-length (f .shaped);
         value-limit = value-within s at (f .limited);
         number-limit = numbers-within s at (f .limited);
+        amendment = λ e. amendment-fits s at (amendment-within s at (f .limited) e);
         tiers = tiers-load s at (f .loaded);
       }
 

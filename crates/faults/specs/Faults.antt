@@ -1,4 +1,5 @@
--- What can be wrong with one record before its body is looked at: refusals 1 to 4 (01:31-34; 02:CR 4) and 12 (02:CR 3), in that order. Definitions only.
+-- What can be wrong with one record before its body is looked at: refusals 1 to 4 (01:31-34; 02:CR 4), 12 (02:CR 3) and 16
+-- (02:CR 6), in that order. Definitions only.
 use Prim.Native.Nat.{ℕ, _+_}
 use mathlib.Core.Bool.{Bool, false, cond, not, _||_, _&&_}
 use mathlib.Core.List.{List}
@@ -6,7 +7,7 @@ use lib.ListN.{length}
 use lib.Dec.{ltb, eqb}
 use Rattle.records.specs.Records.{recordLength, recordKind, nextRecord}
 use Rattle.records.specs.declared.items.Item.the-variants.{Sheet}
-use Rattle.records.specs.Kinds.{givesCell, flatRatesKind, ratePathKind, dueLength}
+use Rattle.records.specs.Kinds.{namesCell, amendmentKind, flatRatesKind, ratePathKind, dueLength}
 use Rattle.records.specs.Items.{recordClass, recordItem, firstWith}
 
 -- 1: the record runs past the end, its length or itself, or its length is below 2
@@ -19,11 +20,19 @@ misshapen s at = not (eqb (recordLength s at) (dueLength s at))
 
 -- 3: the cell is not listed for a record of its kind
 abbrev pub unlisted : List ℕ → ℕ → Bool
-unlisted s at = givesCell (recordKind s at) && eqb (recordClass s at) 0
+unlisted s at = namesCell (recordKind s at) && eqb (recordClass s at) 0
+
+-- what the record is one of stands in an earlier record
+unfoldable pub standsBefore : List ℕ → ℕ → Bool
+standsBefore s at = ltb (firstWith s (recordItem s at) at) at
 
 -- 4: the cell, or the kind of sheet, stands in an earlier record
-unfoldable pub repeated : List ℕ → ℕ → Bool
-repeated s at = ltb (firstWith s (recordItem s at) at) at
+abbrev pub repeated : List ℕ → ℕ → Bool
+repeated s at = not (eqb (recordKind s at) amendmentKind) && standsBefore s at
+
+-- 16: the amendment of the same cell and number stands in an earlier record
+abbrev pub amendmentRepeated : List ℕ → ℕ → Bool
+amendmentRepeated s at = eqb (recordKind s at) amendmentKind && standsBefore s at
 
 -- a sheet of a kind stands in an earlier record
 unfoldable pub sheetBefore : List ℕ → ℕ → ℕ → Bool

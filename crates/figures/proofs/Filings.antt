@@ -21,6 +21,10 @@ abbrev pub fined : List (ℕ × ℕ) → List ℕ
 fined [] = []
 fined (c ∷ cs) = bytes 2 12 ++ bytes 2 6 ++ bytes 2 (c .0) ++ bytes 8 (c .1) ++ fined cs
 
+-- an amendment of a cell: its number, its state and its value
+abbrev pub amendment : ℕ → ℕ → ℕ → ℕ → List ℕ
+amendment n number state value = bytes 2 16 ++ bytes 2 7 ++ bytes 2 n ++ bytes 2 number ++ bytes 2 state ++ bytes 8 value
+
 -- the sheets, with the rate of a month and of a column
 abbrev pub yieldSheet : (ℕ → ℕ) → List ℕ
 yieldSheet rate = bytes 2 242 ++ bytes 2 2 ++ joined (tableFrom 1 120 (λ (t : ℕ). bytes 2 (rate t)))

@@ -4,3 +4,4 @@ pub mod HundredthsLaws
 pub mod RefusalCases
 pub mod RequestCases
 pub mod TierCases
+pub mod AmendmentCases

@@ -13,15 +13,16 @@ use Rattle.schedule.specs.Shift.{pathRate}
 use Rattle.answers.specs.Verdict.{accepted, refused, refusedIf, firstRefusal, firstOf, listVerdict}
 use Rattle.records.specs.Bytes.{numberAt}
 use Rattle.records.specs.Records.{nextRecord, searchRecords, firstRecord}
-use Rattle.records.specs.Kinds.{givesCell, sheetOf, sheetKinds, sheetKind, sheetLength, dueLength}
+use Rattle.records.specs.Kinds.{givesCell, namesCell, sheetOf, sheetKinds, sheetKind, sheetLength, dueLength}
 use Rattle.records.specs.Items.{sameItem, recordClass, recordItem, firstWith}
-use Rattle.bodies.specs.Bodies.{valueLimit, numberOver, overLimit, unfitTier, unsoundTiers}
-use Rattle.faults.specs.Faults.{incomplete, repeated, sheetBefore, pathBesideFlat}
-use Rattle.faults.specs.RecordVerdicts.{firstFaulty, recordVerdict, recordsVerdict}
+use Rattle.records.specs.Counting.{itemRank, counting, countsFrom, countingBefore}
+use Rattle.bodies.specs.Bodies.{valueLimit, unfitAmendment, numberOver, overLimit, unfitTier, unsoundTiers}
+use Rattle.faults.specs.Faults.{incomplete, standsBefore, sheetBefore, pathBesideFlat}
+use Rattle.faults.specs.RecordVerdicts.{shapeVerdict, bodyVerdict, recordVerdict, firstRefused, verdictBy}
 use Rattle.filing.specs.declared.Contents.{Contents}
 use Rattle.figures.proofs.Filings.{bytes, filed, yieldSheet, rateSheet, tierSheet, complete, Case, gives}
 use Rattle.conditions.specs.Conditions.{cellIn, monthsOutside, columnBalances, balances, aboveColumn, totalDiffers}
-use Rattle.filing.specs.Contents.{amountAt, cellOffset, cellValue, sheetOffset, rateNumber, tierNumber, tiersAt, contentsOf, cell, cdYield, retailRate}
+use Rattle.filing.specs.Contents.{filedValue, amountAt, cellOffset, cellValue, sheetOffset, rateNumber, tierNumber, tiersAt, contentsOf, cell, cdYield, retailRate}
 use Rattle.filing.specs.Verdict.{sheetMissing, sheetVerdict, filingVerdict}
 use Rattle.conditions.specs.CellVerdicts.{positionVerdict, monthsVerdict, columnVerdict, columnsVerdict, totalVerdict, cellsVerdict}
 
@@ -172,7 +173,7 @@ cases = shape-cases ++ cell-cases ++ sheet-cases ++ tier-cases ++ months-cases +
 
 -- every case holds
 verdicts-hold : map (λ (c : Case). filingVerdict (c .input)) cases ≡ map (λ (c : Case). c .verdict) cases
-unfolding numberAt nextRecord searchRecords firstRecord givesCell sheetOf sheetKinds sheetKind sheetLength dueLength sameItem recordClass recordItem firstWith incomplete repeated sheetBefore pathBesideFlat anyBelow valueLimit numberOver overLimit unfitTier unsoundTiers cellClass classLimit contains position positions brokeredCell penaltyBalanceCell penaltyMonthsCell unusedCells firstFaulty sheetOffset sheetMissing filingVerdict refused amountAt cellOffset cellValue contentsOf rateNumber tiersAt tierNumber cellIn monthsOutside columnBalances balances aboveColumn totalDiffers sum those inColumn withinRow sheetVerdict positionVerdict monthsVerdict columnVerdict columnsVerdict totalVerdict cellsVerdict recordVerdict recordsVerdict accepted refusedIf firstRefusal firstOf tableFrom joined
+unfolding numberAt nextRecord searchRecords firstRecord givesCell namesCell sheetOf sheetKinds sheetKind sheetLength dueLength sameItem recordClass recordItem firstWith itemRank counting countsFrom countingBefore incomplete standsBefore sheetBefore pathBesideFlat anyBelow valueLimit unfitAmendment numberOver overLimit unfitTier unsoundTiers cellClass classLimit contains position positions brokeredCell penaltyBalanceCell penaltyMonthsCell unusedCells firstRefused verdictBy sheetOffset sheetMissing filingVerdict refused filedValue amountAt cellOffset cellValue contentsOf rateNumber tiersAt tierNumber cellIn monthsOutside columnBalances balances aboveColumn totalDiffers sum those inColumn withinRow sheetVerdict positionVerdict monthsVerdict columnVerdict columnsVerdict totalVerdict cellsVerdict shapeVerdict bodyVerdict recordVerdict accepted refusedIf firstRefusal firstOf tableFrom joined
 verdicts-hold = refl
 
 -- what a filing says: cells that are present and absent, the ends of the yields and of the rates, and reads beyond them
@@ -185,7 +186,7 @@ contents-hold :
     ∷ retailRate sample 3 120 ∷ sample .tiers .count ∷ getD (sample .tiers .edges) 1 0 ∷ getD (sample .tiers .withdrawals) 0 0
     ∷ getD (sample .tiers .withdrawals) 2 0 ∷ []
     ≡ 0 ∷ 10 ∷ 0 ∷ 20 ∷ 0 ∷ 10 ∷ 1200 ∷ 0 ∷ 100 ∷ 300 ∷ 2 ∷ 100 ∷ 40 ∷ 0 ∷ []
-unfolding numberAt nextRecord searchRecords firstRecord givesCell sheetOf sheetKinds sheetKind sheetLength dueLength sameItem recordClass recordItem firstWith cellClass contains position positions brokeredCell penaltyBalanceCell penaltyMonthsCell unusedCells amountAt cellOffset cellValue sheetOffset contentsOf tiersAt tierNumber cellIn cdYield pathRate rateNumber tableFrom joined
+unfolding numberAt nextRecord searchRecords firstRecord givesCell namesCell sheetOf sheetKinds sheetKind sheetLength dueLength sameItem recordClass recordItem firstWith itemRank counting countsFrom countingBefore cellClass contains position positions brokeredCell penaltyBalanceCell penaltyMonthsCell unusedCells filedValue amountAt cellOffset cellValue sheetOffset contentsOf tiersAt tierNumber cellIn cdYield pathRate rateNumber tableFrom joined
 contents-hold = refl
 
 -- 10 comes before the verdict on the filing, at the list's length

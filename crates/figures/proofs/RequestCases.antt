@@ -12,15 +12,16 @@ use Rattle.schedule.specs.Shift.{pathRate}
 use Rattle.answers.specs.Verdict.{accepted, refused, refusedIf, firstRefusal, firstOf}
 use Rattle.records.specs.Bytes.{numberAt}
 use Rattle.records.specs.Records.{nextRecord, searchRecords, firstRecord}
-use Rattle.records.specs.Kinds.{givesCell, sheetOf, sheetKinds, sheetKind, sheetLength, dueLength}
+use Rattle.records.specs.Kinds.{givesCell, namesCell, sheetOf, sheetKinds, sheetKind, sheetLength, dueLength}
 use Rattle.records.specs.Items.{sameItem, recordClass, recordItem, firstWith}
-use Rattle.bodies.specs.Bodies.{valueLimit, numberOver, overLimit, unfitTier, unsoundTiers}
-use Rattle.faults.specs.Faults.{incomplete, repeated, sheetBefore, pathBesideFlat}
-use Rattle.faults.specs.RecordVerdicts.{firstFaulty, recordVerdict, recordsVerdict}
+use Rattle.records.specs.Counting.{itemRank, counting, countsFrom, countingBefore}
+use Rattle.bodies.specs.Bodies.{valueLimit, unfitAmendment, numberOver, overLimit, unfitTier, unsoundTiers}
+use Rattle.faults.specs.Faults.{incomplete, standsBefore, sheetBefore, pathBesideFlat}
+use Rattle.faults.specs.RecordVerdicts.{shapeVerdict, bodyVerdict, recordVerdict, firstRefused, verdictBy}
 use Rattle.conditions.specs.Conditions.{cellIn, monthsOutside, columnBalances, balances, aboveColumn, totalDiffers}
 use Rattle.conditions.specs.CellVerdicts.{positionVerdict, monthsVerdict, columnVerdict, columnsVerdict, totalVerdict, cellsVerdict}
 use Rattle.filing.specs.declared.Contents.{Contents}
-use Rattle.filing.specs.Contents.{amountAt, cellOffset, cellValue, sheetOffset, rateNumber, tierNumber, tiersAt, contentsOf, cell, retailRate}
+use Rattle.filing.specs.Contents.{filedValue, amountAt, cellOffset, cellValue, sheetOffset, rateNumber, tierNumber, tiersAt, contentsOf, cell, retailRate}
 use Rattle.filing.specs.Verdict.{sheetMissing, sheetVerdict, filingVerdict}
 use Rattle.figures.proofs.Filings.{bytes, filed, yieldSheet, rateSheet, pathSheet, fined, complete, Case, gives}
 
@@ -71,7 +72,7 @@ cases = path-cases ++ coupon-cases
 
 -- every case holds
 verdicts-hold : map (λ (c : Case). filingVerdict (c .input)) cases ≡ map (λ (c : Case). c .verdict) cases
-unfolding numberAt nextRecord searchRecords firstRecord givesCell sheetOf sheetKinds sheetKind sheetLength dueLength sameItem recordClass recordItem firstWith incomplete repeated sheetBefore pathBesideFlat anyBelow valueLimit numberOver overLimit unfitTier unsoundTiers cellClass classLimit contains position positions brokeredCell penaltyBalanceCell penaltyMonthsCell unusedCells firstFaulty sheetOffset sheetMissing filingVerdict refused amountAt cellOffset cellValue contentsOf rateNumber tiersAt tierNumber cellIn monthsOutside columnBalances balances aboveColumn totalDiffers sum those inColumn withinRow sheetVerdict positionVerdict monthsVerdict columnVerdict columnsVerdict totalVerdict cellsVerdict recordVerdict recordsVerdict accepted refusedIf firstRefusal firstOf tableFrom joined
+unfolding numberAt nextRecord searchRecords firstRecord givesCell namesCell sheetOf sheetKinds sheetKind sheetLength dueLength sameItem recordClass recordItem firstWith itemRank counting countsFrom countingBefore incomplete standsBefore sheetBefore pathBesideFlat anyBelow valueLimit unfitAmendment numberOver overLimit unfitTier unsoundTiers cellClass classLimit contains position positions brokeredCell penaltyBalanceCell penaltyMonthsCell unusedCells firstRefused verdictBy sheetOffset sheetMissing filingVerdict refused filedValue amountAt cellOffset cellValue contentsOf rateNumber tiersAt tierNumber cellIn monthsOutside columnBalances balances aboveColumn totalDiffers sum those inColumn withinRow sheetVerdict positionVerdict monthsVerdict columnVerdict columnsVerdict totalVerdict cellsVerdict shapeVerdict bodyVerdict recordVerdict accepted refusedIf firstRefusal firstOf tableFrom joined
 verdicts-hold = refl
 
 -- the retail rates that a path says, at both ends of each column, and those of flat rates
@@ -85,7 +86,7 @@ rates-hold :
     retailRate by-month 1 1 ∷ retailRate by-month 1 120 ∷ retailRate by-month 2 1 ∷ retailRate by-month 2 120 ∷ retailRate by-month 3 1
     ∷ retailRate by-month 3 120 ∷ retailRate by-month 3 121 ∷ retailRate flat 1 1 ∷ retailRate flat 1 120 ∷ retailRate flat 2 1 ∷ retailRate flat 3 120 ∷ []
     ≡ 1000 ∷ 1119 ∷ 1120 ∷ 1239 ∷ 1240 ∷ 1359 ∷ 0 ∷ 1001 ∷ 1001 ∷ 1002 ∷ 1003 ∷ []
-unfolding numberAt nextRecord searchRecords firstRecord givesCell sheetOf sheetKinds sheetKind sheetLength dueLength sameItem recordClass recordItem firstWith cellClass contains position positions brokeredCell penaltyBalanceCell penaltyMonthsCell unusedCells amountAt cellOffset cellValue sheetOffset contentsOf rateNumber tiersAt tierNumber pathRate tableFrom joined
+unfolding numberAt nextRecord searchRecords firstRecord givesCell namesCell sheetOf sheetKinds sheetKind sheetLength dueLength sameItem recordClass recordItem firstWith itemRank counting countsFrom countingBefore cellClass contains position positions brokeredCell penaltyBalanceCell penaltyMonthsCell unusedCells filedValue amountAt cellOffset cellValue sheetOffset contentsOf rateNumber tiersAt tierNumber pathRate tableFrom joined
 rates-hold = refl
 
 -- coupons by both kinds, in thousandths, beside other cells
@@ -93,5 +94,5 @@ abbrev coupons : Contents
 coupons = contentsOf (filed ((601, 10) ∷ (605, 1234) ∷ (608, 3) ∷ []) ++ fined ((606, 1234) ∷ []))
 
 coupons-hold : cell coupons 601 ∷ cell coupons 605 ∷ cell coupons 606 ∷ cell coupons 607 ∷ cell coupons 608 ∷ [] ≡ 10 ∷ 12340 ∷ 1234 ∷ 0 ∷ 3 ∷ []
-unfolding numberAt nextRecord searchRecords firstRecord givesCell sheetOf sheetKinds sheetKind sheetLength dueLength sameItem recordClass recordItem firstWith cellClass contains position positions brokeredCell penaltyBalanceCell penaltyMonthsCell unusedCells amountAt cellOffset cellValue sheetOffset contentsOf rateNumber tiersAt tierNumber cellIn tableFrom joined
+unfolding numberAt nextRecord searchRecords firstRecord givesCell namesCell sheetOf sheetKinds sheetKind sheetLength dueLength sameItem recordClass recordItem firstWith itemRank counting countsFrom countingBefore cellClass contains position positions brokeredCell penaltyBalanceCell penaltyMonthsCell unusedCells filedValue amountAt cellOffset cellValue sheetOffset contentsOf rateNumber tiersAt tierNumber cellIn tableFrom joined
 coupons-hold = refl

@@ -14,12 +14,12 @@ use Rattle.lists.proofs.TableLaws.{tableFrom-getD, table-length}
 use Rattle.lists.proofs.FillLaws.{Filled}
 use Rattle.schedule.specs.Cells.{position, positions, brokeredCell, penaltyBalanceCell, penaltyMonthsCell, unusedCells}
 use Rattle.schedule.specs.Limits.{cellClass}
-use Rattle.records.specs.declared.items.Item.the-variants.{Cell, Sheet}
+use Rattle.records.specs.declared.items.Item.the-variants.{Sheet}
 use Rattle.records.specs.Kinds.{kindCount}
 use Rattle.records.specs.Inner.Notes.{firstCell, cellCount, notedBefore}
 use Rattle.records.proofs.ByteLaws.{number-past}
-use Rattle.records.proofs.NoteLaws.{noted-cell, noted-sheet, offset-end}
-use Rattle.filing.specs.Contents.{amountAt, cellOffset, cellValue, sheetOffset}
+use Rattle.records.proofs.NoteLaws.{noted-counting, noted-sheet, offset-end}
+use Rattle.filing.specs.Contents.{filedValue, amountAt, cellOffset, cellValue, sheetOffset}
 
 -- a list that is filled with the values of a function from `base` on is its table from there
 pub filled-from : (base n : ℕ) (f : ℕ → ℕ) (l : List ℕ) → Filled (λ (i : ℕ). f (base + i)) 0 n n l → l ≡ tableFrom base n f
@@ -29,7 +29,7 @@ filled-from base n f l filled =
 
 -- no record stands at the input's length, so it gives nothing
 pub amount-past : (s : List ℕ) (at : ℕ) → length s ≤ at → amountAt s at ≡ 0
-unfolding amountAt cellClass contains position positions brokeredCell penaltyBalanceCell penaltyMonthsCell unusedCells
+unfolding amountAt filedValue cellClass contains position positions brokeredCell penaltyBalanceCell penaltyMonthsCell unusedCells
 amount-past s at h =
     simp (number-past s (at + 2) 2 (omega arith), number-past s (at + 4) 2 (omega arith), number-past s (at + 6) 8 (omega arith))
 
@@ -38,14 +38,13 @@ amount-present s f true e = refl
 amount-present s f false e = amount-past s f (ltb-false f (length s) e)
 
 -- the noted offset of the i-th cell, and the value that it gives
-pub cell-noted : (s : List ℕ) (i : ℕ) → i < cellCount → getD (notedBefore s (length s) .cells) i 0 ≡ cellOffset s (firstCell + i)
+pub cell-noted : (s : List ℕ) (i : ℕ) → i < cellCount → getD (notedBefore s (length s) .counting) i 0 ≡ cellOffset s (firstCell + i)
 unfolding cellOffset
 cell-noted s i h =
     let n = firstCell + i in
     let e : i ≡ n - firstCell = omega arith in
-    ap (λ (j : ℕ). getD (notedBefore s (length s) .cells) j 0) e
-    ∙ noted-cell s (length s) n (omega arith) (omega arith)
-    ∙ offset-end s (Cell n)
+    ap (λ (j : ℕ). getD (notedBefore s (length s) .counting) j 0) e
+    ∙ noted-counting s (length s) n (omega arith) (omega arith)
 
 pub value-noted : (s : List ℕ) (n : ℕ) → amountAt s (cellOffset s n) ≡ cellValue s n
 unfolding cellValue

@@ -5,7 +5,7 @@ use native.Mathlib.Omega.{arith}
 use mathlib.Core.Path.{_≡_, refl, sym, ap, _∙_}
 use mathlib.Core.Bool.{Bool, true, false, cond, not, true≢false}
 use mathlib.Core.List.{List}
-use borrow.Author.Tests.{le-leb, lt-ltb, ltb-true, ltb-false, eqb-true, eq-eqb, not-false}
+use borrow.Author.Tests.{le-leb, ltb-true, ltb-false, eqb-true, eq-eqb, ne-eqb, not-false, lt-ltb}
 use lib.Dec.{ltb, eqb}
 use lib.ListN.{length, getD}
 use Rattle.lists.specs.Tables.{table}
@@ -14,19 +14,23 @@ use Rattle.schedule.specs.Cells.{positionAt}
 use Rattle.schedule.specs.Limits.{couponClass, couponLimit, cellClass, classLimit, heldLimit, tierLimit, withdrawalLimit}
 use Rattle.schedule.proofs.CellLaws.{CellOf, balance-cell}
 use Rattle.records.specs.declared.items.Item.{Item}
-use Rattle.records.specs.declared.items.Item.the-variants.{Cell, Sheet}
-use Rattle.records.specs.Records.{recordKind, recordCell, recordValue, sheetNumber, tierCount}
-use Rattle.records.specs.Kinds.{fineCouponKind, sheetKind, tiersKind}
+use Rattle.records.specs.declared.items.Item.the-variants.{Cell, Sheet, Amendment, Nothing}
+use Rattle.records.specs.Records.{recordKind, recordCell, amendmentState, amendmentValue, sheetNumber, tierCount}
+use Rattle.records.specs.Kinds.{fineCouponKind, amendmentKind, sheetKind, tiersKind}
 use Rattle.records.specs.Items.{sameItem, recordItem, firstWith}
-use Rattle.faults.specs.RecordVerdicts.{firstFaulty, recordVerdict}
+use Rattle.records.specs.Counting.{itemRank, rank}
+use Rattle.faults.specs.RecordVerdicts.{firstRefused, firstFaulty, recordVerdict}
 use Rattle.records.proofs.ByteLaws.{number-past}
 use Rattle.records.proofs.RecordLaws.{first-fails}
-use Rattle.records.proofs.ItemLaws.{with-passes, record-of-cell, record-of-sheet}
+use Rattle.records.proofs.ItemLaws.{with-passes, record-of-cell, record-of-sheet, record-of-amendment}
 use Rattle.bodies.specs.Bodies.{valueLimit}
-use Rattle.bodies.proofs.BodyLaws.{SoundTiers, tier-fits, tier-rises}
-use Rattle.faults.proofs.FaultLaws.{Sound, faultless-sound}
+use Rattle.bodies.proofs.BodyLaws.{SoundTiers, FitAmendment, tier-fits, tier-rises}
+use Rattle.faults.proofs.FaultLaws.{Sound, record-plain, faultless-sound}
+use Rattle.faults.proofs.RepetitionLaws.{gives-plain}
+use Rattle.scan.proofs.FirstLaws.{first-earlier}
+use Rattle.scan.proofs.CountingLaws.{counting-holds}
 use Rattle.conditions.specs.Conditions.{cellIn}
-use Rattle.filing.specs.Contents.{amountAt, cellOffset, cellValue, sheetOffset, tierNumber, tiersAt, contentsOf, cell}
+use Rattle.filing.specs.Contents.{filedValue, amountAt, cellOffset, cellValue, sheetOffset, tierNumber, tiersAt, contentsOf, cell}
 use Rattle.filing.proofs.ContentsLaws.{amount-past}
 use Rattle.conditions.specs.Inner.Sums.{BalancesWithin}
 
@@ -38,36 +42,92 @@ cell-read s n l u =
     simp (le-leb 601 n l, le-leb n 661 u) (tableFrom-getD 601 61 (cellValue s) (n - 601) 0 (omega arith) ∙ ap (cellValue s) e)
 
 module _ (s : List ℕ) (none : firstFaulty s ≡ length s) where
+  -- a record without a fault
+  sound-at : (at : ℕ) → not (eqb (recordVerdict s at .number) 0) ≡ false → Sound s at
+  sound-at at h =
+      faultless-sound s at (record-plain s at (eqb-true (recordVerdict s at .number) 0 (not-false (eqb (recordVerdict s at .number) 0) h)))
+
   -- every record that a search for an item finds is without a fault
   item-sound : (item : Item) → firstWith s item (length s) < length s → Sound s (firstWith s item (length s))
-  unfolding firstFaulty firstWith
+  unfolding firstRefused firstWith
   item-sound item h =
-      let at = firstWith s item (length s) in
-      faultless-sound s at
-      (eqb-true (recordVerdict s at .number) 0
-      (not-false (eqb (recordVerdict s at .number) 0)
-      (first-fails s (λ (i : ℕ). not (eqb (recordVerdict s i .number) 0)) (λ (i : ℕ). sameItem (recordItem s i) item) (length s) (omega (arith, none)) h)))
+      sound-at (firstWith s item (length s))
+      (first-fails s (λ (i : ℕ). not (eqb (recordVerdict s i .number) 0)) (λ (i : ℕ). sameItem (recordItem s i) item) (length s) (omega (arith, none)) h)
 
-  -- a record's value, within its limit, gives its cell no more than what a filing may say
-  amount-limit : (at : ℕ) (fine coupon : Bool) → eqb (recordKind s at) fineCouponKind ≡ fine → eqb (cellClass (recordCell s at)) couponClass ≡ coupon
+  -- the record that counts for a cell is without a fault and of the cell
+  counting-sound : (n : ℕ) → cellOffset s n < length s → Sound s (cellOffset s n) × (0 < rank s n (cellOffset s n))
+  unfolding firstRefused cellOffset
+  counting-sound n =
+      counting-holds s n (λ (at : ℕ). at < length s → Sound s at × (0 < rank s n at)) (length s) (λ l. absurd (omega arith))
+      (λ at r l of h. (sound-at at (first-earlier s (λ (i : ℕ). not (eqb (recordVerdict s i .number) 0)) (length s) at r (omega (arith, none))), of))
+
+  -- a value within its limit gives its cell no more than what a filing may say
+  amount-limit : (at value : ℕ) (fine coupon : Bool) → eqb (cellClass (recordCell s at)) couponClass ≡ coupon
       → (fine ≡ true → cellClass (recordCell s at) ≡ couponClass)
-      → recordValue s at ≤ cond fine couponLimit (classLimit (cellClass (recordCell s at)))
-      → cond fine (recordValue s at) (cond coupon (10 * recordValue s at) (recordValue s at))
-      ≤ cond coupon couponLimit (classLimit (cellClass (recordCell s at)))
+      → value ≤ cond fine couponLimit (classLimit (cellClass (recordCell s at)))
+      → cond fine value (cond coupon (10 * value) value) ≤ cond coupon couponLimit (classLimit (cellClass (recordCell s at)))
   unfolding classLimit
-  amount-limit at true true e f c h = h
-  amount-limit at true false e f c h = absurd (true≢false (sym (eq-eqb (cellClass (recordCell s at)) couponClass (c refl)) ∙ f))
-  amount-limit at false true e f c h = omega (arith, rw (eqb-true (cellClass (recordCell s at)) couponClass f) at h)
-  amount-limit at false false e f c h = h
+  amount-limit at value true true f c h = h
+  amount-limit at value true false f c h = absurd (true≢false (sym (eq-eqb (cellClass (recordCell s at)) couponClass (c refl)) ∙ f))
+  amount-limit at value false true f c h = omega (arith, rw (eqb-true (cellClass (recordCell s at)) couponClass f) at h)
+  amount-limit at value false false f c h = h
+
+  -- what a record that counts holds: its cell, a value within its limit, and a coupon where it is of kind 6
+  record Holds (n at : ℕ) : Type 0 where
+    cell-is : recordCell s at ≡ n
+    coupon : recordKind s at ≡ fineCouponKind → cellClass (recordCell s at) ≡ couponClass
+    limited : filedValue s at ≤ valueLimit s at
+
+  cell-holds : (n at : ℕ) → Sound s at → recordItem s at ≡ Cell n → Holds n at
+  unfolding filedValue
+  cell-holds n at sound e =
+      let of = record-of-cell s at n e in
+      record {
+        cell-is = of .cell-is;
+        coupon = λ k. rw (of .cell-is) (of .coupon k);
+        limited = rw (gives-plain (recordKind s at) (of .gives)) (sound .value-limit (of .gives));
+      }
+
+  amendment-holds : (n number at : ℕ) → Sound s at → recordItem s at ≡ Amendment n number → Holds n at
+  unfolding filedValue valueLimit
+  amendment-holds n number at sound e =
+      let of = record-of-amendment s at n number e in
+      let fit = sound .amendment (of .kind-is) in
+      let other : recordKind s at ≡ fineCouponKind → ⊥ = λ k. omega (arith, of .kind-is) in
+      record {
+        cell-is = of .cell-is;
+        coupon = λ k. absurd (other k);
+        limited =
+            simp (eq-eqb (recordKind s at) amendmentKind (of .kind-is), ne-eqb (recordKind s at) fineCouponKind other)
+            (by fit (eqb (amendmentState s at) 0) refl);
+      }
+    where
+      by : FitAmendment s at → (b : Bool) → eqb (amendmentState s at) 0 ≡ b → cond b (amendmentValue s at) 0 ≤ classLimit (cellClass (recordCell s at))
+      by fit true v = fit .limited (eqb-true (amendmentState s at) 0 v)
+      by fit false v = omega arith
+
+  holds : (n : ℕ) → cellOffset s n < length s → Holds n (cellOffset s n)
+  unfolding itemRank
+  holds n h = let c = counting-sound n h in by (recordItem s (cellOffset s n)) refl (c .0) (c .1)
+    where
+      same : (m number : ℕ) (b : Bool) → eqb m n ≡ b → 0 < cond b number 0 → m ≡ n
+      same m number true e l = eqb-true m n e
+      same m number false e l = absurd (omega arith)
+
+      by : (item : Item) → recordItem s (cellOffset s n) ≡ item → Sound s (cellOffset s n) → 0 < itemRank n (recordItem s (cellOffset s n)) → Holds n (cellOffset s n)
+      by (Cell m) e sound l = cell-holds n (cellOffset s n) sound (e ∙ ap Cell (same m 1 (eqb m n) refl (rw e at l)))
+      by (Sheet kind) e sound l = absurd (omega (arith, rw e at l))
+      by (Amendment m number) e sound l =
+          amendment-holds n number (cellOffset s n) sound (e ∙ ap (λ (c : ℕ). Amendment c number) (same m (number + 1) (eqb m n) refl (rw e at l)))
+      by Nothing e sound l = absurd (omega (arith, rw e at l))
 
   present-limit : (n : ℕ) → cellOffset s n < length s → amountAt s (cellOffset s n) ≤ heldLimit (cellClass (recordCell s (cellOffset s n)))
-  unfolding cellOffset amountAt heldLimit valueLimit
+  unfolding amountAt heldLimit valueLimit
   present-limit n h =
       let at = cellOffset s n in
-      let is-cell = record-of-cell s at n (with-passes s (Cell n) (length s) h) in
-      amount-limit at (eqb (recordKind s at) fineCouponKind) (eqb (cellClass (recordCell s at)) couponClass) refl refl
-      (λ e. rw (is-cell .cell-is) (is-cell .coupon (eqb-true (recordKind s at) fineCouponKind e)))
-      (item-sound (Cell n) h .value-limit (is-cell .gives))
+      let what = holds n h in
+      amount-limit at (filedValue s at) (eqb (recordKind s at) fineCouponKind) (eqb (cellClass (recordCell s at)) couponClass) refl
+      (λ e. what .coupon (eqb-true (recordKind s at) fineCouponKind e)) (what .limited)
 
   pub offset-limit : (n : ℕ) → amountAt s (cellOffset s n) ≤ heldLimit (cellClass (recordCell s (cellOffset s n)))
   offset-limit n = by (ltb (cellOffset s n) (length s)) refl
@@ -76,16 +136,12 @@ module _ (s : List ℕ) (none : firstFaulty s ≡ length s) where
       by true e = present-limit n (ltb-true (cellOffset s n) (length s) e)
       by false e = omega (arith, amount-past s (cellOffset s n) (ltb-false (cellOffset s n) (length s) e))
 
-  present-cell : (n : ℕ) → cellOffset s n < length s → recordCell s (cellOffset s n) ≡ n
-  unfolding cellOffset
-  present-cell n h = record-of-cell s (cellOffset s n) n (with-passes s (Cell n) (length s) h) .cell-is
-
   cell-limit : (n : ℕ) → cellValue s n ≤ heldLimit (cellClass n)
   unfolding cellValue
   cell-limit n = by (ltb (cellOffset s n) (length s)) refl
     where
       by : (b : Bool) → ltb (cellOffset s n) (length s) ≡ b → cond b (amountAt s (cellOffset s n)) 0 ≤ heldLimit (cellClass n)
-      by true e = rw (present-cell n (ltb-true (cellOffset s n) (length s) e)) at (offset-limit n)
+      by true e = rw (holds n (ltb-true (cellOffset s n) (length s) e) .cell-is) at (offset-limit n)
       by false e = omega arith
 
   -- a cell is within the limit of its class

@@ -1,4 +1,4 @@
--- What a filing says: its cells (coupons in thousandths, 02:CR 4), its CD yields, its retail rates (01:6-11; by month, 02:CR 3) and its tiers (02:CR 1). Definitions only.
+-- What a filing says: its cells (amended, 02:CR 6; coupons in thousandths, 02:CR 4), its CD yields, its retail rates (01:6-11; by month, 02:CR 3) and its tiers (02:CR 1). Definitions only.
 use Prim.Native.Nat.{ℕ, _+_, _*_, _-_, _/_}
 use mathlib.Core.Bool.{cond}
 use mathlib.Core.List.{List}
@@ -7,24 +7,31 @@ use lib.Dec.{ltb, eqb}
 use Rattle.lists.specs.Tables.{table, tableFrom}
 use Rattle.schedule.specs.Limits.{couponClass, cellClass, monthsLimit, tierLimit}
 use Rattle.schedule.specs.Shift.{pathRate}
-use Rattle.records.specs.Records.{recordKind, recordCell, recordValue, sheetNumber, tierCount}
-use Rattle.records.specs.Kinds.{flatRatesKind, tiersKind, ratePathKind, fineCouponKind}
-use Rattle.records.specs.declared.items.Item.the-variants.{Cell, Sheet}
+use Rattle.records.specs.Records.{recordKind, recordCell, recordValue, amendmentState, amendmentValue, sheetNumber, tierCount}
+use Rattle.records.specs.Kinds.{flatRatesKind, tiersKind, ratePathKind, fineCouponKind, amendmentKind}
+use Rattle.records.specs.declared.items.Item.the-variants.{Sheet}
 use Rattle.records.specs.Items.{firstWith}
+use Rattle.records.specs.Counting.{countingBefore}
 use Rattle.conditions.specs.Conditions.{cellIn}
 use Rattle.filing.specs.declared.Contents.{Contents}
 use Rattle.filing.specs.declared.FiledTiers.{FiledTiers}
 
--- the offset of a cell's record, or the input's length where there is none
+-- the offset of the record that counts for a cell (02:CR 6), or the input's length where there is none
 unfoldable pub cellOffset : List ℕ → ℕ → ℕ
-cellOffset s n = firstWith s (Cell n) (length s)
+cellOffset s n = countingBefore s n (length s)
+
+-- the value that a record holds for its cell, in the record's unit. An amendment that withdraws its cell holds none, as if the cell were absent
+unfoldable pub filedValue : List ℕ → ℕ → ℕ
+filedValue s at =
+    cond (eqb (recordKind s at) amendmentKind) (cond (eqb (amendmentState s at) 0) (amendmentValue s at) 0)
+    (recordValue s at)
 
 -- the value that a record gives its cell in what the filing says, in the cell's unit. Coupons are in thousandths of a percent a year there (02:CR 4): kind 6
 -- gives them so, and one by another kind, in hundredths, counts tenfold
 unfoldable pub amountAt : List ℕ → ℕ → ℕ
 amountAt s at =
-    cond (eqb (recordKind s at) fineCouponKind) (recordValue s at)
-    (cond (eqb (cellClass (recordCell s at)) couponClass) (10 * recordValue s at) (recordValue s at))
+    cond (eqb (recordKind s at) fineCouponKind) (filedValue s at)
+    (cond (eqb (cellClass (recordCell s at)) couponClass) (10 * filedValue s at) (filedValue s at))
 
 -- the value of a cell; an absent cell is 0
 unfoldable pub cellValue : List ℕ → ℕ → ℕ

@@ -2,16 +2,19 @@
 use crate::Contents;
 use crate::FiledTiers;
 use records::CELLS;
+use records::fields::amendment_state;
+use records::fields::amendment_value;
 use records::fields::record_cell;
 use records::fields::record_kind;
 use records::fields::record_value;
 use records::fields::sheet_number;
 use records::fields::tier_count;
-use records::items::Noted;
+use records::kinds::AMENDMENT_KIND;
 use records::kinds::FINE_COUPON_KIND;
 use records::kinds::FLAT_RATES_KIND;
 use records::kinds::RATE_PATH_KIND;
 use records::kinds::TIERS_KIND;
+use records::notes::Noted;
 use schedule::tables::COUPON_CLASS;
 use schedule::tables::cell_class;
 ghost use mathlib.Core.Path.{_≡_};
@@ -23,14 +26,14 @@ ghost use Rattle.records.specs.Records.{recordCell, sheetNumber};
 ghost use Rattle.records.specs.Kinds.{flatRatesKind, ratePathKind};
 ghost use Rattle.records.specs.Inner.Notes.{notedBefore};
 ghost use Rattle.faults.specs.RecordVerdicts.{firstFaulty};
-ghost use Rattle.filing.specs.Contents.{amountAt, sheetOffset, rateCount, rateNumber, tierNumber, tiersAt, contentsOf};
+ghost use Rattle.filing.specs.Contents.{filedValue, amountAt, sheetOffset, rateCount, rateNumber, tierNumber, tiersAt, contentsOf};
 
 // What a filing says whose records are sound, from where all of them stand.
 pub(crate) fn contents_of(s: &[u8], noted: Noted) -> Contents
     requires { ⌜ (firstFaulty (now s) ≡ length (now s)) × (noted ≡ notedBefore (now s) (length (now s))) ⌝ }
     ensures { λ r. ⌜ r ≡ contentsOf (now (s .entry)) ⌝ }
 {
-    let cells = cell_values(s, &noted.cells);
+    let cells = cell_values(s, &noted.counting);
     let mut yields = [0; 120];
     fill_numbers(s, noted.sheets[2], &mut yields);
     let rates = rate_numbers(
@@ -47,9 +50,9 @@ pub(crate) fn contents_of(s: &[u8], noted: Noted) -> Contents
     }
 }
 
-// The values of cells 601 to 661.
+// The values of cells 601 to 661, from the records that count for them.
 fn cell_values(s: &[u8], offsets: &[usize; CELLS]) -> [u64; CELLS]
-    requires { ⌜ (firstFaulty (now s) ≡ length (now s)) × (now offsets ≡ notedBefore (now s) (length (now s)) .cells) ⌝ }
+    requires { ⌜ (firstFaulty (now s) ≡ length (now s)) × (now offsets ≡ notedBefore (now s) (length (now s)) .counting) ⌝ }
     ensures { λ r. ⌜ r ≡ contentsOf (now (s .entry)) .cells ⌝ }
 {
     let mut cells = [0; CELLS];
@@ -66,7 +69,7 @@ fn amount_at(s: &[u8], at: usize) -> u64
     requires { ⌜ amountAt (now s) at ≤ heldLimit (cellClass (recordCell (now s) at)) ⌝ }
     ensures { λ r. ⌜ r ≡ amountAt (now (s .entry)) at ⌝ }
 {
-    let value = record_value(s, at);
+    let value = filed_value(s, at);
     if record_kind(s, at) == FINE_COUPON_KIND {
         return value;
     }
@@ -74,6 +77,19 @@ fn amount_at(s: &[u8], at: usize) -> u64
         return 10 * value;
     }
     value
+}
+
+// The value that the record at an offset holds for its cell, in the record's unit: an amendment that withdraws its cell holds none.
+fn filed_value(s: &[u8], at: usize) -> u64
+    ensures { λ r. ⌜ r ≡ filedValue (now (s .entry)) at ⌝ }
+{
+    if record_kind(s, at) != AMENDMENT_KIND {
+        return record_value(s, at);
+    }
+    if amendment_state(s, at) != 0 {
+        return 0;
+    }
+    amendment_value(s, at)
 }
 
 // Fills in the numbers of the sheet at an offset, from the first on.

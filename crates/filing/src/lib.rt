@@ -5,11 +5,11 @@ mod sheets;
 
 use crate::decode::contents_of;
 use crate::sheets::check_sheets;
+use amendments::check_records;
 use answers::Answer;
 use answers::number;
 use conditions::check_cells;
-use records::items::Noted;
-use scan::scan;
+use records::notes::Noted;
 ghost use mathlib.Core.Path.{_≡_};
 ghost use lib.ListN.{length};
 ghost use Rattle.answers.specs.Answers.{verdictOf};
@@ -29,7 +29,7 @@ pub fn read(filing: &[u8]) -> Reading
     ensures { λ r. ⌜ verdictOf (r .answer) ≡ filingVerdict (now (filing .entry)) ⌝ }
     ensures { λ r. ⌜ r .contents ≡ readContents (now (filing .entry)) ⌝ }
 {
-    let scanned = scan(filing);
+    let scanned = check_records(filing);
     let records = scanned.answer;
     if number(records) != 0 {
         return refusal(records);

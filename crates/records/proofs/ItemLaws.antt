@@ -1,9 +1,9 @@
--- What a record is one of: which records are of a cell and which of a sheet, and when two items are the same.
+-- What a record is one of: which records are of a cell, of an amendment and of a sheet, and when two items are the same.
 -- Assumes nothing.
 use Prim.Native.Nat.{ℕ, _+_, _≤_, _<_}
 use native.Mathlib.Omega.{arith}
-use mathlib.Core.Path.{_≡_, refl, sym, ap}
-use mathlib.Core.Bool.{Bool, true, false, cond, true≢false}
+use mathlib.Core.Path.{_≡_, refl, sym, ap, _∙_}
+use mathlib.Core.Bool.{Bool, true, false, cond, _&&_, true≢false}
 use mathlib.Core.List.{List}
 use borrow.Author.Tests.{ltb-true, ltb-false, eqb-true, eqb-false, eq-eqb, ne-eqb}
 use lib.Dec.{ltb, eqb}
@@ -11,22 +11,34 @@ use lib.ListN.{List·getD-eq-default}
 use Rattle.schedule.specs.Limits.{couponClass, cellClass}
 use Rattle.schedule.proofs.ClassLaws.{class-listed}
 use Rattle.records.specs.declared.items.Item.{Item}
-use Rattle.records.specs.declared.items.Item.the-variants.{Cell, Sheet, Nothing}
-use Rattle.records.specs.Records.{recordKind, recordCell}
-use Rattle.records.specs.Kinds.{kindCount, cellKind, fineCouponKind, givesCell, sheetOf, sheetKinds, sheetKind, sheetLength, tiersKind, dueLength}
+use Rattle.records.specs.declared.items.Item.the-variants.{Cell, Sheet, Amendment, Nothing}
+use Rattle.records.specs.Records.{recordKind, recordCell, amendmentNumber}
+use Rattle.records.specs.Kinds.{kindCount, cellKind, fineCouponKind, amendmentKind, givesCell, sheetOf, sheetKinds, sheetKind, sheetLength, tiersKind, dueLength}
 use Rattle.records.specs.Items.{sameItem, recordClass, recordItem, firstWith}
 use Rattle.records.specs.Inner.Notes.{firstCell, cellCount}
 use Rattle.records.proofs.RecordLaws.{first-passes}
+
+both : (a b : Bool) → (a && b) ≡ true → (a ≡ true) × (b ≡ true)
+both true b e = (refl, e)
+both false b e = absurd (true≢false (sym e))
 
 -- the same item is the one item
 pub same-item : (a b : Item) → sameItem a b ≡ true → a ≡ b
 unfolding sameItem
 same-item (Cell m) (Cell n) e = ap Cell (eqb-true m n e)
 same-item (Cell m) (Sheet n) e = absurd (true≢false (sym e))
+same-item (Cell m) (Amendment n b) e = absurd (true≢false (sym e))
 same-item (Cell m) Nothing e = absurd (true≢false (sym e))
 same-item (Sheet m) (Cell n) e = absurd (true≢false (sym e))
 same-item (Sheet m) (Sheet n) e = ap Sheet (eqb-true m n e)
+same-item (Sheet m) (Amendment n b) e = absurd (true≢false (sym e))
 same-item (Sheet m) Nothing e = absurd (true≢false (sym e))
+same-item (Amendment m a) (Cell n) e = absurd (true≢false (sym e))
+same-item (Amendment m a) (Sheet n) e = absurd (true≢false (sym e))
+same-item (Amendment m a) (Amendment n b) e =
+    let h = both (eqb m n) (eqb a b) e in
+    ap (λ (c : ℕ). Amendment c a) (eqb-true m n (h .0)) ∙ ap (Amendment n) (eqb-true a b (h .1))
+same-item (Amendment m a) Nothing e = absurd (true≢false (sym e))
 same-item Nothing b e = absurd (true≢false (sym e))
 
 -- nothing is the same as no item
@@ -34,6 +46,7 @@ pub same-nothing : (a : Item) → sameItem a Nothing ≡ false
 unfolding sameItem
 same-nothing (Cell m) = refl
 same-nothing (Sheet m) = refl
+same-nothing (Amendment m a) = refl
 same-nothing Nothing = refl
 
 -- a record that is found by its item is of that item
@@ -49,6 +62,7 @@ unknown-due s at h =
     simp (
       ne-eqb (recordKind s at) cellKind (λ e. omega arith),
       ne-eqb (recordKind s at) fineCouponKind (λ e. omega arith),
+      ne-eqb (recordKind s at) amendmentKind (λ e. omega arith),
       ne-eqb (recordKind s at) tiersKind (λ e. omega arith),
       List·getD-eq-default sheetKinds (sheetOf 0 0) {n = recordKind s at} h,
     )
@@ -69,10 +83,19 @@ pub record OfCell (s : List ℕ) (at cell : ℕ) : Type 0 where
   pub to-last : cell < firstCell + cellCount
   pub coupon : recordKind s at ≡ fineCouponKind → cellClass cell ≡ couponClass
 
+-- a record of an amendment: it is of kind 7, and holds that cell, which is listed, and that number
+pub record OfAmendment (s : List ℕ) (at cell number : ℕ) : Type 0 where
+  pub kind-is : recordKind s at ≡ amendmentKind
+  pub cell-is : recordCell s at ≡ cell
+  pub number-is : amendmentNumber s at ≡ number
+  pub from-first : firstCell ≤ cell
+  pub to-last : cell < firstCell + cellCount
+
 -- a record of a sheet: it is of that kind, which is one of the kinds
 pub record OfSheet (s : List ℕ) (at kind : ℕ) : Type 0 where
   pub kind-is : recordKind s at ≡ kind
   pub no-cell : givesCell kind ≡ false
+  pub no-amendment : kind ≡ amendmentKind → ⊥
   pub known : kind < kindCount
 
 -- a class that is listed: the class of the cell itself, and for kind 6 a coupon's
@@ -83,51 +106,84 @@ listed-class class true false e h = absurd (h refl)
 listed-class class false coupon e h = (h, λ f. absurd (true≢false (sym f)))
 
 module _ (s : List ℕ) (at : ℕ) where
-  -- the item by the tests: the kind gives a cell, the cell is not listed, the kind is not known
-  abbrev itemBy : Bool → Bool → Bool → Item
-  itemBy gives off none = cond gives (cond off Nothing (Cell (recordCell s at))) (cond none Nothing (Sheet (recordKind s at)))
+  -- the item by the tests: the kind gives a cell, the cell is not listed, the kind is an amendment's, it is not known
+  abbrev itemBy : Bool → Bool → Bool → Bool → Item
+  itemBy gives off amends none =
+      cond gives (cond off Nothing (Cell (recordCell s at)))
+      (cond amends (cond off Nothing (Amendment (recordCell s at) (amendmentNumber s at))) (cond none Nothing (Sheet (recordKind s at))))
 
   class-is : (recordClass s at ≡ 0 → ⊥)
       → (cellClass (recordCell s at) ≡ 0 → ⊥) × (eqb (recordKind s at) fineCouponKind ≡ true → cellClass (recordCell s at) ≡ couponClass)
   unfolding recordClass
   class-is = listed-class (cellClass (recordCell s at)) (eqb (recordKind s at) fineCouponKind) (eqb (cellClass (recordCell s at)) couponClass) refl
 
-  of-cell : (cell : ℕ) (gives off none : Bool) → givesCell (recordKind s at) ≡ gives → eqb (recordClass s at) 0 ≡ off
-      → itemBy gives off none ≡ Cell cell → OfCell s at cell
-  of-cell cell true true none a b e = let z : _≡_ {A = ℕ} 0 1 = cc in absurd (omega arith)
-  of-cell cell true false none a b e =
+  listed : (recordClass s at ≡ 0 → ⊥) → (firstCell ≤ recordCell s at) × (recordCell s at < firstCell + cellCount)
+  listed h = let l = class-listed (recordCell s at) (class-is h .0) in (omega (arith, l .0), omega (arith, l .1))
+
+  of-cell : (cell : ℕ) (gives off amends none : Bool) → givesCell (recordKind s at) ≡ gives → eqb (recordClass s at) 0 ≡ off
+      → itemBy gives off amends none ≡ Cell cell → OfCell s at cell
+  of-cell cell true true amends none a b e = let z : _≡_ {A = ℕ} 0 1 = cc in absurd (omega arith)
+  of-cell cell true false amends none a b e =
       let is : recordCell s at ≡ cell = cc in
-      let class = class-is (eqb-false (recordClass s at) 0 b) in
-      let listed = class-listed (recordCell s at) (class .0) in
+      let class = eqb-false (recordClass s at) 0 b in
       record {
         gives = a;
         cell-is = is;
-        from-first = omega (arith, listed .0);
-        to-last = omega (arith, listed .1);
-        coupon = λ k. rw is at (class .1 (eq-eqb (recordKind s at) fineCouponKind k));
+        from-first = rw is at (listed class .0);
+        to-last = rw is at (listed class .1);
+        coupon = λ k. rw is at (class-is class .1 (eq-eqb (recordKind s at) fineCouponKind k));
       }
-  of-cell cell false off true a b e = let z : _≡_ {A = ℕ} 0 1 = cc in absurd (omega arith)
-  of-cell cell false off false a b e = let z : _≡_ {A = ℕ} 0 1 = cc in absurd (omega arith)
+  of-cell cell false true true none a b e = let z : _≡_ {A = ℕ} 0 1 = cc in absurd (omega arith)
+  of-cell cell false false true none a b e = let z : _≡_ {A = ℕ} 0 1 = cc in absurd (omega arith)
+  of-cell cell false off false true a b e = let z : _≡_ {A = ℕ} 0 1 = cc in absurd (omega arith)
+  of-cell cell false off false false a b e = let z : _≡_ {A = ℕ} 0 1 = cc in absurd (omega arith)
 
-  of-sheet : (kind : ℕ) (gives off none : Bool) → givesCell (recordKind s at) ≡ gives → eqb (dueLength s at) 0 ≡ none
-      → itemBy gives off none ≡ Sheet kind → OfSheet s at kind
-  of-sheet kind true true none a b e = let z : _≡_ {A = ℕ} 0 1 = cc in absurd (omega arith)
-  of-sheet kind true false none a b e = let z : _≡_ {A = ℕ} 0 1 = cc in absurd (omega arith)
-  of-sheet kind false off true a b e = let z : _≡_ {A = ℕ} 0 1 = cc in absurd (omega arith)
-  of-sheet kind false off false a b e =
+  of-amendment : (cell number : ℕ) (gives off amends none : Bool) → eqb (recordKind s at) amendmentKind ≡ amends → eqb (recordClass s at) 0 ≡ off
+      → itemBy gives off amends none ≡ Amendment cell number → OfAmendment s at cell number
+  of-amendment cell number true true amends none a b e = let z : _≡_ {A = ℕ} 0 1 = cc in absurd (omega arith)
+  of-amendment cell number true false amends none a b e = let z : _≡_ {A = ℕ} 0 1 = cc in absurd (omega arith)
+  of-amendment cell number false true true none a b e = let z : _≡_ {A = ℕ} 0 1 = cc in absurd (omega arith)
+  of-amendment cell number false false true none a b e =
+      let is : recordCell s at ≡ cell = cc in
+      let class = eqb-false (recordClass s at) 0 b in
+      record {
+        kind-is = eqb-true (recordKind s at) amendmentKind a;
+        cell-is = is;
+        number-is = cc;
+        from-first = rw is at (listed class .0);
+        to-last = rw is at (listed class .1);
+      }
+  of-amendment cell number false off false true a b e = let z : _≡_ {A = ℕ} 0 1 = cc in absurd (omega arith)
+  of-amendment cell number false off false false a b e = let z : _≡_ {A = ℕ} 0 1 = cc in absurd (omega arith)
+
+  of-sheet : (kind : ℕ) (gives off amends none : Bool) → givesCell (recordKind s at) ≡ gives → eqb (recordKind s at) amendmentKind ≡ amends
+      → eqb (dueLength s at) 0 ≡ none
+      → itemBy gives off amends none ≡ Sheet kind → OfSheet s at kind
+  of-sheet kind true true amends none a b d e = let z : _≡_ {A = ℕ} 0 1 = cc in absurd (omega arith)
+  of-sheet kind true false amends none a b d e = let z : _≡_ {A = ℕ} 0 1 = cc in absurd (omega arith)
+  of-sheet kind false true true none a b d e = let z : _≡_ {A = ℕ} 0 1 = cc in absurd (omega arith)
+  of-sheet kind false false true none a b d e = let z : _≡_ {A = ℕ} 0 1 = cc in absurd (omega arith)
+  of-sheet kind false off false true a b d e = let z : _≡_ {A = ℕ} 0 1 = cc in absurd (omega arith)
+  of-sheet kind false off false false a b d e =
       let is : recordKind s at ≡ kind = cc in
       record {
         kind-is = is;
         no-cell = rw is at a;
-        known = rw (← is) (kind-known s at (eqb-false (dueLength s at) 0 b));
+        no-amendment = λ k. eqb-false (recordKind s at) amendmentKind b (is ∙ k);
+        known = rw (← is) (kind-known s at (eqb-false (dueLength s at) 0 d));
       }
 
   pub record-of-cell : (cell : ℕ) → recordItem s at ≡ Cell cell → OfCell s at cell
   unfolding recordItem
   record-of-cell cell e =
-      of-cell cell (givesCell (recordKind s at)) (eqb (recordClass s at) 0) (eqb (dueLength s at) 0) refl refl e
+      of-cell cell (givesCell (recordKind s at)) (eqb (recordClass s at) 0) (eqb (recordKind s at) amendmentKind) (eqb (dueLength s at) 0) refl refl e
+
+  pub record-of-amendment : (cell number : ℕ) → recordItem s at ≡ Amendment cell number → OfAmendment s at cell number
+  unfolding recordItem
+  record-of-amendment cell number e =
+      of-amendment cell number (givesCell (recordKind s at)) (eqb (recordClass s at) 0) (eqb (recordKind s at) amendmentKind) (eqb (dueLength s at) 0) refl refl e
 
   pub record-of-sheet : (kind : ℕ) → recordItem s at ≡ Sheet kind → OfSheet s at kind
   unfolding recordItem
   record-of-sheet kind e =
-      of-sheet kind (givesCell (recordKind s at)) (eqb (recordClass s at) 0) (eqb (dueLength s at) 0) refl refl e
+      of-sheet kind (givesCell (recordKind s at)) (eqb (recordClass s at) 0) (eqb (recordKind s at) amendmentKind) (eqb (dueLength s at) 0) refl refl refl e

@@ -13,7 +13,8 @@ use Rattle.records.specs.declared.items.Item.{Item}
 use Rattle.records.specs.declared.items.Item.the-variants.{Cell, Sheet}
 use Rattle.records.specs.Kinds.{kindCount}
 use Rattle.records.specs.Items.{sameItem, recordItem, firstWith}
-use Rattle.records.specs.Inner.Notes.{firstCell, cellCount, offsetBefore, notedBefore}
+use Rattle.records.specs.Counting.{countingBefore}
+use Rattle.records.specs.Inner.Notes.{firstCell, cellCount, offsetBefore, fallsBefore, notedBefore}
 use Rattle.records.proofs.RecordLaws.{first-le}
 
 module _ (s : List ℕ) where
@@ -29,6 +30,22 @@ module _ (s : List ℕ) where
   pub noted-sheet : (at kind : ℕ) → kind < kindCount → getD (notedBefore s at .sheets) kind 0 ≡ offsetBefore s at (Sheet kind)
   unfolding notedBefore
   noted-sheet at kind h = table-getD kindCount (λ (n : ℕ). offsetBefore s at (Sheet n)) kind 0 h
+
+  pub noted-counting : (at cell : ℕ) → firstCell ≤ cell → cell < firstCell + cellCount
+      → getD (notedBefore s at .counting) (cell - firstCell) 0 ≡ countingBefore s cell at
+  unfolding notedBefore
+  noted-counting at cell l u =
+      let e : firstCell + (cell - firstCell) ≡ cell = omega arith in
+      tableFrom-getD firstCell cellCount (λ (n : ℕ). countingBefore s n at) (cell - firstCell) 0 (omega arith)
+      ∙ ap (λ (n : ℕ). countingBefore s n at) e
+
+  pub noted-falling : (at cell : ℕ) → firstCell ≤ cell → cell < firstCell + cellCount
+      → getD (notedBefore s at .falling) (cell - firstCell) false ≡ fallsBefore s cell at
+  unfolding notedBefore
+  noted-falling at cell l u =
+      let e : firstCell + (cell - firstCell) ≡ cell = omega arith in
+      tableFrom-getD firstCell cellCount (λ (n : ℕ). fallsBefore s n at) (cell - firstCell) false (omega arith)
+      ∙ ap (λ (n : ℕ). fallsBefore s n at) e
 
   -- all records read: the first of each item
   pub offset-end : (item : Item) → offsetBefore s (length s) item ≡ firstWith s item (length s)

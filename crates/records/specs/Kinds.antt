@@ -1,4 +1,4 @@
--- The kinds of record (01:7-9; 02:CR 1, CR 3, CR 4): what a sheet of each kind holds, and the length that a record is to have. Definitions only.
+-- The kinds of record (01:7-9; 02:CR 1, CR 3, CR 4, CR 6): what a sheet of each kind holds, and the length that a record is to have. Definitions only.
 use Prim.Native.Nat.{ℕ, _+_, _*_}
 use mathlib.Core.Bool.{Bool, cond, _||_}
 use mathlib.Core.List.{List, [], _∷_}
@@ -10,7 +10,7 @@ use Rattle.records.specs.Records.{recordKind, tierCount}
 
 -- the kinds are below this number
 abbrev pub kindCount : ℕ
-kindCount = 7
+kindCount = 8
 
 -- a sheet of so many numbers, 2 bytes each, up to a limit
 unfoldable pub sheetOf : ℕ → ℕ → SheetKind
@@ -26,6 +26,7 @@ sheetKinds =
     ∷ sheetOf 3 rateLimit
     ∷ sheetOf 0 0
     ∷ sheetOf 360 rateLimit
+    ∷ sheetOf 0 0
     ∷ sheetOf 0 0
     ∷ []
 
@@ -46,6 +47,14 @@ fineCouponKind = 6
 unfoldable pub givesCell : ℕ → Bool
 givesCell kind = eqb kind cellKind || eqb kind fineCouponKind
 
+-- the kind of the amendments (02:CR 6)
+abbrev pub amendmentKind : ℕ
+amendmentKind = 7
+
+-- a kind whose body begins with a cell
+unfoldable pub namesCell : ℕ → Bool
+namesCell kind = givesCell kind || eqb kind amendmentKind
+
 -- the kinds of the retail rates, flat (01:9) and by month (02:CR 3)
 abbrev pub flatRatesKind : ℕ
 flatRatesKind = 3
@@ -61,5 +70,6 @@ tiersKind = 4
 unfoldable pub dueLength : List ℕ → ℕ → ℕ
 dueLength s at =
     cond (givesCell (recordKind s at)) 12
+    (cond (eqb (recordKind s at) amendmentKind) 16
     (cond (eqb (recordKind s at) tiersKind) (4 + 4 * tierCount s at)
-    (sheetLength (sheetKind (recordKind s at) .numbers)))
+    (sheetLength (sheetKind (recordKind s at) .numbers))))

@@ -24,6 +24,16 @@ recordValue s at = numberAt s (at + 6) 8
 abbrev pub sheetNumber : List ℕ → ℕ → ℕ → ℕ
 sheetNumber s at i = numberAt s (at + 2 + 2 * i) 2
 
+-- kind 7, an amendment of a cell (02:CR 6): its number, its state, 0 for a value and 1 where the cell is withdrawn, and the value in kind 1's unit
+abbrev pub amendmentNumber : List ℕ → ℕ → ℕ
+amendmentNumber s at = sheetNumber s at 2
+
+abbrev pub amendmentState : List ℕ → ℕ → ℕ
+amendmentState s at = sheetNumber s at 3
+
+abbrev pub amendmentValue : List ℕ → ℕ → ℕ
+amendmentValue s at = numberAt s (at + 10) 8
+
 -- kind 4, tiers of annual withdrawal (02:CR 1): their count; of the i-th, from 0, the edge in hundredths and the withdrawal in thousandths
 abbrev pub tierCount : List ℕ → ℕ → ℕ
 tierCount s at = sheetNumber s at 1

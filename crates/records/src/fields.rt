@@ -3,7 +3,7 @@ use crate::bytes::number_at;
 ghost use mathlib.Core.Path.{_≡_};
 ghost use Prim.Native.Nat.{_+_, _≤_};
 ghost use Rattle.records.specs.Bytes.{numberAt};
-ghost use Rattle.records.specs.Records.{recordLength, recordKind, recordCell, recordValue, sheetNumber, tierCount};
+ghost use Rattle.records.specs.Records.{recordLength, recordKind, recordCell, recordValue, amendmentNumber, amendmentState, amendmentValue, sheetNumber, tierCount};
 
 // The number of bytes after the length itself.
 pub fn record_length(s: &[u8], at: usize) -> usize
@@ -31,6 +31,25 @@ pub fn record_value(s: &[u8], at: usize) -> u64
     ensures { λ r. ⌜ r ≡ recordValue (now (s .entry)) at ⌝ }
 {
     field_at(s, at, 6, 8)
+}
+
+// Kind 7, an amendment of a cell: its number, its state, and its value in kind 1's unit.
+pub fn amendment_number(s: &[u8], at: usize) -> u16
+    ensures { λ r. ⌜ r ≡ amendmentNumber (now (s .entry)) at ⌝ }
+{
+    sheet_number(s, at, 2)
+}
+
+pub fn amendment_state(s: &[u8], at: usize) -> u16
+    ensures { λ r. ⌜ r ≡ amendmentState (now (s .entry)) at ⌝ }
+{
+    sheet_number(s, at, 3)
+}
+
+pub fn amendment_value(s: &[u8], at: usize) -> u64
+    ensures { λ r. ⌜ r ≡ amendmentValue (now (s .entry)) at ⌝ }
+{
+    field_at(s, at, 10, 8)
 }
 
 // The i-th number of a sheet, from 1.

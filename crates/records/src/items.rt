@@ -1,9 +1,8 @@
-// What may stand only once in a filing, and where each stands.
-use crate::CELLS;
-use crate::FIRST_CELL;
-use crate::KINDS;
+// What may stand only once in a filing.
+use crate::fields::amendment_number;
 use crate::fields::record_cell;
 use crate::fields::record_kind;
+use crate::kinds::AMENDMENT_KIND;
 use crate::kinds::FINE_COUPON_KIND;
 use crate::kinds::due_length;
 use crate::kinds::gives_cell;
@@ -11,7 +10,6 @@ use schedule::tables::COUPON_CLASS;
 use schedule::tables::cell_class;
 ghost use mathlib.Core.Path.{_≡_};
 ghost use Rattle.records.specs.Items.{recordClass, recordItem};
-ghost use Rattle.records.specs.Inner.Notes.{noteItem};
 
 // What a record is one of.
 pub enum Item {
@@ -19,17 +17,13 @@ pub enum Item {
     Cell(u64),
     // A kind of sheet.
     Sheet(usize),
+    // An amendment of a cell, by the cell's number and its own.
+    Amendment(u64, u16),
     // Nothing that may stand only once.
     Nothing,
 }
 
-// The offset of the first record of each kind of sheet, and of each cell from 601 on: the input's length where there is none.
-pub struct Noted {
-    pub sheets: [usize; KINDS],
-    pub cells: [usize; CELLS],
-}
-
-// The item of a record: of its cell, where that is listed; another kind that is known of its kind.
+// The item of a record: of its cell, or an amendment of it, where that is listed; another kind that is known of its kind.
 pub fn record_item(s: &[u8], at: usize) -> Item
     ensures { λ r. ⌜ r ≡ recordItem (now (s .entry)) at ⌝ }
 {
@@ -39,6 +33,12 @@ pub fn record_item(s: &[u8], at: usize) -> Item
             return Item::Nothing;
         }
         return Item::Cell(record_cell(s, at));
+    }
+    if kind == AMENDMENT_KIND {
+        if record_class(s, at) == 0 {
+            return Item::Nothing;
+        }
+        return Item::Amendment(record_cell(s, at), amendment_number(s, at));
     }
     if due_length(s, at) == 0 {
         return Item::Nothing;
@@ -55,22 +55,4 @@ pub fn record_class(s: &[u8], at: usize) -> usize
         return class;
     }
     if class == COUPON_CLASS { class } else { 0 }
-}
-
-// The record at an offset is noted.
-pub fn note(s: &[u8], at: usize, noted: Noted) -> Noted
-    ensures { λ r. ⌜ r ≡ noteItem noted (recordItem (now (s .entry)) at) at ⌝ }
-{
-    let mut after = noted;
-    match record_item(s, at) {
-        Item::Cell(cell) => {
-            let i = (cell - FIRST_CELL) as usize;
-            after.cells[i] = at;
-        }
-        Item::Sheet(kind) => {
-            after.sheets[kind] = at;
-        }
-        Item::Nothing => {}
-    }
-    after
 }

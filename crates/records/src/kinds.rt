@@ -3,9 +3,9 @@ use crate::KINDS;
 use crate::fields::record_kind;
 use crate::fields::tier_count;
 ghost use mathlib.Core.Path.{_≡_};
-ghost use Rattle.records.specs.Kinds.{givesCell, sheetKind, dueLength};
+ghost use Rattle.records.specs.Kinds.{givesCell, namesCell, sheetKind, dueLength};
 
-// The kinds: a cell, flat retail rates, tiers, retail rates by month, a coupon in thousandths.
+// The kinds: a cell, flat retail rates, tiers, retail rates by month, a coupon in thousandths, an amendment.
 pub const CELL_KIND: usize = 1;
 
 pub const FLAT_RATES_KIND: usize = 3;
@@ -15,6 +15,8 @@ pub const TIERS_KIND: usize = 4;
 pub const RATE_PATH_KIND: usize = 5;
 
 pub const FINE_COUPON_KIND: usize = 6;
+
+pub const AMENDMENT_KIND: usize = 7;
 
 // A kind of sheet: how many numbers it holds, 2 bytes each, and the largest that each may be. One that is no sheet holds none.
 pub struct SheetKind {
@@ -51,6 +53,10 @@ const SHEET_KINDS: [SheetKind; KINDS] = [
         numbers: 0,
         limit: 0,
     },
+    SheetKind {
+        numbers: 0,
+        limit: 0,
+    },
 ];
 
 // The sheet of a kind.
@@ -74,6 +80,13 @@ pub fn gives_cell(kind: usize) -> bool
     (kind == CELL_KIND) | (kind == FINE_COUPON_KIND)
 }
 
+// A kind whose body begins with a cell.
+pub fn names_cell(kind: usize) -> bool
+    ensures { λ r. ⌜ r ≡ namesCell kind ⌝ }
+{
+    gives_cell(kind) | (kind == AMENDMENT_KIND)
+}
+
 // The length that a record is to have by its kind: 0 where the kind is unknown.
 pub fn due_length(s: &[u8], at: usize) -> usize
     ensures { λ r. ⌜ r ≡ dueLength (now (s .entry)) at ⌝ }
@@ -81,6 +94,9 @@ pub fn due_length(s: &[u8], at: usize) -> usize
     let kind = record_kind(s, at);
     if gives_cell(kind) {
         return 12;
+    }
+    if kind == AMENDMENT_KIND {
+        return 16;
     }
     if kind == TIERS_KIND {
         return 4 + 4 * (tier_count(s, at) as usize);

@@ -4,9 +4,10 @@ mod bytes;
 pub mod fields;
 pub mod items;
 pub mod kinds;
+pub mod notes;
 
 // The kinds of record are below this number.
-pub const KINDS: usize = 7;
+pub const KINDS: usize = 8;
 
 // The cells that are noted: so many from the first on.
 pub const FIRST_CELL: u64 = 601;

@@ -1,4 +1,6 @@
 pub mod SearchLaws
+pub mod FirstLaws
+pub mod CountingLaws
 pub mod NotingLaws
 pub mod ProgressLaws
 pub mod WalkLaws

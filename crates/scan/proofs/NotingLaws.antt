@@ -11,25 +11,29 @@ use lib.Dec.{ltb}
 use lib.ListN.{length, set}
 use Rattle.lists.specs.Tables.{tableFrom}
 use Rattle.records.specs.declared.items.Item.{Item}
-use Rattle.records.specs.declared.items.Item.the-variants.{Cell, Sheet, Nothing}
-use Rattle.records.specs.declared.items.Noted.{Noted}
+use Rattle.records.specs.declared.items.Item.the-variants.{Cell, Sheet, Amendment, Nothing}
+use Rattle.records.specs.declared.notes.Noted.{Noted}
 use Rattle.records.specs.Records.{nextRecord, searchRecords, firstRecord}
 use Rattle.records.specs.Kinds.{kindCount}
 use Rattle.records.specs.Items.{sameItem, recordItem, firstWith}
-use Rattle.records.specs.Inner.Notes.{firstCell, cellCount, offsetBefore, notedBefore, nothingNoted, noteItem}
-use Rattle.records.proofs.ItemLaws.{record-of-cell, record-of-sheet}
-use Rattle.faults.specs.Faults.{repeated}
+use Rattle.records.specs.Counting.{itemRank, countsFrom, countingBefore}
+use Rattle.records.specs.Inner.Notes.{firstCell, cellCount, offsetBefore, amendsCell, falls, fallsBefore, notedBefore, nothingNoted, noteCounting, noteFalling, noteItem}
+use Rattle.records.proofs.ItemLaws.{record-of-cell, record-of-sheet, record-of-amendment}
+use Rattle.records.proofs.NoteLaws.{noted-counting, noted-falling}
+use Rattle.faults.specs.Faults.{standsBefore, repeated}
+use Rattle.faults.proofs.RepetitionLaws.{single-stands}
 use Rattle.scan.proofs.SearchLaws.{Reached, next-lt, first-next}
+use Rattle.scan.proofs.CountingLaws.{counting-next, counting-stays, falls-next, falls-stays}
 
 -- tables of functions that agree are equal
-pub table-same : (base n : ℕ) (f g : ℕ → ℕ) → ((j : ℕ) → base ≤ j → j < base + n → f j ≡ g j) → tableFrom base n f ≡ tableFrom base n g
+pub table-same {ℓ} : {A : Type ℓ} (base n : ℕ) (f g : ℕ → A) → ((j : ℕ) → base ≤ j → j < base + n → f j ≡ g j) → tableFrom base n f ≡ tableFrom base n g
 unfolding tableFrom
 table-same base zero f g h = refl
 table-same base (suc n) f g h =
     rw (h base (omega arith) (omega arith), table-same (suc base) n f g (λ j l u. h j (omega arith) (omega arith)))
 
 -- a table of functions that agree but at one place, with the other's value stored there
-table-set : (base n : ℕ) (f g : ℕ → ℕ) (i v : ℕ) → i < n → v ≡ g (base + i) → ((j : ℕ) → (base + i ≡ j → ⊥) → f j ≡ g j)
+table-set {ℓ} : {A : Type ℓ} (base n : ℕ) (f g : ℕ → A) (i : ℕ) (v : A) → i < n → v ≡ g (base + i) → ((j : ℕ) → (base + i ≡ j → ⊥) → f j ≡ g j)
     → set (tableFrom base n f) i v ≡ tableFrom base n g
 unfolding tableFrom
 table-set base zero f g i v l e h = absurd (omega arith)
@@ -46,8 +50,9 @@ one-more f at next size false true e h = simp (lt-ltb at next h)
 one-more f at next size false false e h = simp (le-ltb next next (le-refl next))
 
 -- what is noted is equal where its parts are
-noted-eq : {a a′ b b′ : List ℕ} → a ≡ a′ → b ≡ b′ → _≡_ {A = Noted} (record { sheets = a; cells = b }) (record { sheets = a′; cells = b′ })
-noted-eq p q = rw (p, q)
+noted-eq : {a a′ b b′ c c′ : List ℕ} {d d′ : List Bool} → a ≡ a′ → b ≡ b′ → c ≡ c′ → d ≡ d′
+    → _≡_ {A = Noted} (record { sheets = a; cells = b; counting = c; falling = d }) (record { sheets = a′; cells = b′; counting = c′; falling = d′ })
+noted-eq p q r f = rw (p, q, r, f)
 
 module _ (s : List ℕ) (at : ℕ) (reached : Reached s 0 at) where
   -- the offset noted for an item once one record more is read
@@ -65,36 +70,88 @@ module _ (s : List ℕ) (at : ℕ) (reached : Reached s 0 at) where
   unfolding offsetBefore
   noted-stays item other = sym (offset-next item ∙ simp other)
 
-  -- a record that is not repeated is the first of its item, so its own offset is noted
-  noted-here : (item : Item) → recordItem s at ≡ item → sameItem item item ≡ true → repeated s at ≡ false
+  -- a record whose item stands nowhere before is the first of it, so its own offset is noted
+  noted-here : (item : Item) → recordItem s at ≡ item → sameItem item item ≡ true → standsBefore s at ≡ false
       → at ≡ offsetBefore s (nextRecord s at) item
-  unfolding repeated
+  unfolding standsBefore
   noted-here item is same single = sym (offset-next item ∙ simp (is, same, rw is at single))
 
+  -- the sheets and the cells stay where the record is of none, and so do those that count and those that fall
+  sheets-stay : ((kind : ℕ) → sameItem (recordItem s at) (Sheet kind) ≡ false) → notedBefore s at .sheets ≡ notedBefore s (nextRecord s at) .sheets
+  unfolding notedBefore
+  sheets-stay other = table-same 0 kindCount _ _ (λ k l u. noted-stays (Sheet k) (other k))
+
+  cells-stay : ((cell : ℕ) → sameItem (recordItem s at) (Cell cell) ≡ false) → notedBefore s at .cells ≡ notedBefore s (nextRecord s at) .cells
+  unfolding notedBefore
+  cells-stay other = table-same firstCell cellCount _ _ (λ n l u. noted-stays (Cell n) (other n))
+
+  counting-stay : ((cell : ℕ) → itemRank cell (recordItem s at) ≡ 0) → notedBefore s at .counting ≡ notedBefore s (nextRecord s at) .counting
+  unfolding notedBefore
+  counting-stay none = table-same firstCell cellCount _ _ (λ n l u. counting-stays s n reached (none n))
+
+  falling-stay : ((cell : ℕ) → amendsCell cell (recordItem s at) ≡ false) → notedBefore s at .falling ≡ notedBefore s (nextRecord s at) .falling
+  unfolding notedBefore
+  falling-stay none = table-same firstCell cellCount _ _ (λ n l u. falls-stays s n reached (none n))
+
+  -- a record of a cell is noted among those that count
+  counting-set : (cell : ℕ) → firstCell ≤ cell → cell < firstCell + cellCount → ((n : ℕ) → (cell ≡ n → ⊥) → itemRank n (recordItem s at) ≡ 0)
+      → noteCounting s (notedBefore s at .counting) cell at ≡ notedBefore s (nextRecord s at) .counting
+  unfolding noteCounting notedBefore
+  counting-set cell l u other =
+      let i : firstCell + (cell - firstCell) ≡ cell = omega arith in
+      table-set firstCell cellCount _ _ (cell - firstCell) _ (omega arith)
+      (rw (i, noted-counting s at cell l u) (sym (counting-next s cell reached)))
+      (λ n q. counting-stays s n reached (other n (λ p. q (i ∙ p))))
+
+  falling-set : (cell number : ℕ) → firstCell ≤ cell → cell < firstCell + cellCount → recordItem s at ≡ Amendment cell number
+      → noteFalling s (notedBefore s at) cell at ≡ notedBefore s (nextRecord s at) .falling
+  unfolding noteFalling notedBefore falls amendsCell
+  falling-set cell number l u e =
+      let i : firstCell + (cell - firstCell) ≡ cell = omega arith in
+      table-set firstCell cellCount _ _ (cell - firstCell) _ (omega arith)
+      (rw (i, noted-counting s at cell l u, noted-falling s at cell l u)
+      (sym (falls-next s cell reached ∙ rw e (simp (eq-eqb cell cell refl)))))
+      (λ n q. falls-stays s n reached (rw e (ne-eqb cell n (λ p. q (i ∙ p)))))
+
+  cell-set : (cell : ℕ) → recordItem s at ≡ Cell cell → standsBefore s at ≡ false
+      → set (notedBefore s at .cells) (cell - firstCell) at ≡ notedBefore s (nextRecord s at) .cells
+  unfolding notedBefore sameItem
+  cell-set cell e single =
+      let r = record-of-cell s at cell e in
+      let i : firstCell + (cell - firstCell) ≡ cell = omega (arith, r .from-first) in
+      table-set firstCell cellCount _ _ (cell - firstCell) at (omega (arith, r .from-first, r .to-last))
+      (rw i (noted-here (Cell cell) e (eq-eqb cell cell refl) single))
+      (λ n q. noted-stays (Cell n) (rw e (ne-eqb cell n (λ p. q (i ∙ p)))))
+
+  sheet-set : (kind : ℕ) → recordItem s at ≡ Sheet kind → standsBefore s at ≡ false
+      → set (notedBefore s at .sheets) kind at ≡ notedBefore s (nextRecord s at) .sheets
+  unfolding notedBefore sameItem
+  sheet-set kind e single =
+      table-set 0 kindCount _ _ kind at (record-of-sheet s at kind e .known)
+      (rw zero-add (noted-here (Sheet kind) e (eq-eqb kind kind refl) single))
+      (λ k q. noted-stays (Sheet k) (rw e (ne-eqb kind k (λ p. q (zero-add kind ∙ p)))))
+
   -- one record more
-  pub noted-next : repeated s at ≡ false → noteItem (notedBefore s at) (recordItem s at) at ≡ notedBefore s (nextRecord s at)
-  unfolding notedBefore noteItem sameItem
+  pub noted-next : repeated s at ≡ false → noteItem s (notedBefore s at) (recordItem s at) at ≡ notedBefore s (nextRecord s at)
+  unfolding noteItem sameItem itemRank amendsCell
   noted-next single = by (recordItem s at) refl
     where
-      by : (item : Item) → recordItem s at ≡ item → noteItem (notedBefore s at) item at ≡ notedBefore s (nextRecord s at)
+      by : (item : Item) → recordItem s at ≡ item → noteItem s (notedBefore s at) item at ≡ notedBefore s (nextRecord s at)
       by (Cell cell) e =
           let r = record-of-cell s at cell e in
-          let i : firstCell + (cell - firstCell) ≡ cell = omega (arith, r .from-first) in
-          noted-eq (table-same 0 kindCount _ _ (λ k l u. noted-stays (Sheet k) (rw e)))
-          (table-set firstCell cellCount _ _ (cell - firstCell) at (omega (arith, r .from-first, r .to-last))
-          (rw i (noted-here (Cell cell) e (eq-eqb cell cell refl) single))
-          (λ n q. noted-stays (Cell n) (rw e (ne-eqb cell n (λ p. q (i ∙ p))))))
+          noted-eq (sheets-stay (λ k. rw e)) (cell-set cell e (single-stands s at (Cell cell) e refl single))
+          (counting-set cell (r .from-first) (r .to-last) (λ n q. rw e (simp (ne-eqb cell n q))))
+          (falling-stay (λ n. rw e))
       by (Sheet kind) e =
-          let r = record-of-sheet s at kind e in
-          noted-eq
-          (table-set 0 kindCount _ _ kind at (r .known) (rw zero-add (noted-here (Sheet kind) e (eq-eqb kind kind refl) single))
-          (λ k q. noted-stays (Sheet k) (rw e (ne-eqb kind k (λ p. q (zero-add kind ∙ p))))))
-          (table-same firstCell cellCount _ _ (λ n l u. noted-stays (Cell n) (rw e)))
-      by Nothing e =
-          noted-eq (table-same 0 kindCount _ _ (λ k l u. noted-stays (Sheet k) (rw e)))
-          (table-same firstCell cellCount _ _ (λ n l u. noted-stays (Cell n) (rw e)))
+          noted-eq (sheet-set kind e (single-stands s at (Sheet kind) e refl single)) (cells-stay (λ n. rw e)) (counting-stay (λ n. rw e)) (falling-stay (λ n. rw e))
+      by (Amendment cell number) e =
+          let r = record-of-amendment s at cell number e in
+          noted-eq (sheets-stay (λ k. rw e)) (cells-stay (λ n. rw e))
+          (counting-set cell (r .from-first) (r .to-last) (λ n q. rw e (simp (ne-eqb cell n q))))
+          (falling-set cell number (r .from-first) (r .to-last) e)
+      by Nothing e = noted-eq (sheets-stay (λ k. rw e)) (cells-stay (λ n. rw e)) (counting-stay (λ n. rw e)) (falling-stay (λ n. rw e))
 
 -- no record read: nothing is noted
 pub noted-start : (s : List ℕ) → nothingNoted (length s) ≡ notedBefore s 0
-unfolding notedBefore offsetBefore firstWith firstRecord searchRecords tableFrom
+unfolding notedBefore offsetBefore countingBefore countsFrom fallsBefore firstWith firstRecord searchRecords tableFrom
 noted-start s = refl

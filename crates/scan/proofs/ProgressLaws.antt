@@ -15,11 +15,12 @@ use Rattle.answers.specs.Verdict.{Verdict, accepted}
 use Rattle.answers.specs.Answers.{verdictOf}
 use Rattle.scan.specs.declared.Step.{Step}
 use Rattle.scan.specs.declared.Step.the-variants.{Record, End}
-use Rattle.records.specs.declared.items.Noted.{Noted}
+use Rattle.records.specs.declared.notes.Noted.{Noted}
 use Rattle.scan.specs.declared.Progress.{Progress}
 use Rattle.records.specs.Records.{nextRecord}
 use Rattle.records.specs.Items.{recordItem}
-use Rattle.faults.specs.RecordVerdicts.{firstFaulty, recordVerdict, recordsVerdict}
+use Rattle.faults.specs.RecordVerdicts.{firstRefused, verdictBy, firstFaulty, recordVerdict, recordsVerdict}
+use Rattle.faults.specs.Inner.PlainVerdicts.{plainVerdict, firstPlain, plainsVerdict}
 use Rattle.scan.specs.Inner.Steps.{stepAt}
 use Rattle.records.specs.Inner.Notes.{notedBefore, nothingNoted, noteItem}
 use Rattle.scan.specs.Inner.Scans.{scanStart, soundAt, Visited}
@@ -42,7 +43,7 @@ step-says s at = by (leb (length s) at) refl
     by false e = (leb-false (length s) at e, refl)
 
 abbrev faulty : List ℕ → ℕ → Bool
-faulty s at = not (eqb (recordVerdict s at .number) 0)
+faulty s at = not (eqb (plainVerdict s at .number) 0)
 
 -- all records before `at` are faultless, and noted
 pub record Scanning (s : List ℕ) (noted : Noted) (at : ℕ) : Type 0 where
@@ -52,9 +53,10 @@ pub record Scanning (s : List ℕ) (noted : Noted) (at : ℕ) : Type 0 where
   pub noted-is : noted ≡ notedBefore s at
 
 -- what the scan answers: the verdict on the records, with what is noted of those before the first faulty one
-pub record Scanned (s : List ℕ) (noted : Noted) (verdict : Verdict) : Type 0 where
-  pub verdict-is : verdict ≡ recordsVerdict s
-  pub noted-is : noted ≡ notedBefore s (firstFaulty s)
+pub record Scanned (s : List ℕ) (noted : Noted) (end : ℕ) (verdict : Verdict) : Type 0 where
+  pub verdict-is : verdict ≡ plainsVerdict s
+  pub noted-is : noted ≡ notedBefore s (firstPlain s)
+  pub end-is : end ≡ firstPlain s
 
 -- start: nothing is read
 pub scanning-start : (s : List ℕ) → Scanning s (nothingNoted (length s)) 0
@@ -68,44 +70,46 @@ scanning-start s =
 
 module _ (s : List ℕ) (noted : Noted) (at : ℕ) (state : Scanning s noted at) where
   -- next: a faultless record is read, and noted
-  pub scanning-next : at < length s → recordVerdict s at .number ≡ 0 → Scanning s (noteItem noted (recordItem s at) at) (nextRecord s at)
+  pub scanning-next : at < length s → plainVerdict s at .number ≡ 0 → Scanning s (noteItem s noted (recordItem s at) at) (nextRecord s at)
   scanning-next l n =
       let f = faultless s at n in
       record {
         within = complete-ends s at (f .complete);
         reached = reached-next s (state .reached);
-        ahead = ahead-next s (faulty s) (length s) at (state .ahead) l (simp (eq-eqb (recordVerdict s at .number) 0 n));
+        ahead = ahead-next s (faulty s) (length s) at (state .ahead) l (simp (eq-eqb (plainVerdict s at .number) 0 n));
         noted-is = rw (state .noted-is) (noted-next s at (state .reached) (f .single));
       }
 
   -- here: a faulty record ends the scan with its verdict
-  pub scanning-faulty : at < length s → (recordVerdict s at .number ≡ 0 → ⊥) → Scanned s noted (recordVerdict s at)
-  unfolding firstFaulty recordsVerdict
+  pub scanning-faulty : at < length s → (plainVerdict s at .number ≡ 0 → ⊥) → Scanned s noted at (plainVerdict s at)
+  unfolding firstRefused verdictBy
   scanning-faulty l h =
-      let found : firstFaulty s ≡ at =
-      ahead-here s (faulty s) (length s) at (state .ahead) l (simp (ne-eqb (recordVerdict s at .number) 0 h)) in
+      let found : firstPlain s ≡ at =
+      ahead-here s (faulty s) (length s) at (state .ahead) l (simp (ne-eqb (plainVerdict s at .number) 0 h)) in
       record {
         verdict-is = rw (found, lt-ltb at (length s) l);
         noted-is = rw found (state .noted-is);
+        end-is = sym found;
       }
 
   -- done: all records are read, and none is faulty
-  pub scanning-done : length s ≤ at → Scanned s noted accepted
-  unfolding firstFaulty recordsVerdict
+  pub scanning-done : length s ≤ at → Scanned s noted at accepted
+  unfolding firstRefused verdictBy
   scanning-done l =
-      let found : firstFaulty s ≡ length s = ahead-done s (faulty s) (length s) at (state .ahead) l in
+      let found : firstPlain s ≡ length s = ahead-done s (faulty s) (length s) at (state .ahead) l in
       let e : at ≡ length s = omega (arith, state .within) in
       record {
         verdict-is = rw (found, le-ltb (length s) (length s) (le-refl (length s)));
         noted-is = rw (found, ← e) (state .noted-is);
+        end-is = e ∙ sym found;
       }
 
 -- a scan that ends at an offset, and one that goes on
 abbrev pub ends : Answer → Noted → ℕ → Progress
-ends answer noted at = record { scanned = record { answer = answer; noted = noted }; at = at; going = false }
+ends answer noted at = record { scanned = record { answer = answer; noted = noted; end = at }; at = at; going = false }
 
 abbrev pub goes-on : Answer → Noted → ℕ → Progress
-goes-on answer noted at = record { scanned = record { answer = answer; noted = noted }; at = at; going = true }
+goes-on answer noted at = record { scanned = record { answer = answer; noted = noted; end = at }; at = at; going = true }
 
 module _ (s : List ℕ) (noted : Noted) (at : ℕ) where
   -- nothing stands at the offset
@@ -113,30 +117,30 @@ module _ (s : List ℕ) (noted : Noted) (at : ℕ) where
   unfolding soundAt verdictOf accepted
   visited-end h =
       let past = le-ltb at (length s) h in
-      record { going-is = simp past; at-is = simp past; noted-is = simp past; verdict-is = simp past }
+      record { going-is = simp past; at-is = simp past; noted-is = simp past; end-is = refl; verdict-is = simp past }
 
-  module _ (within : at < length s) (a : Answer) (verdict : verdictOf a ≡ recordVerdict s at) where
+  module _ (within : at < length s) (a : Answer) (verdict : verdictOf a ≡ plainVerdict s at) where
     -- the record has a fault
-    pub visited-faulty : (recordVerdict s at .number ≡ 0 → ⊥) → Visited s noted at (ends a noted at)
+    pub visited-faulty : (plainVerdict s at .number ≡ 0 → ⊥) → Visited s noted at (ends a noted at)
     unfolding soundAt
     visited-faulty h =
         let here = lt-ltb at (length s) within in
-        let fault = ne-eqb (recordVerdict s at .number) 0 h in
-        record { going-is = simp (here, fault); at-is = simp (here, fault); noted-is = simp (here, fault); verdict-is = simp here verdict }
+        let fault = ne-eqb (plainVerdict s at .number) 0 h in
+        record { going-is = simp (here, fault); at-is = simp (here, fault); noted-is = simp (here, fault); end-is = refl; verdict-is = simp here verdict }
 
     -- the record has none
-    pub visited-sound : recordVerdict s at .number ≡ 0 → (after : Noted) (next : ℕ) → after ≡ noteItem noted (recordItem s at) at → next ≡ nextRecord s at
+    pub visited-sound : plainVerdict s at .number ≡ 0 → (after : Noted) (next : ℕ) → after ≡ noteItem s noted (recordItem s at) at → next ≡ nextRecord s at
         → Visited s noted at (goes-on a after next)
     unfolding soundAt
     visited-sound h after next p n =
         let here = lt-ltb at (length s) within in
-        let none = eq-eqb (recordVerdict s at .number) 0 h in
-        record { going-is = simp (here, none); at-is = simp (here, none) n; noted-is = simp (here, none) p; verdict-is = simp here verdict }
+        let none = eq-eqb (plainVerdict s at .number) 0 h in
+        record { going-is = simp (here, none); at-is = simp (here, none) n; noted-is = simp (here, none) p; end-is = refl; verdict-is = simp here verdict }
 
 -- the state of the scan, while it goes on and when it has ended
 pub record ScanAt (s : List ℕ) (k : Progress) : Type 0 where
   pub reading : k .going ≡ true → Scanning s (k .scanned .noted) (k .at)
-  pub ended : k .going ≡ false → Scanned s (k .scanned .noted) (verdictOf (k .scanned .answer))
+  pub ended : k .going ≡ false → Scanned s (k .scanned .noted) (k .scanned .end) (verdictOf (k .scanned .answer))
 
 -- how much is left to read: a number that each record lowers
 pub scanLeft : List ℕ → Progress → ℕ
@@ -149,28 +153,29 @@ module _ (s : List ℕ) (k k′ : Progress) (goes : k .going ≡ true) (state : 
   -- what the visited record makes of the state, by whether it stands within the bytes and whether it has no fault
   by-record : (within sound : Bool)
       → ltb (k .at) (length s) ≡ within
-      → eqb (recordVerdict s (k .at) .number) 0 ≡ sound
+      → eqb (plainVerdict s (k .at) .number) 0 ≡ sound
       → k′ .going ≡ (within && sound)
       → k′ .at ≡ cond (within && sound) (nextRecord s (k .at)) (k .at)
-      → k′ .scanned .noted ≡ cond (within && sound) (noteItem (k .scanned .noted) (recordItem s (k .at)) (k .at)) (k .scanned .noted)
-      → verdictOf (k′ .scanned .answer) ≡ cond within (recordVerdict s (k .at)) accepted
+      → k′ .scanned .noted ≡ cond (within && sound) (noteItem s (k .scanned .noted) (recordItem s (k .at)) (k .at)) (k .scanned .noted)
+      → k′ .scanned .end ≡ k′ .at
+      → verdictOf (k′ .scanned .answer) ≡ cond within (plainVerdict s (k .at)) accepted
       → ScanAt s k′ × (scanLeft s k′ < scanLeft s k)
   unfolding scanLeft
-  by-record true true w f g a n v =
+  by-record true true w f g a n o v =
       let l = ltb-true (k .at) (length s) w in
-      let next = scanning-next s (k .scanned .noted) (k .at) (state .reading goes) l (eqb-true (recordVerdict s (k .at) .number) 0 f) in (
+      let next = scanning-next s (k .scanned .noted) (k .at) (state .reading goes) l (eqb-true (plainVerdict s (k .at) .number) 0 f) in (
         record { reading = λ e. rw (a, n) next; ended = λ e. absurd (true≢false (sym g ∙ e)) },
         rw (g, goes, a) (omega (arith, next-lt s (k .at), next .within)),
       )
-  by-record true false w f g a n v =
+  by-record true false w f g a n o v =
       let end = scanning-faulty s (k .scanned .noted) (k .at) (state .reading goes) (ltb-true (k .at) (length s) w)
-      (eqb-false (recordVerdict s (k .at) .number) 0 f) in (
-        record { reading = λ e. absurd (true≢false (sym e ∙ g)); ended = λ e. rw (n, v) end },
+      (eqb-false (plainVerdict s (k .at) .number) 0 f) in (
+        record { reading = λ e. absurd (true≢false (sym e ∙ g)); ended = λ e. rw (n, o ∙ a, v) end },
         rw (g, goes) (omega arith),
       )
-  by-record false sound w f g a n v =
+  by-record false sound w f g a n o v =
       let end = scanning-done s (k .scanned .noted) (k .at) (state .reading goes) (ltb-false (k .at) (length s) w) in (
-        record { reading = λ e. absurd (true≢false (sym e ∙ g)); ended = λ e. rw (n, v) end },
+        record { reading = λ e. absurd (true≢false (sym e ∙ g)); ended = λ e. rw (n, o ∙ a, v) end },
         rw (g, goes) (omega arith),
       )
 
@@ -178,23 +183,28 @@ module _ (s : List ℕ) (k k′ : Progress) (goes : k .going ≡ true) (state : 
   pub scan-at-next : Visited s (k .scanned .noted) (k .at) k′ → ScanAt s k′ × (scanLeft s k′ < scanLeft s k)
   unfolding soundAt
   scan-at-next h =
-      by-record (ltb (k .at) (length s)) (eqb (recordVerdict s (k .at) .number) 0) refl refl (h .going-is) (h .at-is) (h .noted-is) (h .verdict-is)
+      by-record (ltb (k .at) (length s)) (eqb (plainVerdict s (k .at) .number) 0) refl refl (h .going-is) (h .at-is) (h .noted-is) (h .end-is) (h .verdict-is)
 
 -- no refusal of the records: none of them is faulty
-module _ (s : List ℕ) where
+module _ (s : List ℕ) (verdict : ℕ → Verdict) where
   -- the first faulty record has a fault
-  faulty-number : ltb (firstFaulty s) (length s) ≡ true → recordVerdict s (firstFaulty s) .number ≡ 0 → ⊥
-  unfolding firstFaulty
+  faulty-number : ltb (firstRefused s verdict) (length s) ≡ true → verdict (firstRefused s verdict) .number ≡ 0 → ⊥
+  unfolding firstRefused
   faulty-number e =
-      let found = first-passes s (faulty s) (length s) (ltb-true (firstFaulty s) (length s) e) in
-      eqb-false (recordVerdict s (firstFaulty s) .number) 0 (not-true (eqb (recordVerdict s (firstFaulty s) .number) 0) found)
+      let at = firstRefused s verdict in
+      let found = first-passes s (λ (i : ℕ). not (eqb (verdict i .number) 0)) (length s) (ltb-true at (length s) e) in
+      eqb-false (verdict at .number) 0 (not-true (eqb (verdict at .number) 0) found)
 
-  none-faulty : (b : Bool) → ltb (firstFaulty s) (length s) ≡ b → cond b (recordVerdict s (firstFaulty s)) accepted .number ≡ 0
-      → length s ≤ firstFaulty s
+  none-faulty : (b : Bool) → ltb (firstRefused s verdict) (length s) ≡ b → cond b (verdict (firstRefused s verdict)) accepted .number ≡ 0
+      → length s ≤ firstRefused s verdict
   none-faulty true e h = absurd (faulty-number e h)
-  none-faulty false e h = ltb-false (firstFaulty s) (length s) e
+  none-faulty false e h = ltb-false (firstRefused s verdict) (length s) e
 
   -- the search for a faulty record ends at the end
-  pub records-passed : recordsVerdict s .number ≡ 0 → firstFaulty s ≡ length s
-  unfolding recordsVerdict firstFaulty
-  records-passed h = le-antisymm (first-le s _ (length s)) (none-faulty (ltb (firstFaulty s) (length s)) refl h)
+  pub verdict-passed : verdictBy s verdict .number ≡ 0 → firstRefused s verdict ≡ length s
+  unfolding verdictBy firstRefused
+  verdict-passed h = le-antisymm (first-le s _ (length s)) (none-faulty (ltb (firstRefused s verdict) (length s)) refl h)
+
+-- the records of a filing have no fault
+pub records-passed : (s : List ℕ) → recordsVerdict s .number ≡ 0 → firstFaulty s ≡ length s
+records-passed s = verdict-passed s (recordVerdict s)

@@ -5,9 +5,9 @@ use Prim.Native.Nat.{ℕ, zero, suc, _+_, _≤_, _<_}
 use native.Mathlib.Nat.{le-refl}
 use native.Mathlib.Omega.{arith}
 use mathlib.Core.Path.{_≡_, refl, _∙_}
-use mathlib.Core.Bool.{Bool, true, false, cond}
+use mathlib.Core.Bool.{Bool, true, false, cond, _||_}
 use mathlib.Core.List.{List}
-use borrow.Author.Tests.{le-leb, lt-leb, lt-ltb, le-ltb}
+use borrow.Author.Tests.{le-leb, lt-leb, lt-ltb, le-ltb, ltb-true}
 use lib.Dec.{ltb}
 use Rattle.records.specs.Records.{nextRecord, searchRecords, firstRecord}
 
@@ -22,7 +22,7 @@ module _ (s : List ℕ) where
   unfolding nextRecord
   next-lt at = omega arith
 
-  reached-le : {from at : ℕ} → Reached s from at → from ≤ at
+  pub reached-le : {from at : ℕ} → Reached s from at → from ≤ at
   reached-le here = omega arith
   reached-le {from} (step r) = omega (arith, reached-le r, next-lt from)
 
@@ -32,16 +32,16 @@ module _ (s : List ℕ) where
   reached-next (step r) = step (reached-next r)
 
   module _ (test : ℕ → Bool) where
-    search-end : (end at steps : ℕ) → end ≤ at → searchRecords s test end at steps ≡ end
+    pub search-end : (end at steps : ℕ) → end ≤ at → searchRecords s test end at steps ≡ end
     unfolding searchRecords
     search-end end at zero h = refl
     search-end end at (suc steps) h = simp (le-leb end at h)
 
-    search-here : (end at steps : ℕ) → at < end → test at ≡ true → searchRecords s test end at (suc steps) ≡ at
+    pub search-here : (end at steps : ℕ) → at < end → test at ≡ true → searchRecords s test end at (suc steps) ≡ at
     unfolding searchRecords
     search-here end at steps h e = simp (lt-leb end at h, e)
 
-    search-later : (end at steps : ℕ) → at < end → test at ≡ false
+    pub search-later : (end at steps : ℕ) → at < end → test at ≡ false
         → searchRecords s test end at (suc steps) ≡ searchRecords s test end (nextRecord s at) steps
     unfolding searchRecords
     search-later end at steps h e = simp (lt-leb end at h, e)
@@ -85,6 +85,16 @@ module _ (s : List ℕ) where
         ≡ cond (ltb (firstRecord s test at) at) (firstRecord s test at) (cond (test at) at (nextRecord s at))
     unfolding firstRecord
     first-next {at} r = search-next r at (nextRecord s at) (omega arith) (omega arith)
+
+    -- one record more: it passes, or one before it does
+    pub found-next : {at : ℕ} → Reached s 0 at → ltb (firstRecord s test (nextRecord s at)) (nextRecord s at) ≡ (ltb (firstRecord s test at) at || test at)
+    found-next {at} r =
+        rw (first-next r) (by (firstRecord s test at) (nextRecord s at) (ltb (firstRecord s test at) at) (test at) refl (omega (arith, next-lt at)))
+      where
+        by : (f next : ℕ) (a b : Bool) → ltb f at ≡ a → at < next → ltb (cond a f (cond b at next)) next ≡ (a || b)
+        by f next true b e h = lt-ltb f next (omega (arith, ltb-true f at e))
+        by f next false true e h = lt-ltb at next h
+        by f next false false e h = le-ltb next next (le-refl next)
 
     -- The scan stands at `at`: what is still to be searched from here gives the answer of the whole search
     pub record Ahead (end at : ℕ) : Type 0 where

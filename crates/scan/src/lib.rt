@@ -9,15 +9,15 @@ use answers::number;
 use faults::check_record;
 use records::CELLS;
 use records::KINDS;
-use records::items::Noted;
-use records::items::note;
+use records::notes::Noted;
+use records::notes::note;
 ghost use mathlib.Core.Path.{_≡_};
 ghost use mathlib.Core.Bool.{false};
 ghost use Rattle.answers.specs.Answers.{verdictOf};
 ghost use Rattle.records.specs.Inner.Notes.{notedBefore};
 ghost use Rattle.scan.specs.Inner.Scans.{scanStart, Visited};
 ghost use Rattle.scan.specs.Inner.Steps.{stepAt};
-ghost use Rattle.faults.specs.RecordVerdicts.{firstFaulty, recordsVerdict};
+ghost use Rattle.faults.specs.Inner.PlainVerdicts.{firstPlain, plainsVerdict};
 
 // What stands at an offset of a filing.
 pub enum Step {
@@ -27,10 +27,11 @@ pub enum Step {
     End,
 }
 
-// The answer on the records, with what is noted of those before the first faulty one.
+// The answer on the records by all tests but 16, with what is noted of those before the first faulty one, and its offset: the input's length where none is.
 pub struct Scanned {
     pub answer: Answer,
     pub noted: Noted,
+    pub end: usize,
 }
 
 // A scan on its way: what the records before `at` have given, and whether there is one to read at `at`.
@@ -42,8 +43,9 @@ pub struct Progress {
 
 // Reads the records up to the first faulty one, each once: a reader moves over them.
 pub fn scan(s: &[u8]) -> Scanned
-    ensures { λ r. ⌜ (verdictOf (r .answer) ≡ recordsVerdict (now (s .entry)))
-        × (r .noted ≡ notedBefore (now (s .entry)) (firstFaulty (now (s .entry)))) ⌝ }
+    ensures { λ r. ⌜ (verdictOf (r .answer) ≡ plainsVerdict (now (s .entry)))
+        × (r .noted ≡ notedBefore (now (s .entry)) (firstPlain (now (s .entry))))
+        × (r .end ≡ firstPlain (now (s .entry))) ⌝ }
 {
     let mut reader = Reader::new(s);
     let mut progress = start(s.len());
@@ -65,7 +67,10 @@ fn start(size: usize) -> Progress
             noted: Noted {
                 sheets: [size; KINDS],
                 cells: [size; CELLS],
+                counting: [size; CELLS],
+                falling: [false; CELLS],
             },
+            end: 0,
         },
         at: 0,
         going: true,
@@ -91,6 +96,7 @@ fn visit(s: &[u8], step: Step, progress: Progress) -> Progress
         scanned: Scanned {
             answer,
             noted: after,
+            end: next,
         },
         at: next,
         going: true,
@@ -99,10 +105,14 @@ fn visit(s: &[u8], step: Step, progress: Progress) -> Progress
 
 // The scan ends at an offset.
 fn stopped(answer: Answer, noted: Noted, at: usize) -> Progress
-    ensures { λ r. ⌜ r ≡ record { scanned = record { answer = answer; noted = noted }; at = at; going = false } ⌝ }
+    ensures { λ r. ⌜ r ≡ record { scanned = record { answer = answer; noted = noted; end = at }; at = at; going = false } ⌝ }
 {
     Progress {
-        scanned: Scanned { answer, noted },
+        scanned: Scanned {
+            answer,
+            noted,
+            end: at,
+        },
         at,
         going: false,
     }

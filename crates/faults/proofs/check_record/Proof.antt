@@ -1,95 +1,23 @@
--- `check_record` meets its contract: each row's answer is the definition's, and the first refusal of them is the verdict.
+-- `check_record` meets its contract: the tests before 16, then those after it.
 -- Assumes nothing.
 use borrow.Author.Needs.{needs}
-use mathlib.Core.Path.{sym, _∙_}
-use Rattle.answers.proofs.VerdictLaws.{row-is, row-next}
-use Rattle.faults.proofs.FaultLaws.{verdict-rows}
+use Rattle.faults.specs.Inner.PlainVerdicts.{plainVerdict}
 use Rattle.faults.proofs.check_record.Statement.{statement}
 use Rattle.faults.proofs.check_record.Tie as tie
 
-incomplete-requires : tie.Need-incomplete-requires
-incomplete-requires c κs = search needs
+check-shape-requires : tie.Need-check-shape-requires
+check-shape-requires c κs = search needs
 
-refused-if-requires : tie.Need-refused-if-requires
-refused-if-requires c κs = search needs
+check-body-requires : tie.Need-check-body-requires
+check-body-requires c κs = search needs
 
-misshapen-requires : tie.Need-misshapen-requires
-misshapen-requires c κs = search needs
-
-or-refused-requires : tie.Need-or-refused-requires
-or-refused-requires c κs = search needs
-
-unlisted-requires : tie.Need-unlisted-requires
-unlisted-requires c κs = search needs
-
-or-refused-requires-2 : tie.Need-or-refused-requires-2
-or-refused-requires-2 c κs = search needs
-
-repeated-requires : tie.Need-repeated-requires
-repeated-requires c κs = search needs
-
-or-refused-requires-3 : tie.Need-or-refused-requires-3
-or-refused-requires-3 c κs = search needs
-
-path-beside-flat-requires : tie.Need-path-beside-flat-requires
-path-beside-flat-requires c κs = search needs
-
-or-refused-requires-4 : tie.Need-or-refused-requires-4
-or-refused-requires-4 c κs = search needs
-
-over-limit-requires : tie.Need-over-limit-requires
-over-limit-requires c κs = search needs
-
-or-refused-requires-5 : tie.Need-or-refused-requires-5
-or-refused-requires-5 c κs = search needs
-
-unsound-tiers-requires : tie.Need-unsound-tiers-requires
-unsound-tiers-requires c κs = search needs
-
-or-refused-requires-6 : tie.Need-or-refused-requires-6
-or-refused-requires-6 c κs = search needs
+first-refusal-requires : tie.Need-first-refusal-requires
+first-refusal-requires c κs = search needs
 
 returns : tie.Need-returns
-returns c =
-    let limit = c .before .before in
-    let path = limit .before .before in
-    let repetition = path .before .before in
-    let listing = repetition .before .before in
-    let shape = listing .before .before in
-    let end = shape .before .before in
-    let start = end .before .before .before in
-    let at = start .args .at in
-    row-next 11 at (c .or-refused6 .ensures)
-    (row-next 5 at (limit .or-refused5 .ensures)
-    (row-next 12 at (path .or-refused4 .ensures)
-    (row-next 4 at (repetition .or-refused3 .ensures)
-    (row-next 3 at (listing .or-refused2 .ensures)
-    (row-next 2 at (shape .or-refused .ensures)
-    (row-is 1 at (end .refused-if .ensures) (end .before .incomplete .ensures))
-    (shape .before .misshapen .ensures))
-    (listing .before .unlisted .ensures))
-    (repetition .before .repeated .ensures))
-    (path .before .path-beside-flat .ensures))
-    (limit .before .over-limit .ensures))
-    (c .before .unsound-tiers .ensures)
-    ∙ sym (verdict-rows (start .args .s .now) at)
+unfolding plainVerdict
+returns c = rw (← c .before .before .check-shape .ensures, ← c .before .check-body .ensures) (c .first-refusal .ensures)
 
 pub check-record-spec : {M : Type 1} → statement M
 check-record-spec =
-    tie.close
-    (tie.spec
-    incomplete-requires
-    refused-if-requires
-    misshapen-requires
-    or-refused-requires
-    unlisted-requires
-    or-refused-requires-2
-    repeated-requires
-    or-refused-requires-3
-    path-beside-flat-requires
-    or-refused-requires-4
-    over-limit-requires
-    or-refused-requires-5
-    unsound-tiers-requires
-    or-refused-requires-6
-    returns)
+    tie.close (tie.spec check-shape-requires check-body-requires first-refusal-requires returns)

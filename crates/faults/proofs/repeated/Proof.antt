@@ -4,7 +4,7 @@ use native.Mathlib.Omega.{arith}
 use mathlib.Core.Path.{sym, _∙_}
 use borrow.Author.Needs.{needs}
 use Rattle.records.proofs.ItemLaws.{OfCell, OfSheet, record-of-cell, record-of-sheet}
-use Rattle.faults.proofs.RepetitionLaws.{cell-repeated, sheet-repeated, nothing-repeated}
+use Rattle.faults.proofs.RepetitionLaws.{cell-repeated, sheet-repeated, amendment-single, nothing-repeated}
 use Rattle.faults.proofs.repeated.Statement.{statement}
 use Rattle.faults.proofs.repeated.Tie as tie
 
@@ -44,6 +44,9 @@ element-copy-out-result-2 c = of-sheet (c .before) .known
 enum-told : tie.Need-enum-told
 enum-told c = search needs
 
+enum-told-2 : tie.Need-enum-told-2
+enum-told-2 c = search needs
+
 returns : tie.Need-returns
 returns c =
     let at-item = c .before .before .before .before in
@@ -57,7 +60,10 @@ returns-2 c =
     rw (start .pre .1) (sheet-repeated _ _ _ (start .pre .0) (sym (at-item .record-item .ensures) ∙ c .before .before .kind .given .1))
 
 returns-3 : tie.Need-returns-3
-returns-3 c = sym (nothing-repeated _ _ (sym (c .before .before .record-item .ensures) ∙ c .enum-told .given .1))
+returns-3 c = sym (amendment-single _ _ _ _ (sym (c .before .before .record-item .ensures) ∙ c .enum-told .given .1))
+
+returns-4 : tie.Need-returns-4
+returns-4 c = sym (nothing-repeated _ _ (sym (c .before .before .record-item .ensures) ∙ c .enum-told2 .given .1))
 
 pub repeated-spec : {M : Type 1} → statement M
 repeated-spec =
@@ -72,6 +78,8 @@ repeated-spec =
     mul-result-2
     element-copy-out-result-2
     enum-told
+    enum-told-2
     returns
     returns-2
-    returns-3)
+    returns-3
+    returns-4)

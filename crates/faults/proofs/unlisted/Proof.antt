@@ -7,8 +7,8 @@ use Rattle.faults.proofs.unlisted.Tie as tie
 record-kind-requires : tie.Need-record-kind-requires
 record-kind-requires c κs = search needs
 
-gives-cell-requires : tie.Need-gives-cell-requires
-gives-cell-requires c κs = search needs
+names-cell-requires : tie.Need-names-cell-requires
+names-cell-requires c κs = search needs
 
 record-class-requires : tie.Need-record-class-requires
 record-class-requires c κs = search needs
@@ -18,4 +18,4 @@ returns c = cc
 
 pub unlisted-spec : {M : Type 1} → statement M
 unlisted-spec =
-    tie.close (tie.spec record-kind-requires gives-cell-requires record-class-requires returns)
+    tie.close (tie.spec record-kind-requires names-cell-requires record-class-requires returns)

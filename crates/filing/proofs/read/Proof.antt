@@ -7,10 +7,10 @@ use borrow.Author.Needs.{needs}
 use lib.ListN.{length}
 use Rattle.answers.specs.Verdict.{Verdict}
 use Rattle.answers.specs.Answers.{verdictOf}
-use Rattle.records.specs.declared.items.Noted.{Noted}
+use Rattle.records.specs.declared.notes.Noted.{Noted}
 use Rattle.records.specs.Inner.Notes.{notedBefore}
 use Rattle.faults.specs.RecordVerdicts.{recordsVerdict}
-use Rattle.scan.proofs.ProgressLaws.{records-passed}
+use Rattle.amendments.proofs.VerdictLaws.{plain-passed}
 use Rattle.filing.specs.Verdict.{sheetVerdict}
 use Rattle.filing.proofs.ReadLaws.{records-refuse, sheets-refuse, refused-reading}
 use Rattle.filing.proofs.read.Statement.{statement}
@@ -26,8 +26,8 @@ passed c = c .before .before .before .before .before
 abbrev sheet-bytes : tie.After-number2 → List ℕ
 sheet-bytes c = bytes (passed c .before)
 
-scan-requires : tie.Need-scan-requires
-scan-requires c κs = search needs
+check-records-requires : tie.Need-check-records-requires
+check-records-requires c κs = search needs
 
 number-requires : tie.Need-number-requires
 number-requires c κs = search needs
@@ -38,21 +38,21 @@ refusal-requires c κs = search needs
 -- the number that the code tests first
 records-number : (c : tie.After-number) → c .number .result ≡ recordsVerdict (bytes c) .number
 unfolding verdictOf
-records-number c = c .number .ensures ∙ ap (λ (v : Verdict). v .number) (c .before .scan .ensures .0)
+records-number c = c .number .ensures ∙ ap (λ (v : Verdict). v .number) (c .before .check-records .ensures .0)
 
 returns : tie.Need-returns
 returns c =
     let tested = c .before .before in
     refused-reading (bytes tested) (c .refusal .result) _ (c .refusal .ensures)
-    (tested .before .scan .ensures .0 ∙ records-refuse _ (λ e. c .before .if1 .taken (records-number tested ∙ e)))
+    (tested .before .check-records .ensures .0 ∙ records-refuse _ (λ e. c .before .if1 .taken (records-number tested ∙ e)))
     (λ e. c .before .if1 .taken (tested .number .ensures ∙ e))
 
 -- no record is refused, so all of them are noted
 none : (c : tie.Else1) → recordsVerdict (bytes (c .before)) .number ≡ 0
 none c = sym (records-number (c .before)) ∙ c .if1 .left
 
-noted : (c : tie.Else1) → c .before .before .scan .result .noted ≡ notedBefore (bytes (c .before)) (length (bytes (c .before)))
-noted c = c .before .before .scan .ensures .1 ∙ ap (notedBefore (bytes (c .before))) (records-passed _ (none c))
+noted : (c : tie.Else1) → c .before .before .check-records .result .noted ≡ notedBefore (bytes (c .before)) (length (bytes (c .before)))
+noted c = c .before .before .check-records .ensures .1 ∙ ap (notedBefore (bytes (c .before))) (plain-passed _ (none c))
 
 check-sheets-requires : tie.Need-check-sheets-requires
 check-sheets-requires c κs = ap (λ (n : Noted). n .sheets) (noted (c .before .before .before))
@@ -86,7 +86,7 @@ pub read-spec : {M : Type 1} → statement M
 read-spec =
     tie.close
     (tie.spec
-    scan-requires
+    check-records-requires
     number-requires
     refusal-requires
     returns

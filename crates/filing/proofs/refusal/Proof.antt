@@ -5,13 +5,14 @@ use Rattle.lists.specs.Tables.{tableFrom}
 use Rattle.records.specs.Bytes.{numberAt}
 use Rattle.records.specs.Records.{searchRecords, firstRecord}
 use Rattle.records.specs.Items.{firstWith}
+use Rattle.records.specs.Counting.{countsFrom, countingBefore}
 use Rattle.filing.specs.Contents.{cellOffset, cellValue, sheetOffset, rateNumber, tierNumber, tiersAt, contentsOf}
 use Rattle.filing.specs.Readings.{emptyContents}
 use Rattle.filing.proofs.refusal.Statement.{statement}
 use Rattle.filing.proofs.refusal.Tie as tie
 
 returns : tie.Need-returns
-unfolding emptyContents contentsOf cellValue cellOffset sheetOffset rateNumber tiersAt tierNumber tableFrom numberAt searchRecords firstRecord firstWith
+unfolding emptyContents contentsOf cellValue cellOffset countingBefore countsFrom sheetOffset rateNumber tiersAt tierNumber tableFrom numberAt searchRecords firstRecord firstWith
 returns c = (refl, refl)
 
 pub refusal-spec : {M : Type 1} → statement M

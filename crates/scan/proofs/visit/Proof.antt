@@ -7,7 +7,7 @@ use Rattle.answers.specs.Answers.{verdictOf}
 use Rattle.answers.specs.Verdict.{Verdict}
 use Rattle.scan.specs.declared.Step.{Step}
 use Rattle.scan.specs.declared.Step.the-variants.{Record, End}
-use Rattle.faults.specs.RecordVerdicts.{recordVerdict}
+use Rattle.faults.specs.Inner.PlainVerdicts.{plainVerdict}
 use Rattle.scan.proofs.ProgressLaws.{Says, step-says, visited-end, visited-faulty, visited-sound}
 use Rattle.scan.proofs.visit.Statement.{statement}
 use Rattle.scan.proofs.visit.Tie as tie
@@ -48,7 +48,7 @@ abbrev step-of : tie.After-number → tie.After-step
 step-of c = c .before .before .before
 
 fault : (c : tie.After-number)
-    → c .number .result ≡ recordVerdict (start-of (step-of c) .args .s .now) (start-of (step-of c) .args .progress .at) .number
+    → c .number .result ≡ plainVerdict (start-of (step-of c) .args .s .now) (start-of (step-of c) .args .progress .at) .number
 unfolding verdictOf
 fault c = c .number .ensures ∙ ap (λ (v : Verdict). v .number) (c .before .check-record .ensures)
 

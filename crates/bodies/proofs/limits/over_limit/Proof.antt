@@ -1,6 +1,8 @@
 -- `over_limit` meets its contract.
 -- Assumes nothing.
 use borrow.Author.Needs.{needs}
+use borrow.Author.Tests.{eq-eqb, ne-eqb}
+use Rattle.records.specs.Kinds.{amendmentKind}
 use Rattle.bodies.specs.Bodies.{overLimit}
 use Rattle.bodies.proofs.limits.over_limit.Statement.{statement}
 use Rattle.bodies.proofs.limits.over_limit.Tie as tie
@@ -29,6 +31,16 @@ returns c =
     )
     (simp (at-cell .if1 .taken))
 
+unfit-amendment-requires : tie.Need-unfit-amendment-requires
+unfit-amendment-requires c κs = search needs
+
+returns-2 : tie.Need-returns-2
+unfolding overLimit
+returns-2 c =
+    let at-kind = c .before .before .before in
+    rw (← at-kind .before .record-kind .ensures, ← at-kind .gives-cell .ensures, ← c .unfit-amendment .ensures)
+    (simp (c .before .before .if1 .left, eq-eqb _ amendmentKind (c .before .if2 .taken)))
+
 sheet-kind-requires : tie.Need-sheet-kind-requires
 sheet-kind-requires c κs = search needs
 
@@ -38,18 +50,18 @@ cast-number-over c = search needs
 number-over-requires : tie.Need-number-over-requires
 number-over-requires c κs = search needs
 
-returns-2 : tie.Need-returns-2
+returns-3 : tie.Need-returns-3
 unfolding overLimit
-returns-2 c =
+returns-3 c =
     let at-sheet = c .before .before in
-    let at-kind = at-sheet .before .before in
+    let at-kind = at-sheet .before .before .before in
     rw (
       ← at-kind .before .record-kind .ensures,
       ← at-kind .gives-cell .ensures,
       ← at-sheet .sheet-kind .ensures,
       ← c .number-over .ensures,
     )
-    (simp (at-sheet .before .if1 .left))
+    (simp (at-sheet .before .before .if1 .left, ne-eqb _ amendmentKind (at-sheet .before .if2 .left)))
 
 pub over-limit-spec : {M : Type 1} → statement M
 over-limit-spec =
@@ -60,7 +72,9 @@ over-limit-spec =
     value-limit-requires
     record-value-requires
     returns
+    unfit-amendment-requires
+    returns-2
     sheet-kind-requires
     cast-number-over
     number-over-requires
-    returns-2)
+    returns-3)

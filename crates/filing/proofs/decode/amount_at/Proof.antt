@@ -12,8 +12,8 @@ use Rattle.filing.specs.Contents.{amountAt}
 use Rattle.filing.proofs.decode.amount_at.Statement.{statement}
 use Rattle.filing.proofs.decode.amount_at.Tie as tie
 
-record-value-requires : tie.Need-record-value-requires
-record-value-requires c κs = search needs
+filed-value-requires : tie.Need-filed-value-requires
+filed-value-requires c κs = search needs
 
 record-kind-requires : tie.Need-record-kind-requires
 record-kind-requires c κs = search needs
@@ -22,7 +22,7 @@ returns : tie.Need-returns
 unfolding amountAt
 returns c =
     let at-kind = c .before in
-    rw (← at-kind .record-kind .ensures, ← at-kind .before .record-value .ensures) (simp (eq-eqb _ fineCouponKind (c .if1 .taken)))
+    rw (← at-kind .record-kind .ensures, ← at-kind .before .filed-value .ensures) (simp (eq-eqb _ fineCouponKind (c .if1 .taken)))
 
 record-cell-requires : tie.Need-record-cell-requires
 record-cell-requires c κs = search needs
@@ -32,7 +32,7 @@ cell-class-requires c κs = search needs
 
 -- a coupon in hundredths, and its limit
 tenfold : (c : tie.Then2)
-    → 10 * c .before .before .before .before .before .record-value .result
+    → 10 * c .before .before .before .before .before .filed-value .result
     ≡ amountAt (c .before .before .before .before .before .before .before .args .s .now) (c .before .before .before .before .before .before .before .args .at)
 unfolding amountAt
 tenfold c =
@@ -40,7 +40,7 @@ tenfold c =
     let at-kind = at-cell .before .before in
     rw (
       ← at-kind .record-kind .ensures,
-      ← at-kind .before .record-value .ensures,
+      ← at-kind .before .filed-value .ensures,
       ← at-cell .record-cell .ensures,
       ← c .before .cell-class .ensures,
     )
@@ -66,7 +66,7 @@ returns-3 c =
     let at-kind = at-cell .before .before in
     rw (
       ← at-kind .record-kind .ensures,
-      ← at-kind .before .record-value .ensures,
+      ← at-kind .before .filed-value .ensures,
       ← at-cell .record-cell .ensures,
       ← c .before .cell-class .ensures,
     )
@@ -75,4 +75,4 @@ returns-3 c =
 pub amount-at-spec : {M : Type 1} → statement M
 amount-at-spec =
     tie.close
-    (tie.spec record-value-requires record-kind-requires returns record-cell-requires cell-class-requires mul-result returns-2 returns-3)
+    (tie.spec filed-value-requires record-kind-requires returns record-cell-requires cell-class-requires mul-result returns-2 returns-3)

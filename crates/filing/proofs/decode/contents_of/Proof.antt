@@ -5,7 +5,7 @@ use mathlib.Core.Path.{_≡_, ap, _∙_}
 use lib.Dec.{lit<}
 use lib.ListN.{getD}
 use borrow.Author.Needs.{needs}
-use Rattle.records.specs.declared.items.Noted.{Noted}
+use Rattle.records.specs.declared.notes.Noted.{Noted}
 use Rattle.records.specs.Kinds.{kindCount, flatRatesKind, tiersKind, ratePathKind}
 use Rattle.filing.specs.Contents.{sheetOffset, contentsOf}
 use Rattle.filing.proofs.ContentsLaws.{sheet-noted}
@@ -19,7 +19,7 @@ sheet-is c kind h = ap (λ (noted : Noted). getD (noted .sheets) kind 0) (c .pre
 cell-values-requires : tie.Need-cell-values-requires
 cell-values-requires c κs =
     let start = c .before .before .before in
-    (start .pre .0, ap (λ (noted : Noted). noted .cells) (start .pre .1))
+    (start .pre .0, ap (λ (noted : Noted). noted .counting) (start .pre .1))
 
 element-copy-out-fill-numbers : tie.Need-element-copy-out-fill-numbers
 element-copy-out-fill-numbers c = search needs

@@ -40,7 +40,7 @@ use Rattle.scan.specs.declared.Step.{Step}
 use Rattle.scan.specs.declared.Scanned.{Scanned}
 use Rattle.scan.specs.declared.Progress.{Progress}
 use Rattle.records.specs.Inner.Notes.{notedBefore}
-use Rattle.faults.specs.RecordVerdicts.{firstFaulty, recordsVerdict}
+use Rattle.faults.specs.Inner.PlainVerdicts.{firstPlain, plainsVerdict}
 use Rattle.scan.proofs.WalkLaws.{returned, value-is, is-value}
 use Rattle.scan.proofs.ReaderLaws.{TheReader, the-struct, the-laws, bytes-value, reader-value, OwnBytes, OwnReader, token, bytes-twice, reader-twice, reader-typed}
 use Rattle.scan.proofs.Step as S
@@ -95,7 +95,7 @@ module _ {M : Type 1} (𝓤 : URA M) (H : Heap 𝓤) (A : Atoms 𝓤) (mem : Mem
 
 -- what the contract of `scan` says of its result
 abbrev Ended : RefT (List ℕ) → Scanned → Type 0
-Ended s k = (verdictOf (k .answer) ≡ recordsVerdict (now s)) × (k .noted ≡ notedBefore (now s) (firstFaulty (now s)))
+Ended s k = (verdictOf (k .answer) ≡ plainsVerdict (now s)) × (k .noted ≡ notedBefore (now s) (firstPlain (now s))) × (k .end ≡ firstPlain (now s))
 
 module _ {M : Type 1} (𝓤 : URA M) (H : Heap 𝓤) (A : Atoms 𝓤) (W : Given 𝓤 H A) (mem : Memory → SProp 𝓤) (run : Routine → Fun 𝓤) (κ : Lft) (q : Share) (s : RefT (List ℕ)) where
   exits : (k : Scanned) → Is K.the-row k (scanned-value k ∷ []) → Ended s k → ent 𝓤 (⋆ 𝓤 H A (token 𝓤 κ q ∷ ‵ (OwnBytes κ s) ∷ [])) (Post 𝓤 H A mem run κ q s (scanned-value k))
@@ -191,7 +191,7 @@ module _ {M : Type 1} (𝓤 : URA M) (H : Heap 𝓤) (A : Atoms 𝓤) (W : Given
         (λ r′ p′ is-r is-p made to. qed W (Items r′ p′) ∵ again ! (Less κ s) items-at t (moved-on κ s t goes r′ p′ is-r is-p made to) (moved-less κ s t goes p′ made))
     turn t false stops =
         let end = t .scan-at .ended stops in
-        leaves (t .reader) (t .progress) (Below 𝓤 H A (Less κ s) items-at t) (t .is-progress) stops (end .verdict-is, end .noted-is)
+        leaves (t .reader) (t .progress) (Below 𝓤 H A (Less κ s) items-at t) (t .is-progress) stops (end .verdict-is, end .noted-is, end .end-is)
 
     pub looped : (t : State κ s) → ent 𝓤 (⋆ 𝓤 H A (items-at t)) (Wp 𝓤 H (𝓣 .C) (𝓣 .Λ) Locals (loop code.Mir.turn-1) Left)
     looped t = loop-rule 𝓤 H (W .laws) 𝓣 (Less κ s) (less-wf κ s) Locals code.Mir.turn-1 Left (λ x. ⋆ 𝓤 H A (items-at x)) (λ x. turn x (x .progress .going) refl) t

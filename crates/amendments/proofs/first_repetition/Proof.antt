@@ -1,0 +1,76 @@
+-- `first_repetition` meets its contract. The loop's invariant: the first repetition of the cells passed. A cell whose amendments rise has none.
+-- Assumes nothing.
+use Prim.Native.Nat.{_+_, _-_, _≤_}
+use native.Mathlib.Numerals.{add-one}
+use native.Mathlib.Omega.{arith}
+use mathlib.Core.Path.{_≡_, refl, sym, ap, _∙_}
+use mathlib.Core.Bool.{false}
+use lib.ListN.{getD}
+use Rattle.records.specs.declared.notes.Noted.{Noted}
+use Rattle.records.specs.Inner.Notes.{firstCell, cellCount}
+use Rattle.records.proofs.NoteLaws.{noted-falling}
+use Rattle.amendments.specs.Inner.Repetitions.{repetitionsBelow}
+use Rattle.amendments.proofs.RepetitionLaws.{rising-single, repetitions-le}
+use Rattle.amendments.proofs.first_repetition.Statement.{statement}
+use Rattle.amendments.proofs.first_repetition.Tie as tie
+
+abbrev Inv-loop : tie.InvT-loop
+Inv-loop s end noted first₀ i₀ first i = (i ≤ cellCount) × (first ≡ repetitionsBelow s i end)
+
+abbrev μ-loop : tie.MeasureT-loop
+μ-loop s end noted first₀ i₀ first i = cellCount - i
+
+loop-holds : tie.Need-loop-holds Inv-loop μ-loop
+unfolding repetitionsBelow
+loop-holds c = (omega arith, refl)
+
+add-cell-repetition : tie.Need-add-cell-repetition Inv-loop μ-loop
+add-cell-repetition c = omega arith
+
+element-copy-out-cell-repetition : tie.Need-element-copy-out-cell-repetition Inv-loop μ-loop
+element-copy-out-cell-repetition c = omega arith
+
+cell-repetition-requires : tie.Need-cell-repetition-requires Inv-loop μ-loop
+cell-repetition-requires c κs =
+    let start = c .before .before .before .before in
+    let loop = c .before .before .loop in
+    let s = start .args .s .now in
+    let end = start .args .end in
+    let i = loop .i in
+    let first-le : loop .first ≤ end = rw (loop .inv .1) (repetitions-le s i end) in
+    let place : firstCell + i - firstCell ≡ i = omega arith in
+    let falling = ap (λ (noted : Noted). getD (noted .falling) i false) (start .pre .1) in
+    let is = rw place at (noted-falling s end (firstCell + i) (omega arith) (omega arith)) in
+    (omega (arith, first-le, start .pre .0), λ rises. rising-single s (firstCell + i) end (loop .first) (sym is ∙ sym falling ∙ rises) first-le)
+
+add-i : tie.Need-add-i Inv-loop μ-loop
+add-i c = omega arith
+
+loop-less : tie.Need-loop-less Inv-loop μ-loop
+loop-less c = omega arith
+
+loop-again : tie.Need-loop-again Inv-loop μ-loop
+unfolding repetitionsBelow
+loop-again c =
+    let loop = c .before .before .before .loop in
+    (omega arith, c .cell-repetition .ensures ∙ rw (loop .inv .1, add-one))
+
+returns : tie.Need-returns Inv-loop μ-loop
+returns c =
+    let e : c .before .loop .i ≡ cellCount = omega arith in
+    rw e at (c .before .loop .inv .1)
+
+pub first-repetition-spec : {M : Type 1} → statement M
+first-repetition-spec =
+    tie.close
+    (tie.spec
+    Inv-loop
+    μ-loop
+    loop-holds
+    add-cell-repetition
+    element-copy-out-cell-repetition
+    cell-repetition-requires
+    add-i
+    loop-less
+    loop-again
+    returns)
