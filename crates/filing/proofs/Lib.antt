@@ -4,3 +4,4 @@ pub mod SoundLaws
 pub mod AcceptedLaws
 pub mod ReadLaws
 pub mod ReadingLaws
+pub mod SurvivorLaws

@@ -1,0 +1,214 @@
+-- A filing with amendments says the same as one with only its surviving cells, each in a record of kind 1 or 6.
+-- Assumes nothing.
+use Prim.Native.Nat.{ℕ, _+_, _*_, _/_, _≤_, _<_}
+use native.Mathlib.Nat.{le-refl, le-antisymm}
+use native.Mathlib.Omega.{arith}
+use mathlib.Core.Path.{_≡_, refl, sym, ap, _∙_}
+use mathlib.Core.Bool.{Bool, true, false, cond, not, _&&_, true≢false}
+use mathlib.Core.List.{List}
+use borrow.Author.Tests.{ltb-true, ltb-false, lt-ltb, le-ltb, eqb-true, eq-eqb, ne-eqb, not-false, not-true}
+use lib.Dec.{ltb, eqb}
+use lib.ListN.{length}
+use Rattle.schedule.specs.Limits.{couponClass, cellClass, monthsLimit, tierLimit}
+use Rattle.records.specs.declared.items.Item.{Item}
+use Rattle.records.specs.declared.items.Item.the-variants.{Cell, Sheet, Amendment, Nothing}
+use Rattle.records.specs.Records.{recordKind, recordCell, amendmentState, sheetNumber, tierCount, firstRecord}
+use Rattle.records.specs.Kinds.{fineCouponKind, amendmentKind, tiersKind, ratePathKind, flatRatesKind, givesCell, sheetOf, sheetKinds, sheetKind, sheetLength, dueLength}
+use Rattle.records.specs.Items.{sameItem, recordItem, firstWith}
+use Rattle.records.specs.Counting.{itemRank, rank, countingBefore}
+use Rattle.records.proofs.ByteLaws.{number-past}
+use Rattle.records.proofs.RecordLaws.{first-le, first-passes}
+use Rattle.records.proofs.ItemLaws.{same-item, record-of-amendment}
+use Rattle.faults.specs.Faults.{standsBefore}
+use Rattle.faults.specs.RecordVerdicts.{firstRefused, recordVerdict}
+use Rattle.faults.proofs.FaultLaws.{record-plain, faultless}
+use Rattle.faults.proofs.RepetitionLaws.{single-stands}
+use Rattle.scan.proofs.SearchLaws.{Reached}
+use Rattle.scan.proofs.NotingLaws.{table-same}
+use Rattle.scan.proofs.FirstLaws.{first-found, first-earlier, first-reached}
+use Rattle.scan.proofs.CountingLaws.{counting-most, counting-holds}
+use Rattle.filing.specs.Contents.{filedValue, amountAt, cellOffset, cellValue, sheetOffset, rateCount, rateNumber, tierNumber, tiersAt, contentsOf}
+use Rattle.filing.specs.Survivors.{withdraws, survives, Surviving}
+
+-- nothing stands at the end, so it is of no cell
+nothing-past : (s : List ℕ) (at : ℕ) → length s ≤ at → recordItem s at ≡ Nothing
+unfolding recordItem givesCell dueLength sheetLength sheetKind sheetKinds sheetOf
+nothing-past s at h = simp (number-past s (at + 2) 2 (omega arith))
+
+module _ (t : List ℕ) (sound : firstRefused t (recordVerdict t) ≡ length t)
+    (unamended : firstRecord t (λ (at : ℕ). eqb (recordKind t at) amendmentKind) (length t) ≡ length t) (n : ℕ) where
+  abbrev first : ℕ
+  first = firstWith t (Cell n) (length t)
+
+  abbrev counted : ℕ
+  counted = countingBefore t n (length t)
+
+  abbrev ofCell : ℕ → Bool
+  ofCell at = sameItem (recordItem t at) (Cell n)
+
+  -- a record of the cell, without amendments, is of kind 1 or 6
+  item-is : (at : ℕ) → Reached t 0 at → at < length t → 0 < rank t n at → recordItem t at ≡ Cell n
+  unfolding itemRank
+  item-is at r l h = by (recordItem t at) refl h
+    where
+      same : (m number : ℕ) (b : Bool) → eqb m n ≡ b → 0 < cond b number 0 → m ≡ n
+      same m number true e p = eqb-true m n e
+      same m number false e p = absurd (omega arith)
+
+      by : (item : Item) → recordItem t at ≡ item → 0 < itemRank n item → recordItem t at ≡ Cell n
+      by (Cell m) e p = e ∙ ap Cell (same m 1 (eqb m n) refl p)
+      by (Sheet kind) e p = absurd (omega arith)
+      by (Amendment m number) e p =
+          absurd (true≢false (sym (eq-eqb (recordKind t at) amendmentKind (record-of-amendment t at m number e .kind-is))
+          ∙ first-earlier t (λ (i : ℕ). eqb (recordKind t i) amendmentKind) (length t) at r (omega (arith, unamended))))
+      by Nothing e p = absurd (omega arith)
+
+  -- the record that counts is one of the cell
+  record Counted (at : ℕ) : Type 0 where
+    within : at ≤ length t
+    is-cell : at < length t → Reached t 0 at × (recordItem t at ≡ Cell n)
+
+  counted-is : Counted counted
+  counted-is =
+      counting-holds t n Counted (length t) (record { within = le-refl (length t); is-cell = λ l. absurd (omega arith) })
+      (λ at r l h. record { within = omega arith; is-cell = λ u. (r, item-is at r l h) })
+
+  same-cell : (at : ℕ) → recordItem t at ≡ Cell n → ofCell at ≡ true
+  unfolding sameItem
+  same-cell at e = rw e (eq-eqb n n refl)
+
+  -- no record of the cell stands before another: a second one would be a 4
+  single : (at : ℕ) → Reached t 0 at → at < length t → recordItem t at ≡ Cell n → at ≤ first
+  unfolding firstRefused firstWith standsBefore
+  single at r l e = by (ltb first at) refl
+    where
+      fine : ltb (firstRecord t ofCell at) at ≡ false
+      fine =
+          rw e at
+          (single-stands t at (Cell n) e refl
+          (faultless t at (record-plain t at (eqb-true (recordVerdict t at .number) 0 (not-false (eqb (recordVerdict t at .number) 0)
+          (first-earlier t (λ (i : ℕ). not (eqb (recordVerdict t i .number) 0)) (length t) at r (omega (arith, sound)))))) .single))
+
+      by : (b : Bool) → ltb first at ≡ b → at ≤ first
+      by true b =
+          let u = ltb-true first at b in
+          let within : first < length t = omega arith in
+          let found : firstRecord t ofCell at ≡ first =
+          first-found t ofCell at first (first-reached t ofCell (length t) within) u (first-passes t ofCell (length t) within)
+          (λ j p q. first-earlier t ofCell (length t) j p q) in
+          absurd (true≢false (sym (lt-ltb first at u) ∙ ap (λ (x : ℕ). ltb x at) (sym found) ∙ fine))
+      by false b = ltb-false first at b
+
+  -- a cell that stands ranks, and nothing does at the end
+  ranked : first < length t → 0 < rank t n first
+  unfolding itemRank firstWith
+  ranked l =
+      let is = same-item (recordItem t first) (Cell n) (first-passes t ofCell (length t) l) in
+      rw (is, eq-eqb n n refl) (omega arith)
+
+  first-counted : first < length t → counted < length t
+  unfolding itemRank firstWith
+  first-counted l = by (ltb counted (length t)) refl
+    where
+      by : (b : Bool) → ltb counted (length t) ≡ b → counted < length t
+      by true e = ltb-true counted (length t) e
+      by false e =
+          let none : rank t n counted ≡ 0 = ap (itemRank n) (nothing-past t counted (ltb-false counted (length t) e)) in
+          absurd (omega (arith, ranked l, none, counting-most t n (length t) first (first-reached t ofCell (length t) l) l))
+
+  -- without amendments the record that counts for a cell is the cell's own
+  own-counts : counted ≡ first
+  unfolding firstWith
+  own-counts = by (ltb counted (length t)) refl
+    where
+      by : (b : Bool) → ltb counted (length t) ≡ b → counted ≡ first
+      by true e =
+          let l = ltb-true counted (length t) e in
+          let is = counted-is .is-cell l in
+          le-antisymm (single counted (is .0) l (is .1)) (from (ltb counted first) refl (is .0) (is .1))
+        where
+          from : (b : Bool) → ltb counted first ≡ b → Reached t 0 counted → recordItem t counted ≡ Cell n → first ≤ counted
+          from true c r i = absurd (true≢false (sym (same-cell counted i) ∙ first-earlier t ofCell (length t) counted r (ltb-true counted first c)))
+          from false c r i = ltb-false counted first c
+      by false e =
+          let past = ltb-false counted (length t) e in
+          let whole : counted ≡ length t = le-antisymm (counted-is .within) past in
+          whole ∙ sym (le-antisymm (first-le t ofCell (length t)) (none (ltb first (length t)) refl))
+        where
+          none : (b : Bool) → ltb first (length t) ≡ b → length t ≤ first
+          none true c = absurd (omega (arith, first-counted (ltb-true first (length t) c), ltb-false counted (length t) e))
+          none false c = ltb-false first (length t) c
+
+both : (a b : Bool) → (a && b) ≡ true → (a ≡ true) × (b ≡ true)
+both true b e = (refl, e)
+both false b e = absurd (true≢false (sym e))
+
+-- a record that withdraws its cell gives 0
+withdrawn-amount : (s : List ℕ) (at : ℕ) → withdraws s at ≡ true → amountAt s at ≡ 0
+unfolding withdraws amountAt filedValue
+withdrawn-amount s at h =
+    let parts = both (eqb (recordKind s at) amendmentKind) (not (eqb (amendmentState s at) 0)) h in
+    let kind = eqb-true (recordKind s at) amendmentKind (parts .0) in
+    simp (
+      ne-eqb (recordKind s at) fineCouponKind (λ e. omega arith),
+      parts .0,
+      not-true (eqb (amendmentState s at) 0) (parts .1),
+    )
+    (either-way (eqb (cellClass (recordCell s at)) couponClass))
+  where
+    either-way : (b : Bool) → cond b (10 * 0) 0 ≡ 0
+    either-way true = refl
+    either-way false = refl
+
+module _ (s t : List ℕ) (u : Surviving s t) where
+  -- the offset of a cell in t
+  own : (n : ℕ) → cellOffset t n ≡ firstWith t (Cell n) (length t)
+  unfolding cellOffset
+  own n = own-counts t (u .sound) (u .unamended) n
+
+  -- a cell that does not survive says 0 in s
+  lost : (n : ℕ) → survives s n ≡ false → cellValue s n ≡ 0
+  unfolding survives cellValue
+  lost n h = by (ltb (cellOffset s n) (length s)) (withdraws s (cellOffset s n)) refl refl h
+    where
+      by : (present gone : Bool) → ltb (cellOffset s n) (length s) ≡ present → withdraws s (cellOffset s n) ≡ gone → (present && not gone) ≡ false
+          → cond present (amountAt s (cellOffset s n)) 0 ≡ 0
+      by true true p g h = withdrawn-amount s (cellOffset s n) g
+      by true false p g h = absurd (true≢false h)
+      by false gone p g h = refl
+
+  kept : (n : ℕ) → survives s n ≡ true → cellValue s n ≡ amountAt s (cellOffset s n)
+  unfolding survives cellValue
+  kept n h = simp (both (ltb (cellOffset s n) (length s)) (not (withdraws s (cellOffset s n))) h .0)
+
+  cell-same : (n : ℕ) → cellValue t n ≡ cellValue s n
+  unfolding cellValue
+  cell-same n = by (survives s n) refl
+    where
+      by : (b : Bool) → survives s n ≡ b → cellValue t n ≡ cellValue s n
+      by true h = rw (own n, lt-ltb (firstWith t (Cell n) (length t)) (length t) (u .stands n h)) (u .gives n h ∙ sym (kept n h))
+      by false h =
+          rw (own n, u .absent n h, le-ltb (length t) (length t) (le-refl (length t))) (sym (lost n h))
+
+  rate-same : (i : ℕ) → rateNumber t i ≡ rateNumber s i
+  unfolding rateNumber
+  rate-same i =
+      rw (u .same-sheets ratePathKind, u .same-numbers ratePathKind (i + 1), u .same-numbers flatRatesKind (i / monthsLimit + 1))
+
+  tier-same : (first i : ℕ) → tierNumber t (sheetOffset t tiersKind) (tierCount t (sheetOffset t tiersKind)) first i
+      ≡ tierNumber s (sheetOffset s tiersKind) (tierCount s (sheetOffset s tiersKind)) first i
+  unfolding tierNumber
+  tier-same first i = rw (u .same-numbers tiersKind 1, u .same-numbers tiersKind (first + 2 * i))
+
+  -- what the two say is the same
+  pub survivors-say : contentsOf t ≡ contentsOf s
+  unfolding contentsOf tiersAt
+  survivors-say =
+      rw (
+        table-same 601 61 (cellValue t) (cellValue s) (λ n l m. cell-same n),
+        table-same 1 120 (sheetNumber t (sheetOffset t 2)) (sheetNumber s (sheetOffset s 2)) (λ i l m. u .same-numbers 2 i),
+        table-same 0 rateCount (rateNumber t) (rateNumber s) (λ i l m. rate-same i),
+        table-same 0 tierLimit _ _ (λ i l m. tier-same 2 i),
+        table-same 0 tierLimit _ _ (λ i l m. tier-same 3 i),
+        u .same-numbers tiersKind 1,
+      )
