@@ -18,8 +18,8 @@ use Rattle.records.specs.Records.{nextRecord}
 use Rattle.records.specs.Kinds.{ratePathKind}
 use Rattle.records.specs.declared.items.Item.the-variants.{Cell, Sheet}
 use Rattle.records.specs.Items.{sameItem, recordItem, firstWith}
-use Rattle.faults.specs.Faults.{repeated, sheetBefore, pathBesideFlat}
-use Rattle.faults.specs.RecordVerdicts.{recordVerdict, firstFaulty, recordsVerdict}
+use Rattle.faults.specs.Faults.{standsBefore, sheetBefore, pathBesideFlat}
+use Rattle.faults.specs.RecordVerdicts.{recordVerdict, firstRefused, verdictBy, recordsVerdict}
 use Rattle.filled_cells.specs.declared.CellValue.{CellValue}
 use Rattle.certified.specs.Filed.{run, cellBody, sheetBody, filedBodies}
 use Rattle.certified.proofs.RecordRunLaws.{offset, offset-last, offset-lt, record-field, record-length, record-next, search-none}
@@ -160,8 +160,8 @@ module _ (cells : List CellValue) (yields rates : ℕ → ℕ) where
         (λ e. subst (λ (m : ℕ). sameItem (recordItem made (offset bodies i)) (recordItem made (offset bodies m)) ≡ false) (sym e) (rw item-rates (before-rates i 3 (omega arith) refl))))
         (three (length cells) k h)
 
-    once : (k : ℕ) → k < length cells + 2 → repeated made (offset bodies k) ≡ false
-    unfolding repeated firstWith
+    once : (k : ℕ) → k < length cells + 2 → standsBefore made (offset bodies k) ≡ false
+    unfolding standsBefore firstWith
     once k h =
         let none = search-none bodies sized (λ (at : ℕ). sameItem (recordItem made at) (recordItem made (offset bodies k))) k (omega (arith, filed-length)) (λ i l. apart i k l h) in
         rw none (le-ltb (offset bodies k) (offset bodies k) (omega arith))
@@ -207,7 +207,7 @@ module _ (cells : List CellValue) (yields rates : ℕ → ℕ) where
 
     -- and so all
     pub records-pass : recordsVerdict made ≡ accepted
-    unfolding recordsVerdict firstFaulty accepted
+    unfolding verdictBy firstRefused accepted
     records-pass =
         let all : length bodies ≡ length cells + 2 = filed-length in
         let none =

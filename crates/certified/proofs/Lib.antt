@@ -6,6 +6,7 @@ pub mod LookUpLaws
 pub mod FitLaws
 pub mod ByteLaws
 pub mod RecordRunLaws
+pub mod CountLaws
 pub mod BodyLaws
 pub mod PassLaws
 pub mod ListedLaws

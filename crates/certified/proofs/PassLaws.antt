@@ -2,7 +2,7 @@
 use Prim.Native.Nat.{ℕ, zero, suc, _+_, _*_, _≤_, _<_}
 use native.Mathlib.Omega.{arith}
 use mathlib.Core.Path.{_≡_, refl}
-use mathlib.Core.Bool.{false, not}
+use mathlib.Core.Bool.{Bool, true, false, not, _&&_}
 use mathlib.Core.List.{List}
 use borrow.Author.Tests.{le-ltb, eq-eqb, ne-eqb}
 use lib.Dec.{ltb, eqb}
@@ -11,28 +11,36 @@ use Rattle.lists.specs.Tables.{anyBelow}
 use Rattle.schedule.specs.Limits.{cellClass, classLimit, rateLimit}
 use Rattle.answers.specs.Verdict.{accepted, refusedIf, firstRefusal, firstOf}
 use Rattle.records.specs.Records.{recordLength, recordKind, recordCell, recordValue, sheetNumber, nextRecord}
-use Rattle.records.specs.Kinds.{sheetOf, sheetKinds, sheetKind, sheetLength, givesCell, tiersKind, dueLength}
+use Rattle.records.specs.Kinds.{sheetOf, sheetKinds, sheetKind, sheetLength, givesCell, namesCell, amendmentKind, tiersKind, dueLength}
 use Rattle.records.specs.declared.items.Item.the-variants.{Cell, Sheet}
 use Rattle.records.specs.Items.{recordClass, recordItem}
 use Rattle.bodies.specs.Bodies.{numberOver, valueLimit, overLimit, unsoundTiers}
-use Rattle.faults.specs.Faults.{incomplete, misshapen, unlisted, repeated, pathBesideFlat}
-use Rattle.faults.specs.RecordVerdicts.{recordVerdict}
+use Rattle.faults.specs.Faults.{incomplete, misshapen, unlisted, standsBefore, repeated, amendmentRepeated, pathBesideFlat}
+use Rattle.faults.specs.RecordVerdicts.{shapeVerdict, bodyVerdict, recordVerdict}
 use Rattle.filled_cells.specs.declared.CellValue.{CellValue}
 
 -- a kind of sheet: n numbers up to the limit of a rate
 pub record RateSheet (kind n : ℕ) : Type 0 where
   pub no-cell : givesCell kind ≡ false
+  pub no-amendment : eqb kind amendmentKind ≡ false
   pub no-tiers : eqb kind tiersKind ≡ false
   pub numbers-are : sheetKind kind .numbers ≡ n
   pub limit-is : sheetKind kind .limit ≡ rateLimit
   pub some : eqb n 0 ≡ false
 
+and-false : (b : Bool) → (b && false) ≡ false
+and-false true = refl
+and-false false = refl
+
 module _ (s : List ℕ) (at : ℕ) where
   -- no row of the table holds
-  passes : incomplete s at ≡ false → misshapen s at ≡ false → unlisted s at ≡ false → repeated s at ≡ false → pathBesideFlat s at ≡ false
+  passes : incomplete s at ≡ false → misshapen s at ≡ false → unlisted s at ≡ false → standsBefore s at ≡ false → pathBesideFlat s at ≡ false
       → overLimit s at ≡ false → unsoundTiers s at ≡ false → recordVerdict s at ≡ accepted
-  unfolding recordVerdict firstOf firstRefusal refusedIf accepted
-  passes a b c d e f g = rw (a, b, c, d, e, f, g)
+  unfolding recordVerdict shapeVerdict bodyVerdict firstOf firstRefusal refusedIf accepted
+  passes a b c d e f g =
+      let once : repeated s at ≡ false = rw d (and-false (not (eqb (recordKind s at) amendmentKind))) in
+      let single : amendmentRepeated s at ≡ false = rw d (and-false (eqb (recordKind s at) amendmentKind)) in
+      rw (a, b, c, once, e, single, f, g)
 
   -- it ends within the filing
   complete : (n : ℕ) → recordLength s at ≡ n → 2 ≤ n → nextRecord s at ≤ length s → incomplete s at ≡ false
@@ -58,7 +66,7 @@ module _ (s : List ℕ) (at : ℕ) where
     cell-shape = rw (r .length-is, r .kind-is)
 
     cell-listed : unlisted s at ≡ false
-    unfolding recordClass givesCell
+    unfolding recordClass givesCell namesCell
     cell-listed = rw (r .kind-is, r .cell-is, listed)
 
     cell-apart : pathBesideFlat s at ≡ false
@@ -73,7 +81,7 @@ module _ (s : List ℕ) (at : ℕ) where
     unfolding unsoundTiers
     cell-plain = rw (r .kind-is)
 
-    pub cell-passes : c .value ≤ classLimit (cellClass (c .cell)) → nextRecord s at ≤ length s → repeated s at ≡ false → recordVerdict s at ≡ accepted
+    pub cell-passes : c .value ≤ classLimit (cellClass (c .cell)) → nextRecord s at ≤ length s → standsBefore s at ≡ false → recordVerdict s at ≡ accepted
     cell-passes limit ends once =
         passes (complete 12 (r .length-is) (omega arith) ends) cell-shape cell-listed once cell-apart (cell-low limit) cell-plain
 
@@ -86,19 +94,20 @@ module _ (s : List ℕ) (at : ℕ) where
   module _ (kind n : ℕ) (f : ℕ → ℕ) (r : SheetRecord kind n f) (k : RateSheet kind n) where
     sheet-due : dueLength s at ≡ 2 + 2 * n
     unfolding dueLength sheetLength
-    sheet-due = rw (r .kind-is, k .no-cell, k .no-tiers, k .numbers-are, k .some)
+    sheet-due = rw (r .kind-is, k .no-cell, k .no-amendment, k .no-tiers, k .numbers-are, k .some)
 
     pub sheet-item : recordItem s at ≡ Sheet kind
     unfolding recordItem
     sheet-item =
         let due : eqb (dueLength s at) 0 ≡ false = rw sheet-due (ne-eqb (2 + 2 * n) 0 (λ e. omega arith)) in
-        rw (due, r .kind-is, k .no-cell)
+        rw (due, r .kind-is, k .no-cell, k .no-amendment)
 
     sheet-shape : misshapen s at ≡ false
     sheet-shape = rw (sheet-due, r .length-is, eq-eqb (2 + 2 * n) (2 + 2 * n) refl)
 
     sheet-listed : unlisted s at ≡ false
-    sheet-listed = rw (r .kind-is, k .no-cell)
+    unfolding namesCell
+    sheet-listed = rw (r .kind-is, k .no-cell, k .no-amendment)
 
     sheet-plain : unsoundTiers s at ≡ false
     unfolding unsoundTiers
@@ -112,9 +121,9 @@ module _ (s : List ℕ) (at : ℕ) where
 
     sheet-low : ((i : ℕ) → i < n → f (suc i) ≤ rateLimit) → overLimit s at ≡ false
     unfolding overLimit numberOver
-    sheet-low h = rw (r .kind-is, k .no-cell, k .limit-is, k .numbers-are) (none-over n (omega arith) h)
+    sheet-low h = rw (r .kind-is, k .no-cell, k .no-amendment, k .limit-is, k .numbers-are) (none-over n (omega arith) h)
 
-    pub sheet-passes : ((i : ℕ) → i < n → f (suc i) ≤ rateLimit) → nextRecord s at ≤ length s → repeated s at ≡ false → pathBesideFlat s at ≡ false
+    pub sheet-passes : ((i : ℕ) → i < n → f (suc i) ≤ rateLimit) → nextRecord s at ≤ length s → standsBefore s at ≡ false → pathBesideFlat s at ≡ false
         → recordVerdict s at ≡ accepted
     sheet-passes h ends once apart =
         passes (complete (2 + 2 * n) (r .length-is) (omega arith) ends) sheet-shape sheet-listed once apart (sheet-low h) sheet-plain
@@ -122,8 +131,8 @@ module _ (s : List ℕ) (at : ℕ) where
 -- the yields and the flat retail rates
 pub yields-sheet : RateSheet 2 120
 unfolding givesCell sheetKind sheetKinds sheetOf
-yields-sheet = record { no-cell = refl; no-tiers = refl; numbers-are = refl; limit-is = refl; some = refl }
+yields-sheet = record { no-cell = refl; no-amendment = refl; no-tiers = refl; numbers-are = refl; limit-is = refl; some = refl }
 
 pub rates-sheet : RateSheet 3 3
 unfolding givesCell sheetKind sheetKinds sheetOf
-rates-sheet = record { no-cell = refl; no-tiers = refl; numbers-are = refl; limit-is = refl; some = refl }
+rates-sheet = record { no-cell = refl; no-amendment = refl; no-tiers = refl; numbers-are = refl; limit-is = refl; some = refl }

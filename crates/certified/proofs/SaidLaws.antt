@@ -4,9 +4,9 @@ use native.Mathlib.Nat.{not-suc-le-zero, le-of-suc-le-suc, eq-or-lt-of-le}
 use native.Mathlib.Omega.{arith}
 use mathlib.Core.Path.{_≡_, refl, sym, subst, _∙_}
 use mathlib.Core.Logic.{_⊎_, ⊎-elim}
-use mathlib.Core.Bool.{Bool, true, false, not}
+use mathlib.Core.Bool.{Bool, true, false, cond, not}
 use mathlib.Core.List.{List, [], _∷_}
-use borrow.Author.Tests.{le-ltb, lt-ltb, lt-leb, le-leb, eqb-true}
+use borrow.Author.Tests.{le-ltb, lt-ltb, lt-leb, le-leb, eqb-true, ne-eqb}
 use lib.Dec.{eqb}
 use lib.ListN.{length, getD}
 use Rattle.lists.specs.Ranges.{firstFrom}
@@ -16,18 +16,21 @@ use Rattle.lists.proofs.RangeLaws.{least-passes, least-fails}
 use Rattle.lists.proofs.TableLaws.{tableFrom-getD}
 use Rattle.schedule.specs.Limits.{couponClass, cellClass, rateLimit}
 use Rattle.schedule.proofs.CellLaws.{CellOf}
-use Rattle.records.specs.Kinds.{flatRatesKind}
+use Rattle.records.specs.Kinds.{flatRatesKind, givesCell, dueLength, sheetLength, sheetKind, sheetKinds, sheetOf}
 use Rattle.records.specs.declared.items.Item.{Item}
-use Rattle.records.specs.declared.items.Item.the-variants.{Cell, Sheet}
+use Rattle.records.specs.declared.items.Item.the-variants.{Sheet}
 use Rattle.records.specs.Items.{sameItem, recordItem, firstWith}
+use Rattle.records.specs.Counting.{itemRank, rank}
+use Rattle.records.proofs.ByteLaws.{number-past}
 use Rattle.conditions.specs.Conditions.{cellIn}
-use Rattle.filing.specs.Contents.{cellOffset, amountAt, cellValue, sheetOffset}
+use Rattle.filing.specs.Contents.{cellOffset, filedValue, amountAt, cellValue, sheetOffset}
 use Rattle.filing.specs.Verdict.{sheetMissing}
 use Rattle.filled_cells.specs.declared.CellValue.{CellValue}
 use Rattle.certified.specs.Fit.{valueIn}
 use Rattle.certified.specs.Filed.{run, filedBodies}
 use Rattle.certified.proofs.RecordRunLaws.{offset, offset-last, offset-lt, search-none, search-hit}
-use Rattle.certified.proofs.ListedLaws.{Listed}
+use Rattle.certified.proofs.CountLaws.{counting-none, counting-hit}
+use Rattle.certified.proofs.ListedLaws.{Listed, listed-rising}
 use Rattle.certified.proofs.FiledLaws.{noCell, filed-length, sized, cell-record, item-cell, item-yields, item-rates, cell-no-sheet, before-rates}
 
 -- what a list says of a cell that stands first at place i, and of one that does not stand there
@@ -100,19 +103,37 @@ module _ (cells : List CellValue) (yields rates : ℕ → ℕ) (listed : Listed 
   abbrev isCell : ℕ → ℕ → Bool
   isCell n i = eqb (getD cells i noCell .cell) n
 
-  same-cell : (n i : ℕ) → i < length cells → sameItem (recordItem made (offset bodies i)) (Cell n) ≡ isCell n i
-  unfolding sameItem
-  same-cell n i h = rw (item-cell cells yields rates listed ys rs i h)
+  -- how a record ranks for a cell: the cell's own as number 0, a sheet not at all, and nothing at the end
+  rank-cell : (n i : ℕ) (b : Bool) → i < length cells → isCell n i ≡ b → rank made n (offset bodies i) ≡ cond b 1 0
+  unfolding itemRank
+  rank-cell n i b h e = rw (item-cell cells yields rates listed ys rs i h, e)
 
-  sheet-no-cell : (n i : ℕ) → length cells ≤ i → i < length cells + 2 → sameItem (recordItem made (offset bodies i)) (Cell n) ≡ false
-  unfolding sameItem
-  sheet-no-cell n i l h =
-      ⊎-elim (λ e. subst (λ (m : ℕ). sameItem (recordItem made (offset bodies m)) (Cell n) ≡ false) e (rw (item-yields cells yields rates listed ys rs)))
+  rank-sheet : (n i : ℕ) → length cells ≤ i → i < length cells + 2 → rank made n (offset bodies i) ≡ 0
+  unfolding itemRank
+  rank-sheet n i l h =
+      ⊎-elim (λ e. subst (λ (m : ℕ). rank made n (offset bodies m) ≡ 0) e (rw (item-yields cells yields rates listed ys rs)))
       (λ m. let e : suc (length cells) ≡ i = omega arith in
-      subst (λ (k : ℕ). sameItem (recordItem made (offset bodies k)) (Cell n) ≡ false) e (rw (item-rates cells yields rates listed ys rs))) (eq-or-lt-of-le l)
+      subst (λ (k : ℕ). rank made n (offset bodies k) ≡ 0) e (rw (item-rates cells yields rates listed ys rs))) (eq-or-lt-of-le l)
+
+  rank-end : (n : ℕ) → rank made n (length made) ≡ 0
+  unfolding itemRank recordItem givesCell dueLength sheetLength sheetKind sheetKinds sheetOf
+  rank-end n = simp (number-past made (length made + 2) 2 (omega arith))
+
+  -- a cell that stands at place i stands nowhere else
+  only : (n i : ℕ) → i < length cells → isCell n i ≡ true → (m : ℕ) → m < length cells → (m ≡ i → ⊥) → isCell n m ≡ false
+  only n i h e m l other =
+      let is = eqb-true (getD cells i noCell .cell) n e in
+      ne-eqb (getD cells m noCell .cell) n
+      (λ q. ⊎-elim (λ a. omega (arith, listed-rising noCell 0 cells listed m i a h))
+      (λ a. ⊎-elim (λ b. other (sym b)) (λ b. omega (arith, listed-rising noCell 0 cells listed i m b l)) (eq-or-lt-of-le a)) (lt-or-le m i))
+
+  none-else : (n i : ℕ) → i < length cells → isCell n i ≡ true → (m : ℕ) → m < length bodies → (m ≡ i → ⊥) → rank made n (offset bodies m) ≡ 0
+  none-else n i h e m l other =
+      let k : m < length cells + 2 = rw (filed-length cells yields rates) at l in
+      ⊎-elim (λ g. rank-cell n m false g (only n i h e m g other)) (λ g. rank-sheet n m g k) (lt-or-le m (length cells))
 
   amount-is : (n i : ℕ) → i < length cells → isCell n i ≡ true → eqb (cellClass n) couponClass ≡ false → amountAt made (offset bodies i) ≡ getD cells i noCell .value
-  unfolding amountAt
+  unfolding amountAt filedValue
   amount-is n i h e other =
       let r = cell-record cells yields rates listed i h in
       rw (r .kind-is, r .cell-is, eqb-true (getD cells i noCell .cell) n e, other, r .value-is)
@@ -121,13 +142,16 @@ module _ (cells : List CellValue) (yields rates : ℕ → ℕ) (listed : Listed 
       → cellValue made n ≡ valueIn cells n
   unfolding cellValue cellOffset
   found n i h e f other =
-      let at = item-first (Cell n) i (omega arith) (same-cell n i h ∙ e) (λ m l. same-cell n m (omega arith) ∙ f m l) in
+      let all = filed-length cells yields rates in
+      let at = counting-hit bodies (sized cells yields rates) n i (omega (arith, all)) (rank-cell n i true h e) (none-else n i h e) (rank-end n) in
       rw (at, lt-ltb (offset bodies i) (length made) (before-end i (omega arith)), amount-is n i h e other) (sym (value-found cells n i h e f))
 
   absent : (n : ℕ) → ((j : ℕ) → j < length cells → isCell n j ≡ false) → cellValue made n ≡ valueIn cells n
   unfolding cellValue cellOffset
   absent n f =
-      let at = item-none (Cell n) (λ m l. ⊎-elim (λ h. same-cell n m h ∙ f m h) (λ h. sheet-no-cell n m h l) (lt-or-le m (length cells))) in
+      let all = filed-length cells yields rates in
+      let at = counting-none bodies (sized cells yields rates) n
+      (λ m l. ⊎-elim (λ g. rank-cell n m false g (f m g)) (λ g. rank-sheet n m g (rw all at l)) (lt-or-le m (length cells))) in
       rw (at, le-ltb (length made) (length made) (omega arith)) (sym (value-none cells n f))
 
   cell-said : (n : ℕ) → eqb (cellClass n) couponClass ≡ false → cellValue made n ≡ valueIn cells n
