@@ -13,6 +13,8 @@ const SEVENS: SubBalance = SubBalance {
     balance: 7,
     coupon: 7,
     remaining_months: 7,
+    penalty: 7,
+    values: [7; 14],
 };
 
 // Splits a filing into a list of `places` places, 40 at most.
@@ -49,7 +51,10 @@ fn print_rest(list: [SubBalance; 40], written: usize, lent: usize) {
 }
 
 fn holds_sevens(place: SubBalance) -> bool {
-    (place.balance == 7) & (place.coupon == 7) & (place.remaining_months == 7)
+    (place.balance == 7)
+        & (place.coupon == 7)
+        & (place.remaining_months == 7)
+        & (place.penalty == 7)
 }
 
 fn print_places(list: [SubBalance; 40]) {

@@ -1,15 +1,15 @@
--- `output::scenario_lines` ends after seven turns. Assumes nothing.
+-- `output::total_lines` ends after seven turns. Assumes nothing.
 use Prim.Native.Nat.{_-_, _≤_}
 use native.Mathlib.Omega.{arith}
 use borrow.Author.Needs.{needs}
-use Rattle.output.proofs.scenario_lines.Statement.{statement}
-use Rattle.output.proofs.scenario_lines.Tie as tie
+use Rattle.output.proofs.total_lines.Statement.{statement}
+use Rattle.output.proofs.total_lines.Tie as tie
 
 abbrev Inv-loop : tie.InvT-loop
-Inv-loop name numbers scenario₀ scenario = scenario ≤ 7
+Inv-loop name totals scenario₀ scenario = scenario ≤ 7
 
 abbrev μ-loop : tie.MeasureT-loop
-μ-loop name numbers scenario₀ scenario = 7 - scenario
+μ-loop name totals scenario₀ scenario = 7 - scenario
 
 loop-holds : tie.Need-loop-holds Inv-loop μ-loop
 loop-holds c = omega arith
@@ -22,9 +22,6 @@ shift-requires c κs = search needs
 
 mul-from : tie.Need-mul-from Inv-loop μ-loop
 mul-from c = omega arith
-
-add-from : tie.Need-add-from Inv-loop μ-loop
-add-from c = omega arith
 
 add-end : tie.Need-add-end Inv-loop μ-loop
 add-end c = omega arith
@@ -56,8 +53,8 @@ loop-again c = omega arith
 returns : tie.Need-returns Inv-loop μ-loop
 returns c = search needs
 
-pub scenario-lines-spec : {M : Type 1} → statement M
-scenario-lines-spec =
+pub total-lines-spec : {M : Type 1} → statement M
+total-lines-spec =
     tie.close
     (tie.spec
     Inv-loop
@@ -66,7 +63,6 @@ scenario-lines-spec =
     text-requires
     shift-requires
     mul-from
-    add-from
     add-end
     mul-rest-of-line
     sub-rest-of-line
