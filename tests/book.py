@@ -105,4 +105,26 @@ def random_sequences():
         yield f"120 calls at random, {seed}", book(data, *calls, TOTALS)
 
 
-FAMILIES = openings, every_place, one_place, limits, random_sequences
+def by_hand():
+    """One month at yield 0 and coupon 0: par and the month's servicing, 175,000 billionths retail and 19,000 brokered (FIGURES)."""
+    yield "one month", book(SHEETS, put_all(1, 1_000, 0, 1, 0), show(1), put_all(3, 1_000, 0, 1, 0), show(3), TOTALS, clear(1), TOTALS)
+
+
+def shares_of_a_filing():
+    """The shares of a filing whose balances are all retail, or all brokered, without penalty (TOTALS_OF)."""
+    for name, kind in (("retail", 1), ("brokered", 3)):
+        calls = [put_all(4 * i + kind, 5_000, 5_250, middle_month(place), 0) for i, place in enumerate(POSITIONS)]
+        yield f"the shares of a {name} filing", book(HOUSE, *calls, TOTALS)
+
+
+FAMILIES = openings, every_place, one_place, limits, random_sequences, by_hand, shares_of_a_filing
+
+# 1,000,175 dollars x 120,000 / (120,000 + z), rounded down and up: z is 0 up to shift 0, then 100, 200 and 300.
+FIGURES = {
+    "book: one month": "place 1 1000 0 1 0 1000175 1000175 1000175 1000175 1000175 1000175 1000175 1000175 999342 999343 998510 998511 997680 997681",
+}
+
+# The book shows the totals of the filing.
+TOTALS_OF = (("book: the shares of a retail filing", "all positions, retail"), ("book: the shares of a brokered filing", "all positions, brokered"))
+
+SAME = (("book: opened with sheets", "book: opened with amendments"), ("book: opened with sheets", "book: opened with balances, which do not count"))
