@@ -1,9 +1,10 @@
 /*
  * The proved library beside the plain C versions. Without arguments: checks that all give the same answers and numbers on every filing used, and
  * prints times. `bench once VERSION FILING` runs one valuation, for counting instructions; VERSION 0 is a, 1 b, 2 c, 3 d, 4 the library.
- * `bench random COUNT SEED` only compares all versions on random filings.
+ * `bench random COUNT SEED` only compares all versions on random filings, and both calls of certificates on random lists.
  */
 #define _POSIX_C_SOURCE 200809L
+#include "certificates.h"
 #include "filings.h"
 #include "spritapricot.h"
 #include "stack.h"
@@ -203,13 +204,16 @@ int main(int argc, char **argv)
     if (argc == 4 && strcmp(argv[1], "random") == 0) {
         start_random(strtoull(argv[3], NULL, 10));
         compare_random(atoi(argv[2]));
+        compare_certificates(atoi(argv[2]));
         return 0;
     }
     compare_random(4000);
+    compare_certificates(4000);
     compare(least);
     take_apart(least);
     stacks();
     refused_inputs();
     amended_inputs();
+    time_certificates(least[WORST][PROVED], now);
     return 0;
 }

@@ -12,4 +12,9 @@ value_function value_recomputed, value_tabled, value_multiplied, value_in_runs;
 enum { PLAIN = 4 };
 static value_function *const plain_version[PLAIN] = {value_recomputed, value_tabled, value_multiplied, value_in_runs};
 
+/* Certificates to cells (cells.c). */
+typedef uint64_t cells_function(uint64_t, uint64_t, uint64_t, const uint64_t *, size_t, uint64_t *, uint64_t *, uint64_t *);
+
+cells_function cells_of;
+
 #endif
