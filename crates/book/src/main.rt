@@ -9,9 +9,9 @@ use crate::lines::next_line;
 use crate::replies::obey;
 use answers::number;
 use answers::place;
+use books::Book;
 use output::refusal;
 use output::text;
-use standing_book::Book;
 use standing_book::open;
 
 // The most bytes of a filing.

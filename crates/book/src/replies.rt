@@ -3,6 +3,8 @@ use crate::commands::Command;
 use answers::Answer;
 use answers::number;
 use answers::place;
+use books::Answered;
+use books::Book;
 use output::end_line;
 use output::next_number;
 use output::number_of;
@@ -11,8 +13,6 @@ use output::rest_of_line;
 use output::text;
 use output::total_lines;
 use shares::SubBalance;
-use standing_book::Answered;
-use standing_book::Book;
 use standing_book::clear;
 use standing_book::set;
 

@@ -14,11 +14,11 @@ use Rattle.answers.specs.Verdict.{Verdict, accepted}
 use Rattle.answers.proofs.AnswerLaws.{accepted-answer}
 use Rattle.answers.proofs.VerdictLaws.{Untried, tried-start, tried-here, tried-next, tried-all, first-passed, first-refused}
 use Rattle.filing.specs.Verdict.{filingVerdict}
-use Rattle.standing_book.specs.declared.Book.{Book}
-use Rattle.standing_book.specs.declared.Answered.{Answered}
-use Rattle.standing_book.specs.Books.{openedBook}
-use Rattle.standing_book.specs.Changes.{Change, changeVerdict, bookAfter, bookAfterAll}
-use Rattle.standing_book.specs.Promise.{Kept, OpenedOf, ChangedOf}
+use Rattle.books.specs.declared.Book.{Book}
+use Rattle.books.specs.declared.Answered.{Answered}
+use Rattle.books.specs.Books.{openedBook}
+use Rattle.books.specs.Changes.{Change, changeVerdict, bookAfter, bookAfterAll}
+use Rattle.books.specs.Promise.{Kept, OpenedOf, ChangedOf}
 use Rattle.book_changes.specs.Changing.{changeCount, changeAt, changesOf, changesVerdict, bookWith, bookVerdict, ChangedAll, BookOf}
 
 abbrev number-of : Verdict → ℕ

@@ -9,11 +9,11 @@ use Rattle.lists.specs.Tables.{table}
 use Rattle.answers.specs.Answers.{verdictOf}
 use Rattle.answers.specs.Verdict.{Verdict, accepted, firstRefusal, firstOf}
 use Rattle.filing.specs.Verdict.{filingVerdict}
-use Rattle.standing_book.specs.declared.Book.{Book}
-use Rattle.standing_book.specs.declared.Answered.{Answered}
-use Rattle.standing_book.specs.Books.{openedBook}
-use Rattle.standing_book.specs.Changes.{Change, setPlace, clearPlace, changeVerdict, bookAfterAll}
-use Rattle.standing_book.specs.Promise.{Kept}
+use Rattle.books.specs.declared.Book.{Book}
+use Rattle.books.specs.declared.Answered.{Answered}
+use Rattle.books.specs.Books.{openedBook}
+use Rattle.books.specs.Changes.{Change, setPlace, clearPlace, changeVerdict, bookAfterAll}
+use Rattle.books.specs.Promise.{Kept}
 
 -- a place that is to hold nothing: balance, coupon, months and penalty are 0
 unfoldable pub leavesNothing : ℕ → ℕ → ℕ → ℕ → Bool

@@ -1,14 +1,14 @@
 // A list of changes made in turn on the book that a filing opens (02:CR 7): the totals that it then shows, without a book to keep.
 use answers::Answer;
 use answers::number;
-use standing_book::Answered;
-use standing_book::Book;
+use books::Answered;
+use books::Book;
 use standing_book::clear;
 use standing_book::open;
 use standing_book::set;
 ghost use mathlib.Core.Path.{_≡_};
 ghost use Prim.Native.Nat.{_<_};
-ghost use Rattle.standing_book.specs.Promise.{ChangedOf};
+ghost use Rattle.books.specs.Promise.{ChangedOf};
 ghost use Rattle.book_changes.specs.Changing.{leavesNothing, changeOf, changeCount, changeAt, ChangedAll, BookOf};
 
 // Opens a book from a filing and makes the changes of a list in turn. A change is five numbers: the place, then balance, coupon, months and penalty as

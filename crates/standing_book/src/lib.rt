@@ -1,27 +1,25 @@
 // A standing book (02:CR 7): thirty-six places under a filing's sheets and tiers, set or cleared one at a time, with kept totals.
-mod kept_totals;
-mod place_limits;
-mod sheets;
-
-use crate::kept_totals::moved;
-use crate::kept_totals::totals_after;
-use crate::place_limits::fits;
-use crate::sheets::values_in;
 use answers::Answer;
+use book_sheets::values_in;
+use books::Answered;
+use books::Book;
 use deposits::RatePaths;
 use deposits::factors::FactorTable;
 use deposits::factors::factor_table;
 use filing::FiledTiers;
 use filing::read;
+use kept_totals::moved;
+use kept_totals::totals_after;
+use place_limits::fits;
 use shares::NO_PLACE;
 use shares::SubBalance;
 ghost use mathlib.Core.Path.{_≡_};
 ghost use Prim.Native.Nat.{_<_};
 ghost use Rattle.shares.specs.SubBalances.{subBalanceCount};
-ghost use Rattle.standing_book.specs.Changes.{setPlace, clearPlace};
+ghost use Rattle.books.specs.Changes.{setPlace, clearPlace};
 ghost use Rattle.answers.specs.declared.Answer.the-variants.{OutsidePlaceLimits};
-ghost use Rattle.standing_book.specs.Books.{emptyUnder, withPlace};
-ghost use Rattle.standing_book.specs.Promise.{OpenedOf, ChangedOf};
+ghost use Rattle.books.specs.Books.{emptyUnder, withPlace};
+ghost use Rattle.books.specs.Promise.{OpenedOf, ChangedOf};
 
 // Opens an empty book under the sheets and tiers of a filing. A refused filing is refused as `read` refuses it.
 pub fn open(filing: &[u8]) -> Answered
@@ -89,25 +87,6 @@ pub fn clear(book: Book, place: usize) -> Answered
         answer: Answer::Accepted,
         book: with_place(book, place, NO_PLACE),
     }
-}
-
-// The thirty-six places, the sum of their balances in thousands of dollars, and the totals in dollars: short lower, short upper, long lower and long
-// upper by scenario. Then the filing that the book was opened from: its retail rates in hundredths of a percent a year, its tiers, and the lower and
-// the upper discount factors of its CD yields.
-pub struct Book {
-    pub places: [SubBalance; 36],
-    pub balance: u64,
-    pub totals: [u64; 28],
-    pub rates: RatePaths,
-    pub tiers: FiledTiers,
-    pub lower: FactorTable,
-    pub upper: FactorTable,
-}
-
-// The answer on a call, and the book after it.
-pub struct Answered {
-    pub answer: Answer,
-    pub book: Book,
 }
 
 // An empty book under rates, tiers and discount factors.

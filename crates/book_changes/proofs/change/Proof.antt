@@ -1,8 +1,8 @@
 -- `book_changes::change` meets its contract: a place that is to hold nothing is cleared, another is set. Assumes nothing.
 use borrow.Author.Needs.{needs}
 use mathlib.Core.Path.{_≡_, sym, _∙_, subst}
-use Rattle.standing_book.specs.Changes.{Change}
-use Rattle.standing_book.specs.Promise.{ChangedOf}
+use Rattle.books.specs.Changes.{Change}
+use Rattle.books.specs.Promise.{ChangedOf}
 use Rattle.book_changes.specs.Changing.{changeOf}
 use Rattle.book_changes.proofs.change.Statement.{statement}
 use Rattle.book_changes.proofs.change.Tie as tie

@@ -1,8 +1,8 @@
 -- `clear` meets its contract. Assumes nothing.
 use mathlib.Core.Path.{refl}
 use borrow.Author.Tests.{lt-ltb, le-ltb}
-use Rattle.standing_book.specs.Changes.{clearPlace, changedPlace, fitsChange, heldAfter}
-use Rattle.standing_book.proofs.ChangeLaws.{change-refused, change-taken}
+use Rattle.books.specs.Changes.{clearPlace, changedPlace, fitsChange, heldAfter}
+use Rattle.books.proofs.ChangeLaws.{change-refused, change-taken}
 use borrow.Author.Needs.{needs}
 use Rattle.standing_book.proofs.clear.Statement.{statement}
 use Rattle.standing_book.proofs.clear.Tie as tie

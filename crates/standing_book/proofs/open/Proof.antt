@@ -1,7 +1,7 @@
 -- `open` meets its contract. Assumes nothing.
 use mathlib.Core.Path.{refl}
 use Rattle.pricing.specs.Rounding.{roundingOf}
-use Rattle.standing_book.proofs.OpeningLaws.{opened-yields, opened}
+use Rattle.books.proofs.OpeningLaws.{opened-yields, opened}
 use borrow.Author.Needs.{needs}
 use Rattle.standing_book.proofs.open.Statement.{statement}
 use Rattle.standing_book.proofs.open.Tie as tie

@@ -2,11 +2,11 @@
 use mathlib.Core.Path.{_≡_, refl, sym, _∙_}
 use borrow.Author.Tests.{not-true, not-false}
 use mathlib.Core.Bool.{true}
-use Rattle.standing_book.specs.PlaceLimits.{fitsPlace}
-use Rattle.standing_book.specs.Books.{valuedIn}
-use Rattle.standing_book.specs.Changes.{setPlace, changedPlace, fitsChange, heldAfter}
-use Rattle.standing_book.proofs.PlaceLaws.{fits-place, fits-balance, fits-limits}
-use Rattle.standing_book.proofs.ChangeLaws.{change-refused, change-taken}
+use Rattle.place_limits.specs.PlaceLimits.{fitsPlace}
+use Rattle.books.specs.Books.{valuedIn}
+use Rattle.books.specs.Changes.{setPlace, changedPlace, fitsChange, heldAfter}
+use Rattle.books.proofs.PlaceLaws.{fits-place, fits-balance, fits-limits}
+use Rattle.books.proofs.ChangeLaws.{change-refused, change-taken}
 use borrow.Author.Needs.{needs}
 use Rattle.standing_book.proofs.set.Statement.{statement}
 use Rattle.standing_book.proofs.set.Tie as tie

@@ -1,5 +1,5 @@
 -- `with_place` meets its contract. Assumes nothing.
-use Rattle.standing_book.specs.Books.{withPlace}
+use Rattle.books.specs.Books.{withPlace}
 use borrow.Author.Needs.{needs}
 use Rattle.standing_book.proofs.with_place.Statement.{statement}
 use Rattle.standing_book.proofs.with_place.Tie as tie

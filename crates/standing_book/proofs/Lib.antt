@@ -1,8 +1,0 @@
-pub mod SheetLaws
-pub mod ChangedSumLaws
-pub mod PlaceLaws
-pub mod StandingLaws
-pub mod KeptLaws
-pub mod ChangeLaws
-pub mod OpeningLaws
-pub mod ShareLaws
