@@ -1,4 +1,5 @@
-// The calls for programs in C and in languages that call C, as include/spritapricot.h declares them: the valuing call here, the certificates' call in `cells`.
+// The calls for programs in C and in languages that call C, as include/spritapricot.h declares them: the valuing call here, the book's call in `book`, the certificates' call in `cells`.
+pub mod book;
 pub mod cells;
 
 use valuation::value;
