@@ -1,9 +1,10 @@
 /*
  * The proved library beside the plain C versions. Without arguments: checks that all give the same answers and numbers on every filing used, and
  * prints times. `bench once VERSION FILING` runs one valuation, for counting instructions; VERSION 0 is a, 1 b, 2 c, 3 d, 4 the library.
- * `bench random COUNT SEED` only compares all versions on random filings, and both calls of certificates on random lists.
+ * `bench random COUNT SEED` only compares all versions on random filings, and the calls of certificates and books on random lists.
  */
 #define _POSIX_C_SOURCE 200809L
+#include "book.h"
 #include "certificates.h"
 #include "filings.h"
 #include "spritapricot.h"
@@ -205,15 +206,18 @@ int main(int argc, char **argv)
         start_random(strtoull(argv[3], NULL, 10));
         compare_random(atoi(argv[2]));
         compare_certificates(atoi(argv[2]));
+        compare_books(atoi(argv[2]));
         return 0;
     }
     compare_random(4000);
     compare_certificates(4000);
+    compare_books(1000);
     compare(least);
     take_apart(least);
     stacks();
     refused_inputs();
     amended_inputs();
     time_certificates(least[WORST][PROVED], now);
+    time_book(least[WORST][PROVED], now);
     return 0;
 }

@@ -1,5 +1,5 @@
 /*
- * Values a filing of certificate deposits under seven rate scenarios, and turns certificates into the cells of a filing. Link libexports.a, which
+ * Values a filing of certificate deposits under seven rate scenarios, turns certificates into the cells of a filing, and keeps a book. Link libexports.a, which
  * `rt staticlib exports` makes.
  */
 #ifndef SPRITAPRICOT_H
@@ -30,6 +30,17 @@ uint64_t spritapricot_value(const uint8_t *filing, size_t filing_length, uint64_
  */
 uint64_t spritapricot_cells(uint64_t year, uint64_t month, uint64_t day, const uint64_t *certificates, size_t certificates_length, uint64_t cells[56],
     uint64_t *count, uint64_t *place);
+
+/*
+ * Opens a book from the filing of `filing_length` bytes at `filing` and makes the changes of a list in turn. The `changes_length` numbers at `changes`
+ * are five for each change: the place, 0 to 35; balance in thousands of dollars, coupon in thousandths of a percent a year, months, penalty in
+ * hundredths of a month; with the last four 0 the place is cleared. A last part of fewer than five does not count. Answers 0 for acceptance: `totals`
+ * then holds the sum of the balances, and for each scenario the short lower, short upper, long lower and long upper total; *place is 0. Otherwise
+ * answers the number of the first refusal, the filing's own or 17, with its place in *place, and leaves `totals` as it was. Memory as above, but about
+ * 200 KiB of stack.
+ */
+uint64_t spritapricot_book(const uint8_t *filing, size_t filing_length, const uint64_t *changes, size_t changes_length, uint64_t totals[29],
+    uint64_t *place);
 
 #ifdef __cplusplus
 }
