@@ -1,14 +1,14 @@
 // A book: the answer of its opening, and what each call on it answers.
 use crate::numbers::number_at;
 use crate::valuing::print_answer;
+use books::Answered;
+use books::Book;
 use output::end_line;
 use output::next_number;
 use output::rest_of_line;
 use output::text;
 use output::total_lines;
 use shares::SubBalance;
-use standing_book::Answered;
-use standing_book::Book;
 use standing_book::clear;
 use standing_book::open;
 use standing_book::set;
