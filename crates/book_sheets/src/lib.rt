@@ -20,13 +20,13 @@ ghost use Rattle.book_sheets.specs.Sheets.{aboveLimit, notRising, tiersU
 const PAR: u64 = 1_000_000_000;
 
 // Lower and upper value in each scenario of what a place holds, in dollars. They are 0 under sheets that no filing has.
-pub fn values_in(
+pub fn values_in<'a>(
     held: SubBalance,
     place: usize,
-    rates: &RatePaths,
+    rates: &'a RatePaths,
     tiers: FiledTiers,
-    lower: &FactorTable,
-    upper: &FactorTable,
+    lower: &'a FactorTable,
+    upper: &'a FactorTable,
 ) -> [u64; 14]
     requires { ⌜ (place < subBalanceCount) × (held .balance ≤ balanceLimit) × DepositLimits (depositAt place held) ⌝ }
     ensures { λ r. ⌜ r ≡ valuesUnder (now (rates .entry)) tiers (now (lower .entry)) (now (upper .entry)) place held ⌝ }

@@ -51,10 +51,7 @@ pub fn set(
     if !fits(place, balance, coupon, months, penalty) {
         return refusal(book, place);
     }
-    let rates = book.rates;
     let tiers = book.tiers;
-    let lower = book.lower;
-    let upper = book.upper;
     let held = SubBalance {
         balance,
         coupon,
@@ -62,7 +59,7 @@ pub fn set(
         penalty,
         values: [0; 14],
     };
-    let values = values_in(held, place, &rates, tiers, &lower, &upper);
+    let values = values_in(held, place, &book.rates, tiers, &book.lower, &book.upper);
     let valued = SubBalance {
         balance,
         coupon,
@@ -122,21 +119,10 @@ fn with_place(book: Book, place: usize, held: SubBalance) -> Book
     let old = book.places[place];
     let old_values = old.values;
     let values = held.values;
-    let before = book.totals;
-    let totals = totals_after(&before, place, &old_values, &values);
-    let mut places = book.places;
-    places[place] = held;
-    let rates = book.rates;
-    let filed = book.tiers;
-    let lower = book.lower;
-    let upper = book.upper;
-    Book {
-        places,
-        balance: moved(book.balance, old.balance, held.balance),
-        totals,
-        rates,
-        tiers: filed,
-        lower,
-        upper,
-    }
+    let totals = totals_after(&book.totals, place, &old_values, &values);
+    let mut after = book;
+    after.places[place] = held;
+    after.balance = moved(book.balance, old.balance, held.balance);
+    after.totals = totals;
+    after
 }

@@ -27,23 +27,23 @@ returns : tie.Need-returns
 unfolding fitsChange changedPlace heldAfter
 returns c =
     let a = c .before .before .before .args in
-    change-refused (a .book) (setPlace (a .place) (a .balance) (a .coupon) (a .months) (a .penalty)) _
+    change-refused (a .t1) (setPlace (a .place) (a .balance) (a .coupon) (a .months) (a .penalty)) _
     (sym (c .before .before .fits2 .ensures) ∙ not-true (c .before .before .fits2 .result) (c .before .if1 .taken)) (c .refusal .ensures .0)
     (c .refusal .ensures .1)
 
 values-in-requires : tie.Need-values-in-requires
 values-in-requires c κs =
-    let fit = fitting (c .before .before .before .before .before .before .before) in
+    let fit = fitting (c .before .before .before .before .before) in
     (fits-place _ _ _ _ _ fit, fits-balance _ _ _ _ _ fit, fits-limits _ _ _ _ _ fit)
 
 with-place-requires : tie.Need-with-place-requires
-with-place-requires c κs = fits-place _ _ _ _ _ (fitting (c .before .before .before .before .before .before .before .before))
+with-place-requires c κs = fits-place _ _ _ _ _ (fitting (c .before .before .before .before .before .before))
 
 returns-2 : tie.Need-returns-2
 unfolding fitsChange changedPlace heldAfter valuedIn
 returns-2 c =
-    let a = c .before .before .before .before .before .before .before .before .before .before .before .args in
-    change-taken (a .book) (setPlace (a .place) (a .balance) (a .coupon) (a .months) (a .penalty)) _ (fitting (c .before .before .before .before .before .before .before .before .before)) refl
+    let a = c .before .before .before .before .before .before .before .before .before .args in
+    change-taken (a .t1) (setPlace (a .place) (a .balance) (a .coupon) (a .months) (a .penalty)) _ (fitting (c .before .before .before .before .before .before .before)) refl
     (c .with-place .ensures ∙ rw (c .before .values-in .ensures))
 
 pub set-spec : {M : Type 1} → statement M

@@ -13,18 +13,18 @@ element-copy-out-old c = search needs
 totals-after-requires : tie.Need-totals-after-requires
 totals-after-requires c κs = search needs
 
-mul-places : tie.Need-mul-places
-mul-places c = search needs
+mul-held : tie.Need-mul-held
+mul-held c = search needs
 
-array-set-from-places : tie.Need-array-set-from-places
-array-set-from-places c = search needs
+element-set-from-held : tie.Need-element-set-from-held
+element-set-from-held c = search needs
 
 moved-requires : tie.Need-moved-requires
 moved-requires c κs = search needs
 
 returns : tie.Need-returns
 unfolding withPlace
-returns c = rw (c .moved .ensures, c .before .before .before .before .before .before .totals-after .ensures)
+returns c = rw (c .moved .ensures, c .before .totals-after .ensures)
 
 pub with-place-spec : {M : Type 1} → statement M
 with-place-spec =
@@ -33,7 +33,7 @@ with-place-spec =
     mul-old
     element-copy-out-old
     totals-after-requires
-    mul-places
-    array-set-from-places
+    mul-held
+    element-set-from-held
     moved-requires
     returns)

@@ -1,11 +1,11 @@
 -- `byte_at` meets its contract. Assumes nothing.
 use mathlib.Core.Path.{sym}
 use lib.ListN.{List·getD-eq-default}
-use Rattle.certificates_input.specs.Numerals.{byteAt}
-use Rattle.certificates_input.proofs.NumeralLaws.{byte-inside}
+use Rattle.numerals.specs.Numerals.{byteAt}
+use Rattle.numerals.proofs.NumeralLaws.{byte-inside}
 use borrow.Author.Needs.{needs}
-use Rattle.certificates_input.proofs.numerals.byte_at.Statement.{statement}
-use Rattle.certificates_input.proofs.numerals.byte_at.Tie as tie
+use Rattle.numerals.proofs.fields.byte_at.Statement.{statement}
+use Rattle.numerals.proofs.fields.byte_at.Tie as tie
 
 shared-slice-read-result : tie.Need-shared-slice-read-result
 shared-slice-read-result c = search needs

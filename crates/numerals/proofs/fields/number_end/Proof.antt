@@ -6,10 +6,10 @@ use mathlib.Core.Bool.{not}
 use lib.ListN.{length}
 use Rattle.lists.specs.Ranges.{firstFrom}
 use Rattle.lists.proofs.RangeLaws.{search-here, search-next, search-end}
-use Rattle.certificates_input.specs.Numerals.{byteAt, isDigit, numberEnd}
-use Rattle.certificates_input.proofs.NumeralLaws.{byte-inside}
-use Rattle.certificates_input.proofs.numerals.number_end.Statement.{statement}
-use Rattle.certificates_input.proofs.numerals.number_end.Tie as tie
+use Rattle.numerals.specs.Numerals.{byteAt, isDigit, numberEnd}
+use Rattle.numerals.proofs.NumeralLaws.{byte-inside}
+use Rattle.numerals.proofs.fields.number_end.Statement.{statement}
+use Rattle.numerals.proofs.fields.number_end.Tie as tie
 
 abbrev Inv-loop : tie.InvT-loop
 Inv-loop text at i₀ i = numberEnd text at ≡ firstFrom i (length text - i) (λ (k : ℕ). not (isDigit (byteAt text k)))

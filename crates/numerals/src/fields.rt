@@ -2,8 +2,8 @@
 ghost use mathlib.Core.Path.{_≡_};
 ghost use Prim.Native.Nat.{_-_, _≤_, _<_};
 ghost use lib.ListN.{length};
-ghost use Rattle.certificates_input.specs.Numerals.{byteAt, isDigit, numberEnd};
-ghost use Rattle.certificates_input.specs.Inner.Fields.{wholeOf, fieldAt};
+ghost use Rattle.numerals.specs.Numerals.{byteAt, isDigit, numberEnd};
+ghost use Rattle.numerals.specs.Inner.Fields.{wholeOf, fieldAt};
 
 // A number with its separator.
 pub enum Field {
@@ -87,7 +87,7 @@ fn is_digit(byte: u8) -> bool
 }
 
 // The byte at a place; past the end a line feed.
-fn byte_at(text: &[u8], i: usize) -> u8
+pub fn byte_at(text: &[u8], i: usize) -> u8
     ensures { λ r. ⌜ r ≡ byteAt (now (text .entry)) i ⌝ }
 {
     if i < text.len() { text[i] } else { b'\n' }

@@ -8,9 +8,9 @@ use mathlib.Core.List.{List, [], _∷_}
 use borrow.Author.Tests.{lt-ltb, le-ltb}
 use lib.ListN.{length, getD}
 use Rattle.lists.proofs.RangeLaws.{least-le}
-use Rattle.certificates_input.specs.declared.numerals.Whole.the-variants.{Value, TooLarge}
-use Rattle.certificates_input.specs.Numerals.{byteAt, isDigit, numberEnd, decimal}
-use Rattle.certificates_input.specs.Inner.Fields.{wholeOf}
+use Rattle.numerals.specs.declared.fields.Whole.the-variants.{Value, TooLarge}
+use Rattle.numerals.specs.Numerals.{byteAt, isDigit, numberEnd, decimal}
+use Rattle.numerals.specs.Inner.Fields.{wholeOf}
 
 -- within a list it does not matter what stands past its end
 getD-inside : (s : List ℕ) (i d e : ℕ) → i < length s → getD s i d ≡ getD s i e

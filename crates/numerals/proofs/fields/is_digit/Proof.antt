@@ -1,8 +1,8 @@
 -- `is_digit` meets its contract. Assumes nothing.
 use borrow.Author.Tests.{lt-leb, le-leb}
-use Rattle.certificates_input.specs.Numerals.{isDigit}
-use Rattle.certificates_input.proofs.numerals.is_digit.Statement.{statement}
-use Rattle.certificates_input.proofs.numerals.is_digit.Tie as tie
+use Rattle.numerals.specs.Numerals.{isDigit}
+use Rattle.numerals.proofs.fields.is_digit.Statement.{statement}
+use Rattle.numerals.proofs.fields.is_digit.Tie as tie
 
 returns : tie.Need-returns
 unfolding isDigit

@@ -4,9 +4,9 @@ use native.Mathlib.Omega.{arith}
 use mathlib.Core.Path.{sym, _∙_}
 use borrow.Author.Needs.{needs}
 use lib.ListN.{length}
-use Rattle.certificates_input.proofs.LineLaws.{Reading, reading-start, reading-fails, reading-next, reading-done}
-use Rattle.certificates_input.proofs.lines.read_line.Statement.{statement}
-use Rattle.certificates_input.proofs.lines.read_line.Tie as tie
+use Rattle.numerals.proofs.LineLaws.{Reading, reading-start, reading-fails, reading-next, reading-done}
+use Rattle.numerals.proofs.read_line.Statement.{statement}
+use Rattle.numerals.proofs.read_line.Tie as tie
 
 abbrev Inv-loop : tie.InvT-loop
 Inv-loop text from form numbers₀ at₀ j₀ numbers at j = Reading text from form numbers at j

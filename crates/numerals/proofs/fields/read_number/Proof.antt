@@ -2,13 +2,13 @@
 use Prim.Native.Nat.{_<_}
 use native.Mathlib.Omega.{arith}
 use mathlib.Core.Path.{_≡_, sym, ap, _∙_}
-use Rattle.certificates_input.specs.Numerals.{byteAt, numberEnd}
-use Rattle.certificates_input.specs.Inner.Fields.{wholeOf}
-use Rattle.certificates_input.proofs.NumeralLaws.{number-end-le}
-use Rattle.certificates_input.proofs.LineLaws.{field-none, field-large, field-other, field-read}
+use Rattle.numerals.specs.Numerals.{byteAt, numberEnd}
+use Rattle.numerals.specs.Inner.Fields.{wholeOf}
+use Rattle.numerals.proofs.NumeralLaws.{number-end-le}
+use Rattle.numerals.proofs.LineLaws.{field-none, field-large, field-other, field-read}
 use borrow.Author.Needs.{needs}
-use Rattle.certificates_input.proofs.numerals.read_number.Statement.{statement}
-use Rattle.certificates_input.proofs.numerals.read_number.Tie as tie
+use Rattle.numerals.proofs.fields.read_number.Statement.{statement}
+use Rattle.numerals.proofs.fields.read_number.Tie as tie
 
 number-end-requires : tie.Need-number-end-requires
 number-end-requires c κs = search needs

@@ -4,13 +4,13 @@ use mathlib.Core.Bool.{true, false, cond, _&&_}
 use mathlib.Core.List.{List, _++_}
 use lib.ListN.{length, replicate}
 use lib.Dec.{ltb, eqb}
-use Rattle.certificates_input.specs.declared.numerals.Whole.{Whole}
-use Rattle.certificates_input.specs.declared.numerals.Whole.the-variants.{Value, TooLarge}
-use Rattle.certificates_input.specs.declared.numerals.Field.{Field}
-use Rattle.certificates_input.specs.declared.numerals.Field.the-variants.{Read, Malformed}
-use Rattle.certificates_input.specs.declared.lines.Line.{Line}
-use Rattle.certificates_input.specs.Numerals.{byteAt, numberEnd, decimal, numberAt, isNumber}
-use Rattle.certificates_input.specs.Lines.{hasForm, formNumbers, formEnd}
+use Rattle.numerals.specs.declared.fields.Whole.{Whole}
+use Rattle.numerals.specs.declared.fields.Whole.the-variants.{Value, TooLarge}
+use Rattle.numerals.specs.declared.fields.Field.{Field}
+use Rattle.numerals.specs.declared.fields.Field.the-variants.{Read, Malformed}
+use Rattle.numerals.specs.declared.Line.{Line}
+use Rattle.numerals.specs.Numerals.{byteAt, numberEnd, decimal, numberAt, isNumber}
+use Rattle.numerals.specs.Forms.{hasForm, formNumbers, formEnd}
 
 -- the value of the digits from `at` to `end`, where it is below 2^64
 unfoldable pub wholeOf : List ℕ → ℕ → ℕ → Whole

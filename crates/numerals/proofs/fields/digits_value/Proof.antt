@@ -2,11 +2,11 @@
 use Prim.Native.Nat.{_+_, _*_, _-_, _^_, _≤_, _<_}
 use native.Mathlib.Omega.{arith}
 use mathlib.Core.Path.{_≡_, sym, ap, _∙_}
-use Rattle.certificates_input.specs.declared.numerals.Whole.the-variants.{Value}
-use Rattle.certificates_input.specs.Numerals.{decimal}
-use Rattle.certificates_input.proofs.NumeralLaws.{byte-inside, decimal-suc, whole-value, whole-large}
-use Rattle.certificates_input.proofs.numerals.digits_value.Statement.{statement}
-use Rattle.certificates_input.proofs.numerals.digits_value.Tie as tie
+use Rattle.numerals.specs.declared.fields.Whole.the-variants.{Value}
+use Rattle.numerals.specs.Numerals.{decimal}
+use Rattle.numerals.proofs.NumeralLaws.{byte-inside, decimal-suc, whole-value, whole-large}
+use Rattle.numerals.proofs.fields.digits_value.Statement.{statement}
+use Rattle.numerals.proofs.fields.digits_value.Tie as tie
 
 abbrev Inv-loop : tie.InvT-loop
 Inv-loop text at end value₀ i₀ value i = (at ≤ i) × ((i ≤ end) × ((value ≡ decimal text at (i - at)) × (value < 2 ^ 64)))

@@ -9,12 +9,12 @@ use borrow.Author.Tests.{lt-ltb, le-ltb, eq-eqb, ne-eqb}
 use lib.Dec.{ltb, eqb}
 use lib.ListN.{length, getD, drop, set, replicate, length-append, drop-of-length-le}
 use lib.Seq.{drop-cons, set-at, append-snoc}
-use Rattle.certificates_input.specs.declared.numerals.Whole.the-variants.{Value, TooLarge}
-use Rattle.certificates_input.specs.declared.numerals.Field.the-variants.{Read, Malformed}
-use Rattle.certificates_input.specs.declared.lines.Line.{Line}
-use Rattle.certificates_input.specs.Numerals.{byteAt, numberEnd, decimal, numberAt, isNumber}
-use Rattle.certificates_input.specs.Lines.{hasForm, formNumbers, formEnd}
-use Rattle.certificates_input.specs.Inner.Fields.{wholeOf, fieldAt, lineAt}
+use Rattle.numerals.specs.declared.fields.Whole.the-variants.{Value, TooLarge}
+use Rattle.numerals.specs.declared.fields.Field.the-variants.{Read, Malformed}
+use Rattle.numerals.specs.declared.Line.{Line}
+use Rattle.numerals.specs.Numerals.{byteAt, numberEnd, decimal, numberAt, isNumber}
+use Rattle.numerals.specs.Forms.{hasForm, formNumbers, formEnd}
+use Rattle.numerals.specs.Inner.Fields.{wholeOf, fieldAt, lineAt}
 
 -- the value of digits from its two cases
 whole-cases : (n v : ℕ) (b : Bool) → ltb n (2 ^ 64) ≡ b → cond b (Value n) TooLarge ≡ Value v → (n ≡ v) × (b ≡ true)
