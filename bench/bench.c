@@ -142,11 +142,20 @@ static void take_apart(double least[FILINGS][VERSIONS])
     printf("proved, of the worst filing: reading with shares %.3f\n", least[NO_BALANCES][PROVED] / least[WORST][PROVED]);
 }
 
+/* A book with one change, called as a valuation is. */
+static uint64_t book_of_one(const uint8_t *filing, size_t size, uint64_t *numbers, size_t length, uint64_t *place)
+{
+    static const uint64_t change[5] = {32, 1000, 5000, 120, 300};
+    (void)length;
+    return spritapricot_book(filing, size, change, 5, numbers, place);
+}
+
 static void stacks(void)
 {
     struct input f = named("worst-all");
     printf("\nstack of one call, bytes:");
-    for (int v = 0; v < VERSIONS; v++) printf(" %s %zu%s", version_name[v], stack_of(version[v], f), v < PROVED ? "," : "\n");
+    for (int v = 0; v < VERSIONS; v++) printf(" %s %zu,", version_name[v], stack_of(version[v], f));
+    printf(" a book %zu\n", stack_of(book_of_one, f));
     free(f.bytes);
 }
 
