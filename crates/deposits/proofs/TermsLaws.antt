@@ -16,7 +16,7 @@ use Rattle.pricing.specs.Bounded.{Bounded}
 use Rattle.deposits.specs.declared.Deposit.{Deposit}
 use Rattle.deposits.specs.DepositTerms.{servicingCost, termsOf}
 
-servicing-le : (account : Account) → servicingCost account ≤ servicingLimit
+pub servicing-le : (account : Account) → servicingCost account ≤ servicingLimit
 unfolding servicingCost
 servicing-le retail = lit≤ tt
 servicing-le brokered = lit≤ tt

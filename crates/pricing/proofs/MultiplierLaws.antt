@@ -23,7 +23,7 @@ module _ (x a w s m : ℕ) (pos : 0 < w) (some : 0 < s) where
 
   -- m is not too low, and too high by less than x brings out. With q and p the two quotients: p w s ≤ x a s ≤ x m w < (q + 1) s w and
   -- q s w ≤ x m w < x a s + s ≤ (p + 1) w s
-  floor-near : a * s ≤ m * w → x * (m * w) < x * (a * s) + s → x * m / s ≡ quotient down (x * a) w
+  pub floor-near : a * s ≤ m * w → x * (m * w) < x * (a * s) + s → x * m / s ≡ quotient down (x * a) w
   unfolding quotient
   floor-near low high =
       le-antisymm
@@ -33,7 +33,7 @@ module _ (x a w s m : ℕ) (pos : 0 < w) (some : 0 < s) where
 
   -- m is too low, but by no more than x brings out. With q and p the floor and the ceiling: q s w ≤ x m w < x a s ≤ p w s and
   -- p w s + s ≤ x a s + w s ≤ x m w + s + w s < (q + 2) s w + s
-  ceiling-near : 0 < x → m * w < a * s → x * (a * s) ≤ x * (m * w) + s → suc (x * m / s) ≡ quotient up (x * a) w
+  pub ceiling-near : 0 < x → m * w < a * s → x * (a * s) ≤ x * (m * w) + s → suc (x * m / s) ≡ quotient up (x * a) w
   ceiling-near more low high =
       le-antisymm
       (lt-of-mul-lt-mul-right (s * w)
