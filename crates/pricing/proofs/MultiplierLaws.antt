@@ -4,7 +4,7 @@ use mathlib.Core.Path.{_≡_, refl, ap, _∙_}
 use mathlib.Core.List.{List}
 use lib.Dec.{lit<, lit≤}
 use lib.ListN.{getD, replicate}
-use native.Mathlib.Nat.{le-antisymm, mul-assoc, mul-le-mul, mul-le-mul-left, mul-le-mul-right, mul-lt-mul-of-pos-left, mul-lt-mul-of-pos-right, lt-of-mul-lt-mul-right, le-of-suc-le-suc, div-mul-le-self, lt-div-mul-add, mul-div-mul-left, div-div-eq-div-mul, mul-one}
+use native.Mathlib.Nat.{le-antisymm, mul-assoc, mul-le-mul, mul-le-mul-left, mul-le-mul-right, mul-lt-mul-of-pos-left, mul-lt-mul-of-pos-right, lt-of-mul-lt-mul-right, le-of-suc-le-suc, div-mul-le-self, lt-div-mul-add, mul-div-mul-left, div-div-eq-div-mul, mul-div-cancel-left, mul-one}
 use native.Mathlib.Omega.{arith}
 use Rattle.lists.specs.Tables.{tableFrom}
 use Rattle.lists.proofs.TableLaws.{table-getD, table-ext, table-le}
@@ -12,7 +12,7 @@ use Rattle.schedule.specs.Shift.{shiftedLimit, scenarioCount}
 use Rattle.pricing.specs.Scales.{par, rateScale}
 use Rattle.pricing.specs.Rounding.{Rounding, down, up, quotient}
 use Rattle.pricing.specs.Run.{discountBy}
-use Rattle.pricing.specs.Inner.Multipliers.{multiplierScale, multiplierBy, multipliersBy, scaledBy, scaledAllBy, discountsBy, AtMost, billionthsLimit}
+use Rattle.pricing.specs.Inner.Multipliers.{multiplierScale, multiplierBy, multipliersBy, scaledBy, twiceBy, twiceAllBy, twiceEach, halfEach, discountsBy, AtMost, billionthsLimit}
 use Rattle.pricing.proofs.RoundingLaws.{ceiling-ge, ceiling-lt}
 use Rattle.pricing.proofs.LimitLaws.{discount-limit}
 
@@ -104,15 +104,43 @@ pub discounts-at-most : (ρ : Rounding) (rates : List ℕ) (n : ℕ) → AtMost 
 unfolding discountsBy
 discounts-at-most ρ rates n = table-le 0 scenarioCount _ par (λ j l u. discount-limit (getD rates j 0) n ρ)
 
-pub discounts-zero : (ρ : Rounding) (rates : List ℕ) → replicate scenarioCount par ≡ discountsBy ρ rates 0
-unfolding discountsBy tableFrom discountBy
-discounts-zero ρ rates = refl
+-- no double is above twice par
+pub doubles-at-most : (ρ : Rounding) (rates : List ℕ) (n : ℕ) → AtMost (2 * par) (twiceEach (discountsBy ρ rates n))
+unfolding twiceEach
+doubles-at-most ρ rates n = table-le 0 scenarioCount _ (2 * par) (λ j l u. mul-le-mul-left 2 (discounts-at-most ρ rates n j))
+
+pub doubles-zero : (ρ : Rounding) (rates : List ℕ) → replicate scenarioCount (2 * par) ≡ twiceEach (discountsBy ρ rates 0)
+unfolding twiceEach discountsBy tableFrom discountBy
+doubles-zero ρ rates = refl
+
+-- twice a factor times its multiplier
+twice-scaled : (ρ : Rounding) (x m : ℕ) → twiceBy ρ (2 * x) m ≡ 2 * scaledBy ρ x m
+unfolding twiceBy scaledBy
+twice-scaled down x m = ap (λ (v : ℕ). 2 * v) (halved x m)
+twice-scaled up x m = ap (λ (v : ℕ). 2 * suc v) (halved x m)
 
 -- one factor more at each of them
-pub discounts-suc : (ρ : Rounding) (rates : List ℕ) (n : ℕ) → AtMost shiftedLimit rates
-    → scaledAllBy ρ (discountsBy ρ rates n) (multipliersBy ρ rates) ≡ discountsBy ρ rates (suc n)
-unfolding scaledAllBy discountsBy multipliersBy
-discounts-suc ρ rates n h =
+pub doubles-suc : (ρ : Rounding) (rates : List ℕ) (n : ℕ) → AtMost shiftedLimit rates
+    → twiceAllBy ρ (twiceEach (discountsBy ρ rates n)) (multipliersBy ρ rates) ≡ twiceEach (discountsBy ρ rates (suc n))
+unfolding twiceAllBy twiceEach discountsBy multipliersBy
+doubles-suc ρ rates n h =
     table-ext scenarioCount _ _
-    (λ i l. rw (table-getD scenarioCount (λ (j : ℕ). discountBy ρ (getD rates j 0) n) i 0 l, table-getD scenarioCount (λ (j : ℕ). multiplierBy ρ (getD rates j 0)) i 0 l)
-    (factor-scaled ρ (getD rates i 0) n (h i)))
+    (λ i l. rw (
+      table-getD scenarioCount (λ (j : ℕ). 2 * getD (discountsBy ρ rates n) j 0) i 0 l,
+      table-getD scenarioCount (λ (j : ℕ). discountBy ρ (getD rates j 0) n) i 0 l,
+      table-getD scenarioCount (λ (j : ℕ). discountBy ρ (getD rates j 0) (suc n)) i 0 l,
+      table-getD scenarioCount (λ (j : ℕ). multiplierBy ρ (getD rates j 0)) i 0 l,
+      twice-scaled ρ (discountBy ρ (getD rates i 0) n) (multiplierBy ρ (getD rates i 0)),
+      factor-scaled ρ (getD rates i 0) n (h i),
+    ))
+
+-- the halves are the factors
+pub doubles-half : (ρ : Rounding) (rates : List ℕ) (n : ℕ) → halfEach (twiceEach (discountsBy ρ rates n)) ≡ discountsBy ρ rates n
+unfolding halfEach twiceEach discountsBy
+doubles-half ρ rates n =
+    table-ext scenarioCount _ _
+    (λ i l. rw (
+      table-getD scenarioCount (λ (j : ℕ). 2 * getD (discountsBy ρ rates n) j 0) i 0 l,
+      table-getD scenarioCount (λ (j : ℕ). discountBy ρ (getD rates j 0) n) i 0 l,
+      mul-div-cancel-left (discountBy ρ (getD rates i 0) n) {n = 2} (lit< tt),
+    ))

@@ -3,11 +3,11 @@ use crate::PAR;
 use crate::products::upper_half;
 use schedule::scenarios::Scenario;
 ghost use mathlib.Core.Path.{_≡_};
-ghost use Prim.Native.Nat.{_≤_};
+ghost use Prim.Native.Nat.{_*_, _≤_};
 ghost use Rattle.schedule.specs.Shift.{shiftedLimit};
 ghost use Rattle.pricing.specs.Scales.{par};
 ghost use Rattle.pricing.specs.Rounding.{roundingOf};
-ghost use Rattle.pricing.specs.Inner.Multipliers.{multiplierBy, multipliersBy, scaledBy, scaledAllBy, discountsBy, AtMost};
+ghost use Rattle.pricing.specs.Inner.Multipliers.{multiplierBy, multipliersBy, twiceBy, twiceAllBy, halfEach, discountsBy, AtMost};
 
 // The scale of a yield as a month's rate (01:58).
 const RATE_SCALE: u64 = 120_000;
@@ -24,34 +24,48 @@ pub fn discount_factors(rates: &[u64; 7], n: u64, up: bool) -> [u64; 7]
     ensures { λ r. ⌜ r ≡ discountsBy (roundingOf up) (now (rates .entry)) n ⌝ }
 {
     let multipliers = multipliers_of(rates, up);
-    let mut factors = [PAR; 7];
+    let mut doubled = [2 * PAR; 7];
     for _ in 0..n {
-        factors = next_factors(&factors, &multipliers, up);
+        doubled = next_factors(&doubled, &multipliers, up);
     }
-    factors
+    halves(&doubled)
 }
 
-// Each of seven factors times its multiplier.
-fn next_factors(factors: &[u64; 7], multipliers: &[u64; 7], up: bool) -> [u64; 7]
-    requires { ⌜ AtMost par (now factors) ⌝ }
-    ensures { λ r. ⌜ r ≡ scaledAllBy (roundingOf up) (now (factors .entry)) (now (multipliers .entry)) ⌝ }
+// Twice each of seven factors times its multiplier, from twice each factor.
+fn next_factors(doubled: &[u64; 7], multipliers: &[u64; 7], up: bool) -> [u64; 7]
+    requires { ⌜ AtMost (2 * par) (now doubled) ⌝ }
+    ensures { λ r. ⌜ r ≡ twiceAllBy (roundingOf up) (now (doubled .entry)) (now (multipliers .entry)) ⌝ }
 {
     let mut next = [0; 7];
     let mut i: usize = 0;
     while (i as u64) < Scenario::COUNT {
-        next[i] = next_factor(factors[i], multipliers[i], up);
+        next[i] = next_factor(doubled[i], multipliers[i], up);
         i += 1;
     }
     next
 }
 
-// A factor times a multiplier: the product's floor, or 1 more, as an upper multiplier is too low by less than a factor can bring out.
-fn next_factor(factor: u64, multiplier: u64, up: bool) -> u64
-    requires { ⌜ factor ≤ par ⌝ }
-    ensures { λ r. ⌜ r ≡ scaledBy (roundingOf up) factor multiplier ⌝ }
+// Twice a factor times a multiplier, from twice the factor: the product's floor, or 1 more, as an upper multiplier is too low by less than a factor can
+// bring out.
+fn next_factor(doubled: u64, multiplier: u64, up: bool) -> u64
+    requires { ⌜ doubled ≤ 2 * par ⌝ }
+    ensures { λ r. ⌜ r ≡ twiceBy (roundingOf up) doubled multiplier ⌝ }
 {
-    let scaled = upper_half(2 * factor, multiplier);
-    if up { scaled + 1 } else { scaled }
+    let scaled = upper_half(doubled, multiplier);
+    if up { 2 * (scaled + 1) } else { 2 * scaled }
+}
+
+// The halves of seven numbers.
+fn halves(doubled: &[u64; 7]) -> [u64; 7]
+    ensures { λ r. ⌜ r ≡ halfEach (now (doubled .entry)) ⌝ }
+{
+    let mut factors = [0; 7];
+    let mut i: usize = 0;
+    while (i as u64) < Scenario::COUNT {
+        factors[i] = doubled[i] / 2;
+        i += 1;
+    }
+    factors
 }
 
 // The multipliers of seven rates.
