@@ -12,7 +12,7 @@ use Rattle.schedule.specs.Shift.{shiftedLimit, scenarioCount}
 use Rattle.pricing.specs.Scales.{par, rateScale}
 use Rattle.pricing.specs.Rounding.{Rounding, down, up, quotient}
 use Rattle.pricing.specs.Run.{discountBy}
-use Rattle.pricing.specs.Inner.Multipliers.{multiplierScale, multiplierBy, multipliersBy, scaledBy, twiceBy, twiceAllBy, twiceEach, halfEach, discountsBy, AtMost, billionthsLimit}
+use Rattle.pricing.specs.Inner.Multipliers.{multiplierScale, multiplierBy, multipliersBy, scaledBy, raisedBy, twiceBy, twiceAllBy, twiceEach, halfEach, discountsBy, AtMost, billionthsLimit}
 use Rattle.pricing.proofs.RoundingLaws.{ceiling-ge, ceiling-lt}
 use Rattle.pricing.proofs.LimitLaws.{discount-limit}
 
@@ -114,14 +114,14 @@ unfolding twiceEach discountsBy tableFrom discountBy
 doubles-zero ρ rates = refl
 
 -- twice a factor times its multiplier
-twice-scaled : (ρ : Rounding) (x m : ℕ) → twiceBy ρ (2 * x) m ≡ 2 * scaledBy ρ x m
-unfolding twiceBy scaledBy
-twice-scaled down x m = ap (λ (v : ℕ). 2 * v) (halved x m)
-twice-scaled up x m = ap (λ (v : ℕ). 2 * suc v) (halved x m)
+twice-scaled : (ρ : Rounding) (x m : ℕ) → twiceBy (raisedBy ρ) (2 * x) m ≡ 2 * scaledBy ρ x m
+unfolding raisedBy twiceBy scaledBy
+twice-scaled down x m = omega (arith, halved x m)
+twice-scaled up x m = omega (arith, halved x m)
 
 -- one factor more at each of them
 pub doubles-suc : (ρ : Rounding) (rates : List ℕ) (n : ℕ) → AtMost shiftedLimit rates
-    → twiceAllBy ρ (twiceEach (discountsBy ρ rates n)) (multipliersBy ρ rates) ≡ twiceEach (discountsBy ρ rates (suc n))
+    → twiceAllBy (raisedBy ρ) (twiceEach (discountsBy ρ rates n)) (multipliersBy ρ rates) ≡ twiceEach (discountsBy ρ rates (suc n))
 unfolding twiceAllBy twiceEach discountsBy multipliersBy
 doubles-suc ρ rates n h =
     table-ext scenarioCount _ _

@@ -28,13 +28,17 @@ scaledBy up x m = suc (x * m / multiplierScale)
 unfoldable pub multipliersBy : Rounding → List ℕ → List ℕ
 multipliersBy ρ rates = table scenarioCount (λ (i : ℕ). multiplierBy ρ (getD rates i 0))
 
--- twice the factor that follows, from twice a factor
-unfoldable pub twiceBy : Rounding → ℕ → ℕ → ℕ
-twiceBy down y m = 2 * (y * m / 2 ^ 64)
-twiceBy up y m = 2 * suc (y * m / 2 ^ 64)
+-- what is added to twice a product's floor: the upper factors are 1 more than it
+unfoldable pub raisedBy : Rounding → ℕ
+raisedBy down = 0
+raisedBy up = 2
 
-unfoldable pub twiceAllBy : Rounding → List ℕ → List ℕ → List ℕ
-twiceAllBy ρ ys ms = table scenarioCount (λ (i : ℕ). twiceBy ρ (getD ys i 0) (getD ms i 0))
+-- twice the factor that follows, from twice a factor
+unfoldable pub twiceBy : ℕ → ℕ → ℕ → ℕ
+twiceBy raised y m = 2 * (y * m / 2 ^ 64) + raised
+
+unfoldable pub twiceAllBy : ℕ → List ℕ → List ℕ → List ℕ
+twiceAllBy raised ys ms = table scenarioCount (λ (i : ℕ). twiceBy raised (getD ys i 0) (getD ms i 0))
 
 -- twice each of seven factors, and their halves
 unfoldable pub twiceEach : List ℕ → List ℕ
