@@ -24,6 +24,7 @@ pub(crate) type Places = [[u8; 7]; 120];
 pub(crate) struct PlaceMultipliers {
     pub(crate) paid: [u64; 17],
     pub(crate) left: [u64; 17],
+    pub(crate) carried: [u64; 17],
     pub(crate) whole: [bool; 17],
 }
 
@@ -58,13 +59,14 @@ pub(crate) fn early_places(
 // The multipliers of the places that the account may have.
 pub(crate) fn place_multipliers(d: Deposit, tiers: WithdrawalTiers) -> PlaceMultipliers
     requires { ⌜ DepositLimits d × Usable tiers ⌝ }
-    ensures { λ r. ⌜ Multiplied tiers d (r .paid) (r .left) (r .whole) ⌝ }
+    ensures { λ r. ⌜ Multiplied tiers d (r .paid) (r .left) (r .carried) (r .whole) ⌝ }
 {
     let growth = coupon_growth(d.coupon);
     let servicing = servicing_cost(d.brokered);
     let last = last_place(d.brokered, tiers.count);
     let mut paid = [0u64; 17];
     let mut left = [0u64; 17];
+    let mut carried = [0u64; 17];
     let mut whole = [false; 17];
     let mut i: usize = 0;
     while i <= last {
@@ -72,10 +74,16 @@ pub(crate) fn place_multipliers(d: Deposit, tiers: WithdrawalTiers) -> PlaceMult
         let m = multipliers_of(growth, servicing, survival);
         paid[i] = m.paid;
         left[i] = m.left;
+        carried[i] = m.carried;
         whole[i] = m.whole;
         i += 1;
     }
-    PlaceMultipliers { paid, left, whole }
+    PlaceMultipliers {
+        paid,
+        left,
+        carried,
+        whole,
+    }
 }
 
 // The growth of a coupon.

@@ -51,6 +51,7 @@ pub fn values_of(
             &places,
             &multipliers.paid,
             &multipliers.left,
+            &multipliers.carried,
             &multipliers.whole,
             lower,
             upper,
@@ -72,13 +73,14 @@ fn value_bounds<'a>(
     places: &Places,
     paid: &'a [u64; 17],
     left: &'a [u64; 17],
+    carried: &'a [u64; 17],
     whole: &'a [bool; 17],
     lower: &FactorTable,
     upper: &FactorTable,
     scenario: usize,
 ) -> [u64; 2]
     requires { ⌜ (balance ≤ balanceLimit) × DepositLimits d × ColumnRates (now rates) column × Usable tiers × (scenario < scenarioCount) ⌝ }
-    requires { ⌜ Placed tiers d (now rates) column (now places) × Multiplied tiers d (now paid) (now left) (now whole) ⌝ }
+    requires { ⌜ Placed tiers d (now rates) column (now places) × Multiplied tiers d (now paid) (now left) (now carried) (now whole) ⌝ }
     requires { ⌜ AtMostPar (now lower) × AtMostPar (now upper) ⌝ }
     ensures { λ r. ⌜ r ≡ valueBounds (tierTable tiers) balance d (shiftedPath scenario (now (rates .entry)) column) (now (lower .entry)) (now (upper .entry)) scenario ⌝ }
 {
@@ -90,6 +92,7 @@ fn value_bounds<'a>(
         places,
         paid,
         left,
+        carried,
         whole,
         lower,
         upper,

@@ -1,18 +1,21 @@
 -- Multipliers make the month of the run. Assumes nothing.
-use Prim.Native.Nat.{ℕ, zero, suc, _+_, _*_, _-_, _/_, _^_, _≤_, _<_}
+use Prim.Native.Nat.{ℕ, zero, suc, _+_, _*_, _-_, _/_, _^_, _≤_, _<_, zero-le}
 use mathlib.Core.Path.{_≡_, refl, sym, ap, _∙_}
 use mathlib.Core.Bool.{Bool, true, false, cond}
-use lib.Dec.{leb, lit<, lit≤}
-use borrow.Author.Tests.{leb-true, leb-false}
-use native.Mathlib.Nat.{zero-add, add-zero, mul-zero, add-comm, le-trans, lt-of-le-of-lt, mul-add, mul-le-mul, mul-le-mul-left, mul-le-mul-right, mul-add-div-right, zero-lt-suc, add-sub-of-le}
+use lib.Dec.{eqb, leb, lit<}
+use borrow.Author.Tests.{leb-true, ne-eqb}
+use native.Mathlib.Nat.{zero-add, add-zero, mul-zero, add-comm, le-trans, lt-of-le-of-lt, mul-add, mul-le-mul, mul-le-mul-left, mul-le-mul-right, mul-add-div-right, zero-lt-suc, add-sub-of-le, le-refl, suc-ne-zero, zero-div, zero-mul}
+use native.Mathlib.Numerals.{add-one}
 use native.Mathlib.Omega.{arith}
 use Rattle.pricing.specs.declared.Run.{Run}
 use Rattle.pricing.specs.Scales.{par, amountLimit}
 use Rattle.pricing.specs.Rounding.{Rounding, down, up, quotient}
-use Rattle.pricing.specs.Inner.Month.{nextBalance, nextFlow, nextRun, Small}
+use Rattle.pricing.specs.Inner.Month.{nextBalance, nextFlow, nextRun}
+use Rattle.pricing.specs.Inner.Multipliers.{billionthsLimit}
 use Rattle.pricing.proofs.RoundingLaws.{ceiling-ge, ceiling-lt, quotient-le, quotient-zero}
 use Rattle.pricing.proofs.MultiplierLaws.{floor-near, ceiling-near, halved}
-use Rattle.month_steps.specs.Multipliers.{partBy, beyond, multipliersOf, stepBy}
+use Rattle.month_steps.specs.Multipliers.{partBy, carriedOf, beyond, multipliersOf, stepBy}
+use Rattle.month_steps.specs.declared.MonthMultipliers.{MonthMultipliers}
 
 -- rounded up, of something by something
 pub part-some : (s x m : ℕ) → 0 < x → 0 < m → partBy up s x m ≡ suc (x * (m - 1) / s)
@@ -30,6 +33,46 @@ pub part-by-none : (s x : ℕ) → partBy up s x 0 ≡ 0
 unfolding partBy
 part-by-none s zero = refl
 part-by-none s (suc x) = refl
+
+-- rounded up, of something, by a multiplier and what is carried
+pub part-carried : (s x m : ℕ) → 0 < x → x * (m - carriedOf m) / s + carriedOf m ≡ partBy up s x m
+unfolding partBy carriedOf
+part-carried s zero m hx = absurd (omega arith)
+part-carried s (suc x) zero hx = rw (mul-zero, zero-div)
+part-carried s (suc x) (suc m) hx =
+    let e : suc m - 1 ≡ m = omega arith in
+    rw (ne-eqb (suc m) 0 (suc-ne-zero m), e, add-one)
+
+-- what is carried is at most the multiplier, and 1
+pub carried-le : (m : ℕ) → carriedOf m ≤ m
+unfolding carriedOf
+carried-le zero = zero-le
+carried-le (suc m) = rw (ne-eqb (suc m) 0 (suc-ne-zero m)) (omega arith)
+
+pub carried-le-one : (m : ℕ) → carriedOf m ≤ 1
+unfolding carriedOf
+carried-le-one m = cond-le (eqb m 0)
+  where
+    cond-le : (b : Bool) → cond b 0 1 ≤ 1
+    cond-le true = zero-le
+    cond-le false = le-refl 1
+
+-- a balance that is gone stays so
+pub step-gone : (m : MonthMultipliers) (df : ℕ) (run : Run) → run .balance ≡ 0 → run ≡ stepBy up m df run
+unfolding stepBy partBy
+step-gone m df run e =
+    ap (λ (b : ℕ). record { balance = b; price = run .price }) balance-same
+    ∙ ap (λ (p : ℕ). record { balance = cond (m .whole) (run .balance) 0 + partBy up (2 ^ 64) (run .balance) (m .left); price = p }) price-same
+  where
+    none : (b : Bool) → 0 ≡ cond b 0 0 + partBy up (2 ^ 64) 0 (m .left)
+    none true = refl
+    none false = refl
+
+    balance-same : run .balance ≡ cond (m .whole) (run .balance) 0 + partBy up (2 ^ 64) (run .balance) (m .left)
+    balance-same = rw e (none (m .whole))
+
+    price-same : run .price ≡ run .price + quotient up (partBy up (2 ^ 64) (2 * run .balance) (m .paid) * df) par
+    price-same = rw (e, quotient-zero up df par (lit< tt), add-zero)
 
 -- a multiplier of a / w in units of 1 / s, rounded up, gives x a / w at either rounding where x w is below s
 module _ (s w a : ℕ) (pos : 0 < w) (some : 0 < s) where
@@ -117,6 +160,39 @@ pub rest-le : (n : ℕ) → n < 3 * par → (709551616 * n + (3 * par - 1)) / (3
 unfolding quotient
 rest-le n h = quotient-le up (709551616 * n) (3 * par) 709551616 (lit< tt) (omega (arith, h))
 
--- so does a part of twice a balance
-pub part-fits : (part x : ℕ) → part ≤ x → x ≤ 2 * amountLimit → part + 1 < 2 ^ 64
-part-fits part x h l = omega (arith, h, l)
+-- the figures of a month fit too: of a part of twice a balance, of the parts of a balance, of a flow times its factor, of a price
+pub twice-le : (part b : ℕ) → part ≤ 2 * b → b ≤ amountLimit → part ≤ 9100000000
+twice-le part b h l = omega (arith, h, l)
+
+pub balance-fits : (kept part b : ℕ) → kept ≤ b → part ≤ b → b ≤ amountLimit → kept + part < 2 ^ 64
+balance-fits kept part b h g l = omega (arith, h, g, l)
+
+pub product-fits : (product : ℕ) → product ≤ 9100000000 * par → product < 2 ^ 64
+product-fits product h = omega (arith, h)
+
+pub product-limit : (product : ℕ) → product ≤ 9100000000 * par → product ≤ billionthsLimit
+product-limit product h = omega (arith, h)
+
+pub price-fits : (price flow : ℕ) → price ≤ amountLimit → flow ≤ 9100000000 → price + flow < 2 ^ 64
+price-fits price flow h g = omega (arith, h, g)
+
+-- the upper run's, with 1 more
+pub part-fits : (part carried b : ℕ) → part ≤ b → carried ≤ 1 → b ≤ amountLimit → part + carried < 2 ^ 64
+part-fits part carried b h g l = omega (arith, h, g, l)
+
+pub upper-twice-le : (part b : ℕ) → part ≤ 2 * b → b ≤ amountLimit → part + 1 ≤ 9100000000
+upper-twice-le part b h l = omega (arith, h, l)
+
+pub upper-balance-fits : (kept part carried b : ℕ) → kept ≤ b → part ≤ b → carried ≤ 1 → b ≤ amountLimit → kept + (part + carried) < 2 ^ 64
+upper-balance-fits kept part carried b h g i l = omega (arith, h, g, i, l)
+
+-- something is paid of every balance that is serviced
+pub paid-pos : (growth servicing q : ℕ) → 0 < servicing → q ≤ par → 0 < multipliersOf growth servicing q .paid
+unfolding multipliersOf
+paid-pos growth servicing q h l =
+    let n : 0 < servicing + par - q = omega (arith, h, l) in
+    pos-of-mul (quotient up ((servicing + par - q) * 2 ^ 63) par) (omega (arith, n, ceiling-ge ((servicing + par - q) * 2 ^ 63) par (lit< tt)))
+  where
+    pos-of-mul : (m : ℕ) → 0 < m * par → 0 < m
+    pos-of-mul zero h = absurd (omega arith)
+    pos-of-mul (suc m) h = zero-lt-suc m

@@ -5,7 +5,7 @@ ghost use mathlib.Core.Path.{_≡_};
 ghost use Prim.Native.Nat.{_+_, _*_, _^_, _<_, _≤_};
 ghost use Rattle.pricing.specs.Scales.{par, growthLimit, servicingLimit};
 ghost use Rattle.pricing.specs.Rounding.{up, quotient};
-ghost use Rattle.month_steps.specs.Multipliers.{multipliersOf};
+ghost use Rattle.month_steps.specs.Multipliers.{beyond, carriedOf, multipliersOf};
 
 // The scale of a month's growth and survivors (01:56).
 const GROWTH_SCALE: u64 = 3 * PAR;
@@ -26,20 +26,33 @@ pub fn multipliers_of(growth: u64, servicing: u64, survival: u64) -> MonthMultip
     ensures { λ r. ⌜ r ≡ multipliersOf growth servicing survival ⌝ }
 {
     let share = growth + 3 * survival;
-    let paid = paid_multiplier(servicing + PAR - survival);
-    if GROWTH_SCALE <= share {
-        MonthMultipliers {
-            paid,
-            left: left_multiplier(share - GROWTH_SCALE),
-            whole: true,
-        }
-    } else {
-        MonthMultipliers {
-            paid,
-            left: left_multiplier(share),
-            whole: false,
-        }
+    let whole = GROWTH_SCALE <= share;
+    let left = left_multiplier(beyond_whole(share));
+    MonthMultipliers {
+        paid: paid_multiplier(servicing + PAR - survival),
+        left,
+        carried: carried_of(left),
+        whole,
     }
+}
+
+// What of a share in units of 1 / (3 x 10^9) is beyond the whole.
+fn beyond_whole(share: u64) -> u64
+    requires { ⌜ share ≤ growthLimit + 3 * par ⌝ }
+    ensures { λ r. ⌜ (r ≡ beyond share) × (r < 3 * par) ⌝ }
+{
+    if GROWTH_SCALE <= share {
+        share - GROWTH_SCALE
+    } else {
+        share
+    }
+}
+
+// What an upper part is more than by one less.
+fn carried_of(left: u64) -> u64
+    ensures { λ r. ⌜ r ≡ carriedOf left ⌝ }
+{
+    if left == 0 { 0 } else { 1 }
 }
 
 // n / 10^9 in units of 1 / 2^63, rounded up.

@@ -14,7 +14,7 @@ use Rattle.pricing.specs.declared.Run.{Run}
 use Rattle.pricing.specs.Scales.{par, couponGrowth, amountLimit}
 use Rattle.pricing.specs.Rounding.{Rounding}
 use Rattle.month_steps.specs.declared.MonthMultipliers.{MonthMultipliers}
-use Rattle.month_steps.specs.Multipliers.{multipliersOf, stepBy}
+use Rattle.month_steps.specs.Multipliers.{carriedOf, multipliersOf, stepBy}
 use Rattle.deposits.specs.declared.Deposit.{Deposit}
 use Rattle.deposits.specs.DepositTerms.{servicingCost}
 
@@ -39,27 +39,30 @@ unfoldable pub multipliersAt : WithdrawalTiers → Deposit → ℕ → MonthMult
 multipliersAt t d place =
     multipliersOf (couponGrowth * d .coupon) (servicingCost (accountOf (d .brokered))) (placeSurvival (d .brokered) (t .count) (t .survivals) (t .retained) place)
 
--- multipliers of all places that the account may have, in three arrays
-abbrev pub Multiplied : WithdrawalTiers → Deposit → List ℕ → List ℕ → List Bool → Type 0
-Multiplied t d paid left whole =
+-- the multipliers that four arrays hold at a place
+abbrev pub heldAt : List ℕ → List ℕ → List ℕ → List Bool → ℕ → MonthMultipliers
+heldAt paid left carried whole place =
+    record { paid = getD paid place 0; left = getD left place 0; carried = getD carried place 0; whole = getD whole place false }
+
+-- multipliers of all places that the account may have
+abbrev pub Multiplied : WithdrawalTiers → Deposit → List ℕ → List ℕ → List ℕ → List Bool → Type 0
+Multiplied t d paid left carried whole =
     (place : ℕ) → place ≤ lastPlace (d .brokered) (t .count)
-    → record { paid = getD paid place 0; left = getD left place 0; whole = getD whole place false } ≡ multipliersAt t d place
+    → heldAt paid left carried whole place ≡ multipliersAt t d place
 
 -- the run after some months, by the multipliers of their places, with discount factors from a list
-unfoldable pub walkedBy : Rounding → List ℕ → List ℕ → List Bool → List (List ℕ) → List ℕ → ℕ → ℕ → Run
-walkedBy ρ paid left whole places factors scenario zero = record { balance = par; price = 0 }
-walkedBy ρ paid left whole places factors scenario (suc t) =
+unfoldable pub walkedBy : Rounding → List ℕ → List ℕ → List ℕ → List Bool → List (List ℕ) → List ℕ → ℕ → ℕ → Run
+walkedBy ρ paid left carried whole places factors scenario zero = record { balance = par; price = 0 }
+walkedBy ρ paid left carried whole places factors scenario (suc t) =
     stepBy ρ
-    (record {
-      paid = getD paid (placeAt places t scenario) 0;
-      left = getD left (placeAt places t scenario) 0;
-      whole = getD whole (placeAt places t scenario) false;
-    })
+    (heldAt paid left carried whole (placeAt places t scenario))
     (getD factors (scenarioCount * t + scenario) 0)
-    (walkedBy ρ paid left whole places factors scenario t)
+    (walkedBy ρ paid left carried whole places factors scenario t)
 
--- each month but the last can be walked: its place is one of the arrays', and the run before it is within the limit
-pub record Walkable (ρ : Rounding) (paid left : List ℕ) (whole : List Bool) (places : List (List ℕ)) (factors : List ℕ) (scenario months : ℕ) : Type 0 where
+-- each month but the last can be walked: its place is one of the arrays', with multipliers of the upper run too, and the run before it is within the limit
+pub record Walkable (ρ : Rounding) (paid left carried : List ℕ) (whole : List Bool) (places : List (List ℕ)) (factors : List ℕ) (scenario months : ℕ) : Type 0 where
   pub place-le : (t : ℕ) → suc t < months → placeAt places t scenario ≤ tierLimit
-  pub balance-le : (t : ℕ) → suc t < months → walkedBy ρ paid left whole places factors scenario t .balance ≤ amountLimit
-  pub price-le : (t : ℕ) → suc t < months → walkedBy ρ paid left whole places factors scenario t .price ≤ amountLimit
+  pub paid-pos : (t : ℕ) → suc t < months → 0 < getD paid (placeAt places t scenario) 0
+  pub carried-is : (t : ℕ) → suc t < months → getD carried (placeAt places t scenario) 0 ≡ carriedOf (getD left (placeAt places t scenario) 0)
+  pub balance-le : (t : ℕ) → suc t < months → walkedBy ρ paid left carried whole places factors scenario t .balance ≤ amountLimit
+  pub price-le : (t : ℕ) → suc t < months → walkedBy ρ paid left carried whole places factors scenario t .price ≤ amountLimit

@@ -14,14 +14,15 @@ use Rattle.deposits.proofs.places.place_multipliers.Statement.{statemen
 use Rattle.deposits.proofs.places.place_multipliers.Tie as tie
 
 abbrev Inv-loop : tie.InvT-loop
-Inv-loop d tiers growth servicing last paid₀ left₀ whole₀ i₀ paid left whole i =
+Inv-loop d tiers growth servicing last paid₀ left₀ carried₀ whole₀ i₀ paid left carried whole i =
     (i ≤ last + 1)
     × FilledBy (λ (j n : ℕ). n ≡ multipliersAt tiers d j .paid) 0 17 i paid
     × FilledBy (λ (j n : ℕ). n ≡ multipliersAt tiers d j .left) 0 17 i left
+    × FilledBy (λ (j n : ℕ). n ≡ multipliersAt tiers d j .carried) 0 17 i carried
     × FilledBy (λ (j : ℕ) (b : Bool). b ≡ multipliersAt tiers d j .whole) false 17 i whole
 
 abbrev μ-loop : tie.MeasureT-loop
-μ-loop d tiers growth servicing last paid₀ left₀ whole₀ i₀ paid left whole i = last + 1 - i
+μ-loop d tiers growth servicing last paid₀ left₀ carried₀ whole₀ i₀ paid left carried whole i = last + 1 - i
 
 coupon-growth-requires : tie.Need-coupon-growth-requires Inv-loop μ-loop
 coupon-growth-requires c κs = c .pre .0 .coupon-le
@@ -33,7 +34,7 @@ last-place-requires : tie.Need-last-place-requires Inv-loop μ-loop
 last-place-requires c κs = tt
 
 loop-holds : tie.Need-loop-holds Inv-loop μ-loop
-loop-holds c = (omega arith, filled-none _ 0 0 17, filled-none _ 0 0 17, filled-none _ false false 17)
+loop-holds c = (omega arith, filled-none _ 0 0 17, filled-none _ 0 0 17, filled-none _ 0 0 17, filled-none _ false false 17)
 
 place-survival-requires : tie.Need-place-survival-requires Inv-loop μ-loop
 place-survival-requires c κs = c .before .before .before .before .before .before .before .pre .1 .count-le
@@ -71,6 +72,12 @@ mul-left c = omega (arith, index-lt c)
 array-write-left : tie.Need-array-write-left Inv-loop μ-loop
 array-write-left c = index-lt c
 
+mul-carried : tie.Need-mul-carried Inv-loop μ-loop
+mul-carried c = omega (arith, index-lt c)
+
+array-write-carried : tie.Need-array-write-carried Inv-loop μ-loop
+array-write-carried c = index-lt c
+
 array-write-whole : tie.Need-array-write-whole Inv-loop μ-loop
 array-write-whole c = index-lt c
 
@@ -98,15 +105,17 @@ loop-again c =
           (ap (λ (m : MonthMultipliers). m .paid) (multipliers-are c)) (state .inv .1),
       filled-more _ 0 17 (state .i) (state .left) (c .multipliers-of .result .left) (index-lt c)
           (ap (λ (m : MonthMultipliers). m .left) (multipliers-are c)) (state .inv .2),
+      filled-more _ 0 17 (state .i) (state .carried) (c .multipliers-of .result .carried) (index-lt c)
+          (ap (λ (m : MonthMultipliers). m .carried) (multipliers-are c)) (state .inv .3),
       filled-more _ false 17 (state .i) (state .whole) (c .multipliers-of .result .whole) (index-lt c)
-          (ap (λ (m : MonthMultipliers). m .whole) (multipliers-are c)) (state .inv .3),
+          (ap (λ (m : MonthMultipliers). m .whole) (multipliers-are c)) (state .inv .4),
     )
 
 returns : tie.Need-returns Inv-loop μ-loop
 returns c place h =
     let at = c .before in
     let within : place < at .loop .i = omega (arith, c .loop-test .left, h, at .before .last-place .ensures) in
-    rw (at .loop .inv .1 .holds place within, at .loop .inv .2 .holds place within, at .loop .inv .3 .holds place within)
+    rw (at .loop .inv .1 .holds place within, at .loop .inv .2 .holds place within, at .loop .inv .3 .holds place within, at .loop .inv .4 .holds place within)
 
 pub place-multipliers-spec : {M : Type 1} → statement M
 place-multipliers-spec =
@@ -124,6 +133,8 @@ place-multipliers-spec =
     array-write-paid
     mul-left
     array-write-left
+    mul-carried
+    array-write-carried
     array-write-whole
     add-i
     loop-less

@@ -24,20 +24,20 @@ rateOf s = shiftedPath (s .args .scenario) (s .args .rates .now) (s .args .colum
 
 -- the months can be walked
 walkableOf : (ρ : Rounding) (s : tie.Start) (factors : List ℕ) → AtMostPar factors
-    → let a = s .args in Walkable ρ (a .paid .now) (a .left .now) (a .whole .now) (a .places .now) factors (a .scenario) (a .d .months)
+    → let a = s .args in Walkable ρ (a .paid .now) (a .left .now) (a .carried .now) (a .whole .now) (a .places .now) factors (a .scenario) (a .d .months)
 walkableOf ρ s factors p =
     let a = s .args in
-    walkable ρ (a .tiers) (a .d) (a .rates .now) (a .column) (a .paid .now) (a .left .now) (a .whole .now) (a .places .now) factors (a .scenario) (s .pre .0 .0)
+    walkable ρ (a .tiers) (a .d) (a .rates .now) (a .column) (a .paid .now) (a .left .now) (a .carried .now) (a .whole .now) (a .places .now) factors (a .scenario) (s .pre .0 .0)
     (s .pre .0 .2) (s .pre .1 .0 .0) (s .pre .1 .0 .1) (s .pre .0 .3) p
 
 -- and end with the run of the definitions
 walkedOf : (ρ : Rounding) (s : tie.Start) (factors : List ℕ) → AtMostPar factors → 0 < s .args .d .months
     → let a = s .args in
-    walkedBy ρ (a .paid .now) (a .left .now) (a .whole .now) (a .places .now) factors (a .scenario) (a .d .months - 1)
+    walkedBy ρ (a .paid .now) (a .left .now) (a .carried .now) (a .whole .now) (a .places .now) factors (a .scenario) (a .d .months - 1)
     ≡ runBy ρ (termsOf (tierTable (a .tiers)) (a .d) (rateOf s)) (listed factors (a .scenario)) (a .d .months - 1)
 walkedOf ρ s factors p some =
     let a = s .args in
-    walked-is ρ (a .tiers) (a .d) (a .rates .now) (a .column) (a .paid .now) (a .left .now) (a .whole .now) (a .places .now) factors (a .scenario) (s .pre .0 .0)
+    walked-is ρ (a .tiers) (a .d) (a .rates .now) (a .column) (a .paid .now) (a .left .now) (a .carried .now) (a .whole .now) (a .places .now) factors (a .scenario) (s .pre .0 .0)
     (s .pre .0 .2) (s .pre .1 .0 .0) (s .pre .1 .0 .1) (s .pre .0 .3) p (a .d .months - 1) (omega arith)
 
 early-months-requires : tie.Need-early-months-requires

@@ -36,10 +36,11 @@ loop-holds c = (omega arith, overwritten-none _)
 
 value-bounds-requires : tie.Need-value-bounds-requires Inv-loop μ-loop
 value-bounds-requires c κs =
-    let multipliers = c .before .before .before .before .before .before .before in
+    let test = c .before .before .before .before .before .before in
+    let multipliers = test .before .before in
     let start = multipliers .before .before .before in
     let limits = start .pre .0 in
-    ((limits .0, limits .1, limits .2, limits .3, omega arith), ((multipliers .before .early-places .ensures, multipliers .place-multipliers .ensures), start .pre .1))
+    ((limits .0, limits .1, limits .2, limits .3, omega (arith, test .loop-test .taken)), ((multipliers .before .early-places .ensures, multipliers .place-multipliers .ensures), start .pre .1))
 
 slice-aggregate-write : tie.Need-slice-aggregate-write Inv-loop μ-loop
 slice-aggregate-write c = omega arith
@@ -62,7 +63,7 @@ loop-less c = omega arith
 loop-again : tie.Need-loop-again Inv-loop μ-loop
 loop-again c =
     let bounds = c .before .before .before .before in
-    let test = bounds .before .before .before .before .before .before in
+    let test = bounds .before .before .before .before .before .before .before in
     let at = test .before in
     let more : at .loop .scenario < 7 = omega (arith, test .loop-test .taken) in
     let a = at .before .before .before .before .args in

@@ -1,7 +1,6 @@
 -- `month_steps::multipliers::multipliers_of` meets its contract. Assumes nothing.
 use borrow.Author.Needs.{needs}
-use borrow.Author.Tests.{le-leb, lt-leb}
-use Rattle.month_steps.specs.Multipliers.{beyond, multipliersOf}
+use Rattle.month_steps.specs.Multipliers.{multipliersOf}
 use Rattle.month_steps.proofs.multipliers.multipliers_of.Statement.{statement}
 use Rattle.month_steps.proofs.multipliers.multipliers_of.Tie as tie
 
@@ -10,6 +9,12 @@ mul-share c = search needs
 
 add-share : tie.Need-add-share
 add-share c = search needs
+
+beyond-whole-requires : tie.Need-beyond-whole-requires
+beyond-whole-requires c κs = search needs
+
+left-multiplier-requires : tie.Need-left-multiplier-requires
+left-multiplier-requires c κs = search needs
 
 add-paid-multiplier : tie.Need-add-paid-multiplier
 add-paid-multiplier c = search needs
@@ -20,23 +25,14 @@ sub-paid-multiplier c = search needs
 paid-multiplier-requires : tie.Need-paid-multiplier-requires
 paid-multiplier-requires c κs = search needs
 
-left-multiplier-requires : tie.Need-left-multiplier-requires
-left-multiplier-requires c κs = search needs
-
-left-multiplier-requires-2 : tie.Need-left-multiplier-requires-2
-left-multiplier-requires-2 c κs = search needs
+carried-of-requires : tie.Need-carried-of-requires
+carried-of-requires c κs = search needs
 
 returns : tie.Need-returns
-unfolding beyond multipliersOf
+unfolding multipliersOf
 returns c =
-    let paid = c .before .before in
-    rw (le-leb _ _ (c .before .if1 .taken), paid .paid-multiplier .ensures, c .left-multiplier .ensures)
-
-returns-2 : tie.Need-returns-2
-unfolding beyond multipliersOf
-returns-2 c =
-    let paid = c .before .before in
-    rw (lt-leb _ _ (c .before .if1 .left), paid .paid-multiplier .ensures, c .left-multiplier2 .ensures)
+    let paid = c .before in
+    rw (c .carried-of .ensures, paid .paid-multiplier .ensures, paid .before .left-multiplier .ensures, paid .before .before .beyond-whole .ensures .0)
 
 pub multipliers-of-spec : {M : Type 1} → statement M
 multipliers-of-spec =
@@ -44,10 +40,10 @@ multipliers-of-spec =
     (tie.spec
     mul-share
     add-share
+    beyond-whole-requires
+    left-multiplier-requires
     add-paid-multiplier
     sub-paid-multiplier
     paid-multiplier-requires
-    left-multiplier-requires
-    left-multiplier-requires-2
-    returns
-    returns-2)
+    carried-of-requires
+    returns)
