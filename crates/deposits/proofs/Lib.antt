@@ -1,4 +1,6 @@
 pub mod TermsLaws
 pub mod FactorLaws
+pub mod PlaceLaws
 pub mod PriceLaws
+pub mod WalkLaws
 pub mod ValueLaws

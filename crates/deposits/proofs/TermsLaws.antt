@@ -4,7 +4,7 @@ use mathlib.Core.Path.{_≡_, refl, ap, fun-ext}
 use mathlib.Core.Bool.{Bool, true, false, cond}
 use borrow.Author.Tests.{ltb-true}
 use native.Mathlib.Nat.{mul-le-mul-left}
-use lib.Dec.{ltb, lit≤}
+use lib.Dec.{ltb, lit<, lit≤}
 use Rattle.schedule.specs.Limits.{couponLimit, monthsLimit}
 use Rattle.withdrawal.specs.Gain as of
 use Rattle.withdrawal.specs.Tiers.{TierTable}
@@ -16,10 +16,15 @@ use Rattle.pricing.specs.Bounded.{Bounded}
 use Rattle.deposits.specs.declared.Deposit.{Deposit}
 use Rattle.deposits.specs.DepositTerms.{servicingCost, termsOf}
 
-servicing-le : (account : Account) → servicingCost account ≤ servicingLimit
+pub servicing-le : (account : Account) → servicingCost account ≤ servicingLimit
 unfolding servicingCost
 servicing-le retail = lit≤ tt
 servicing-le brokered = lit≤ tt
+
+pub servicing-pos : (account : Account) → 0 < servicingCost account
+unfolding servicingCost
+servicing-pos retail = lit< tt
+servicing-pos brokered = lit< tt
 
 -- a deposit's terms are within the limits where its coupon and months are
 pub terms-of-bounded : (tiers : TierTable) (d : Deposit) (rate : ℕ → ℕ) → d .coupon ≤ couponLimit → d .months ≤ monthsLimit → Bounded (termsOf tiers d rate)

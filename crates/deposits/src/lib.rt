@@ -1,5 +1,6 @@
 // One deposit in each scenario: the discount factors, its lower and upper prices and values.
 pub mod factors;
+mod places;
 mod prices;
 pub mod values;
 

@@ -4,42 +4,43 @@ use crate::Deposit;
 use crate::RatePaths;
 use crate::Runs;
 use crate::factors::FactorTable;
+use crate::places::Places;
+use crate::places::coupon_growth;
+use crate::places::servicing_cost;
+use month_steps::MonthMultipliers;
+use month_steps::steps::next_lower;
+use month_steps::steps::next_upper;
 use pricing::PAR;
 use pricing::Run;
 use pricing::months::next_month;
-use schedule::scenarios::Scenario;
 use withdrawal::WithdrawalTiers;
-use withdrawal::early_survival;
-use withdrawal::gain::coupon_parts;
-use withdrawal::gain::gain_and_cost;
 ghost use mathlib.Core.Path.{_≡_};
-ghost use Prim.Native.Nat.{_*_, _-_, _<_, _≤_};
-ghost use Rattle.schedule.specs.Limits.{couponLimit, monthsLimit};
-ghost use Rattle.schedule.specs.Shift.{scenarioCount, shiftedLimit};
-ghost use Rattle.withdrawal.specs.MonthSurvival.{accountOf};
+ghost use Prim.Native.Nat.{_-_, _<_, _≤_};
+ghost use Rattle.schedule.specs.Limits.{monthsLimit, tierLimit};
+ghost use Rattle.schedule.specs.Shift.{scenarioCount};
 ghost use Rattle.withdrawal.specs.Inner.TierArrays.{tierTable, Usable};
-ghost use Rattle.pricing.specs.Scales.{couponGrowth};
-ghost use Rattle.deposits.specs.DepositTerms.{servicingCost};
-ghost use Rattle.deposits.specs.Inner.Prices.{listedPrices, listedRuns, shiftedPath, ColumnRates, DepositLimits, AtMostPar};
-
-// The months of a column's path of rates.
-const MONTHS: usize = 120;
-
-// The growth of a coupon of one thousandth of a percent a year, in units of 1 / (3 × 10^9) of the balance (01:56; 02:CR 4).
-const COUPON_GROWTH: u64 = 2_500;
+ghost use Rattle.pricing.specs.Rounding.{down, up};
+ghost use Rattle.deposits.specs.Inner.Places.{placeAt, Placed, heldAt, Multiplied, walkedBy, Walkable};
+ghost use Rattle.deposits.specs.Inner.Prices.{listedPrices, shiftedPath, ColumnRates, DepositLimits, AtMostPar};
 
 // Lower and upper price in a scenario in billionths, at the retail rates of a column, 1 to 3, which are not shifted. In the last month nothing is withdrawn
 // early, and the balance is paid.
-pub(crate) fn price_of(
+pub(crate) fn price_of<'a>(
     d: Deposit,
     rates: &RatePaths,
     column: usize,
     tiers: WithdrawalTiers,
+    places: &Places,
+    paid: &'a [u64; 17],
+    left: &'a [u64; 17],
+    carried: &'a [u64; 17],
+    whole: &'a [bool; 17],
     lower: &FactorTable,
     upper: &FactorTable,
     scenario: usize,
 ) -> Bounds
     requires { ⌜ DepositLimits d × ColumnRates (now rates) column × Usable tiers × (scenario < scenarioCount) ⌝ }
+    requires { ⌜ Placed tiers d (now rates) column (now places) × Multiplied tiers d (now paid) (now left) (now carried) (now whole) ⌝ }
     requires { ⌜ AtMostPar (now lower) × AtMostPar (now upper) ⌝ }
     ensures { λ r. ⌜ r ≡ listedPrices (tierTable tiers) d (shiftedPath scenario (now (rates .entry)) column) (now (lower .entry)) (now (upper .entry)) scenario ⌝ }
 {
@@ -47,7 +48,17 @@ pub(crate) fn price_of(
     if months == 0 {
         return Bounds { lower: 0, upper: 0 };
     }
-    let runs = early_months(d, rates, column, tiers, lower, upper, scenario);
+    let runs = early_months(
+        months,
+        places,
+        paid,
+        left,
+        carried,
+        whole,
+        lower,
+        upper,
+        scenario,
+    );
     let growth = coupon_growth(d.coupon);
     let servicing = servicing_cost(d.brokered);
     let i = 7 * (months as usize - 1) + scenario;
@@ -60,23 +71,24 @@ pub(crate) fn price_of(
 }
 
 // The lower and the upper run after all months but the last.
-fn early_months(
-    d: Deposit,
-    rates: &RatePaths,
-    column: usize,
-    tiers: WithdrawalTiers,
+fn early_months<'a>(
+    months: u64,
+    places: &Places,
+    paid: &'a [u64; 17],
+    left: &'a [u64; 17],
+    carried: &'a [u64; 17],
+    whole: &'a [bool; 17],
     lower: &FactorTable,
     upper: &FactorTable,
     scenario: usize,
 ) -> Runs
-    requires { ⌜ DepositLimits d × ColumnRates (now rates) column × Usable tiers × (scenario < scenarioCount) × (0 < d .months) ⌝ }
-    requires { ⌜ AtMostPar (now lower) × AtMostPar (now upper) ⌝ }
-    ensures { λ r. ⌜ r ≡ listedRuns (tierTable tiers) d (shiftedPath scenario (now (rates .entry)) column) (now (lower .entry)) (now (upper .entry)) scenario (d .months - 1) ⌝ }
+    requires { ⌜ (0 < months) × (months ≤ monthsLimit) × (scenario < scenarioCount) × AtMostPar (now lower) × AtMostPar (now upper) ⌝ }
+    requires { ⌜ Walkable down (now paid) (now left) (now carried) (now whole) (now places) (now lower) scenario months ⌝ }
+    requires { ⌜ Walkable up (now paid) (now left) (now carried) (now whole) (now places) (now upper) scenario months ⌝ }
+    ensures { λ r. ⌜ r .lower ≡ walkedBy down (now (paid .entry)) (now (left .entry)) (now (carried .entry)) (now (whole .entry)) (now (places .entry)) (now (lower .entry)) scenario (months - 1) ⌝ }
+    ensures { λ r. ⌜ r .upper ≡ walkedBy up (now (paid .entry)) (now (left .entry)) (now (carried .entry)) (now (whole .entry)) (now (places .entry)) (now (upper .entry)) scenario (months - 1) ⌝ }
 {
-    let growth = coupon_growth(d.coupon);
-    let servicing = servicing_cost(d.brokered);
-    let parts = coupon_parts(d.coupon, d.penalty);
-    let early = d.months - 1;
+    let early = months - 1;
     let mut low = Run {
         balance: PAR,
         price: 0,
@@ -87,21 +99,11 @@ fn early_months(
     };
     let mut t: u64 = 0;
     while t < early {
-        let rate = month_rate(rates, column, scenario, t + 1);
-        let incentive = gain_and_cost(parts, rate, early - t);
-        let survival = early_survival(
-            tiers.count,
-            &tiers.edges,
-            &tiers.withdrawals,
-            &tiers.survivals,
-            tiers.otherwise,
-            tiers.retained,
-            d.brokered,
-            incentive,
-        );
+        let place = place_at(places, t as usize, scenario);
+        let m = multipliers_at(paid, left, carried, whole, place);
         let i = 7 * t as usize + scenario;
-        low = next_month(low, growth, servicing, survival, lower[i], false, false);
-        high = next_month(high, growth, servicing, survival, upper[i], false, true);
+        low = next_lower(low, m, lower[i]);
+        high = next_upper(high, m, upper[i]);
         t += 1;
     }
     Runs {
@@ -110,26 +112,35 @@ fn early_months(
     }
 }
 
-// The retail rate of a month, 1 to 120, in a scenario.
-fn month_rate(rates: &RatePaths, column: usize, scenario: usize, month: u64) -> u64
-    requires { ⌜ ColumnRates (now rates) column × (scenario < scenarioCount) × (1 ≤ month) × (month ≤ monthsLimit) ⌝ }
-    ensures { λ r. ⌜ (r ≡ shiftedPath scenario (now (rates .entry)) column month) × (r ≤ shiftedLimit) ⌝ }
+// The multipliers of a place.
+fn multipliers_at<'a>(
+    paid: &'a [u64; 17],
+    left: &'a [u64; 17],
+    carried: &'a [u64; 17],
+    whole: &'a [bool; 17],
+    place: usize,
+) -> MonthMultipliers
+    requires { ⌜ place ≤ tierLimit ⌝ }
+    ensures { λ r. ⌜ r ≡ heldAt (now (paid .entry)) (now (left .entry)) (now (carried .entry)) (now (whole .entry)) place ⌝ }
 {
-    let place = MONTHS * (column - 1) + (month as usize - 1);
-    Scenario::new(scenario as u8).shifted(rates[place])
+    MonthMultipliers {
+        paid: paid[place],
+        left: left[place],
+        carried: carried[place],
+        whole: whole[place],
+    }
 }
 
-// The growth of a coupon.
-fn coupon_growth(coupon: u64) -> u64
-    requires { ⌜ coupon ≤ couponLimit ⌝ }
-    ensures { λ r. ⌜ r ≡ couponGrowth * coupon ⌝ }
+// The place of a month, counted from 0, in a scenario.
+fn place_at(places: &Places, month: usize, scenario: usize) -> usize
+    requires { ⌜ (month < monthsLimit) × (scenario < scenarioCount) ⌝ }
+    ensures { λ r. ⌜ r ≡ placeAt (now (places .entry)) month scenario ⌝ }
 {
-    COUPON_GROWTH * coupon
+    wide(places[month][6 - scenario])
 }
 
-// The month's servicing cost in billionths of the balance.
-fn servicing_cost(brokered: bool) -> u64
-    ensures { λ r. ⌜ r ≡ servicingCost (accountOf brokered) ⌝ }
+fn wide(place: u8) -> usize
+    ensures { λ r. ⌜ r ≡ place ⌝ }
 {
-    if brokered { 19000 } else { 175000 }
+    place as usize
 }

@@ -2,6 +2,9 @@
 use crate::Deposit;
 use crate::RatePaths;
 use crate::factors::FactorTable;
+use crate::places::Places;
+use crate::places::early_places;
+use crate::places::place_multipliers;
 use crate::prices::price_of;
 use lists::write;
 use pricing::months::value_of;
@@ -12,6 +15,7 @@ ghost use Prim.Native.Nat.{_<_, _≤_};
 ghost use Rattle.schedule.specs.Limits.{balanceLimit};
 ghost use Rattle.schedule.specs.Shift.{scenarioCount};
 ghost use Rattle.withdrawal.specs.Inner.TierArrays.{tierTable, Usable};
+ghost use Rattle.deposits.specs.Inner.Places.{Placed, Multiplied};
 ghost use Rattle.deposits.specs.Inner.Prices.{shiftedPath, ColumnRates, DepositLimits, AtMostPar};
 ghost use Rattle.deposits.specs.Inner.Values.{valueBounds, listedValues};
 
@@ -34,9 +38,25 @@ pub fn values_of(
     if balance == 0 {
         return values;
     }
+    let places = early_places(d, rates, column, tiers);
+    let multipliers = place_multipliers(d, tiers);
     let mut scenario: usize = 0;
     while (scenario as u64) < Scenario::COUNT {
-        let two = value_bounds(balance, d, rates, column, tiers, lower, upper, scenario);
+        let two = value_bounds(
+            balance,
+            d,
+            rates,
+            column,
+            tiers,
+            &places,
+            &multipliers.paid,
+            &multipliers.left,
+            &multipliers.carried,
+            &multipliers.whole,
+            lower,
+            upper,
+            scenario,
+        );
         write(&mut values, 2 * scenario, &two);
         scenario += 1;
     }
@@ -44,21 +64,40 @@ pub fn values_of(
 }
 
 // Lower and upper value in a scenario.
-fn value_bounds(
+fn value_bounds<'a>(
     balance: u64,
     d: Deposit,
     rates: &RatePaths,
     column: usize,
     tiers: WithdrawalTiers,
+    places: &Places,
+    paid: &'a [u64; 17],
+    left: &'a [u64; 17],
+    carried: &'a [u64; 17],
+    whole: &'a [bool; 17],
     lower: &FactorTable,
     upper: &FactorTable,
     scenario: usize,
 ) -> [u64; 2]
     requires { ⌜ (balance ≤ balanceLimit) × DepositLimits d × ColumnRates (now rates) column × Usable tiers × (scenario < scenarioCount) ⌝ }
+    requires { ⌜ Placed tiers d (now rates) column (now places) × Multiplied tiers d (now paid) (now left) (now carried) (now whole) ⌝ }
     requires { ⌜ AtMostPar (now lower) × AtMostPar (now upper) ⌝ }
     ensures { λ r. ⌜ r ≡ valueBounds (tierTable tiers) balance d (shiftedPath scenario (now (rates .entry)) column) (now (lower .entry)) (now (upper .entry)) scenario ⌝ }
 {
-    let price = price_of(d, rates, column, tiers, lower, upper, scenario);
+    let price = price_of(
+        d,
+        rates,
+        column,
+        tiers,
+        places,
+        paid,
+        left,
+        carried,
+        whole,
+        lower,
+        upper,
+        scenario,
+    );
     [
         value_of(balance, price.lower, false),
         value_of(balance, price.upper, true),

@@ -4,7 +4,7 @@ use mathlib.Core.Path.{_≡_, refl, ap, _∙_}
 use mathlib.Core.List.{List}
 use lib.Dec.{lit<, lit≤}
 use lib.ListN.{getD, replicate}
-use native.Mathlib.Nat.{le-antisymm, mul-assoc, mul-le-mul, mul-le-mul-left, mul-le-mul-right, mul-lt-mul-of-pos-left, mul-lt-mul-of-pos-right, lt-of-mul-lt-mul-right, le-of-suc-le-suc, div-mul-le-self, lt-div-mul-add, mul-div-mul-left, div-div-eq-div-mul, mul-one}
+use native.Mathlib.Nat.{le-antisymm, mul-assoc, mul-le-mul, mul-le-mul-left, mul-le-mul-right, mul-lt-mul-of-pos-left, mul-lt-mul-of-pos-right, lt-of-mul-lt-mul-right, le-of-suc-le-suc, div-mul-le-self, lt-div-mul-add, mul-div-mul-left, div-div-eq-div-mul, mul-div-cancel-left, mul-one}
 use native.Mathlib.Omega.{arith}
 use Rattle.lists.specs.Tables.{tableFrom}
 use Rattle.lists.proofs.TableLaws.{table-getD, table-ext, table-le}
@@ -12,7 +12,7 @@ use Rattle.schedule.specs.Shift.{shiftedLimit, scenarioCount}
 use Rattle.pricing.specs.Scales.{par, rateScale}
 use Rattle.pricing.specs.Rounding.{Rounding, down, up, quotient}
 use Rattle.pricing.specs.Run.{discountBy}
-use Rattle.pricing.specs.Inner.Multipliers.{multiplierScale, multiplierBy, multipliersBy, scaledBy, scaledAllBy, discountsBy, AtMost, billionthsLimit}
+use Rattle.pricing.specs.Inner.Multipliers.{multiplierScale, multiplierBy, multipliersBy, scaledBy, raisedBy, twiceBy, twiceAllBy, twiceEach, halfEach, discountsBy, AtMost, billionthsLimit}
 use Rattle.pricing.proofs.RoundingLaws.{ceiling-ge, ceiling-lt}
 use Rattle.pricing.proofs.LimitLaws.{discount-limit}
 
@@ -23,7 +23,7 @@ module _ (x a w s m : ℕ) (pos : 0 < w) (some : 0 < s) where
 
   -- m is not too low, and too high by less than x brings out. With q and p the two quotients: p w s ≤ x a s ≤ x m w < (q + 1) s w and
   -- q s w ≤ x m w < x a s + s ≤ (p + 1) w s
-  floor-near : a * s ≤ m * w → x * (m * w) < x * (a * s) + s → x * m / s ≡ quotient down (x * a) w
+  pub floor-near : a * s ≤ m * w → x * (m * w) < x * (a * s) + s → x * m / s ≡ quotient down (x * a) w
   unfolding quotient
   floor-near low high =
       le-antisymm
@@ -33,7 +33,7 @@ module _ (x a w s m : ℕ) (pos : 0 < w) (some : 0 < s) where
 
   -- m is too low, but by no more than x brings out. With q and p the floor and the ceiling: q s w ≤ x m w < x a s ≤ p w s and
   -- p w s + s ≤ x a s + w s ≤ x m w + s + w s < (q + 2) s w + s
-  ceiling-near : 0 < x → m * w < a * s → x * (a * s) ≤ x * (m * w) + s → suc (x * m / s) ≡ quotient up (x * a) w
+  pub ceiling-near : 0 < x → m * w < a * s → x * (a * s) ≤ x * (m * w) + s → suc (x * m / s) ≡ quotient up (x * a) w
   ceiling-near more low high =
       le-antisymm
       (lt-of-mul-lt-mul-right (s * w)
@@ -104,15 +104,43 @@ pub discounts-at-most : (ρ : Rounding) (rates : List ℕ) (n : ℕ) → AtMost 
 unfolding discountsBy
 discounts-at-most ρ rates n = table-le 0 scenarioCount _ par (λ j l u. discount-limit (getD rates j 0) n ρ)
 
-pub discounts-zero : (ρ : Rounding) (rates : List ℕ) → replicate scenarioCount par ≡ discountsBy ρ rates 0
-unfolding discountsBy tableFrom discountBy
-discounts-zero ρ rates = refl
+-- no double is above twice par
+pub doubles-at-most : (ρ : Rounding) (rates : List ℕ) (n : ℕ) → AtMost (2 * par) (twiceEach (discountsBy ρ rates n))
+unfolding twiceEach
+doubles-at-most ρ rates n = table-le 0 scenarioCount _ (2 * par) (λ j l u. mul-le-mul-left 2 (discounts-at-most ρ rates n j))
+
+pub doubles-zero : (ρ : Rounding) (rates : List ℕ) → replicate scenarioCount (2 * par) ≡ twiceEach (discountsBy ρ rates 0)
+unfolding twiceEach discountsBy tableFrom discountBy
+doubles-zero ρ rates = refl
+
+-- twice a factor times its multiplier
+twice-scaled : (ρ : Rounding) (x m : ℕ) → twiceBy (raisedBy ρ) (2 * x) m ≡ 2 * scaledBy ρ x m
+unfolding raisedBy twiceBy scaledBy
+twice-scaled down x m = omega (arith, halved x m)
+twice-scaled up x m = omega (arith, halved x m)
 
 -- one factor more at each of them
-pub discounts-suc : (ρ : Rounding) (rates : List ℕ) (n : ℕ) → AtMost shiftedLimit rates
-    → scaledAllBy ρ (discountsBy ρ rates n) (multipliersBy ρ rates) ≡ discountsBy ρ rates (suc n)
-unfolding scaledAllBy discountsBy multipliersBy
-discounts-suc ρ rates n h =
+pub doubles-suc : (ρ : Rounding) (rates : List ℕ) (n : ℕ) → AtMost shiftedLimit rates
+    → twiceAllBy (raisedBy ρ) (twiceEach (discountsBy ρ rates n)) (multipliersBy ρ rates) ≡ twiceEach (discountsBy ρ rates (suc n))
+unfolding twiceAllBy twiceEach discountsBy multipliersBy
+doubles-suc ρ rates n h =
     table-ext scenarioCount _ _
-    (λ i l. rw (table-getD scenarioCount (λ (j : ℕ). discountBy ρ (getD rates j 0) n) i 0 l, table-getD scenarioCount (λ (j : ℕ). multiplierBy ρ (getD rates j 0)) i 0 l)
-    (factor-scaled ρ (getD rates i 0) n (h i)))
+    (λ i l. rw (
+      table-getD scenarioCount (λ (j : ℕ). 2 * getD (discountsBy ρ rates n) j 0) i 0 l,
+      table-getD scenarioCount (λ (j : ℕ). discountBy ρ (getD rates j 0) n) i 0 l,
+      table-getD scenarioCount (λ (j : ℕ). discountBy ρ (getD rates j 0) (suc n)) i 0 l,
+      table-getD scenarioCount (λ (j : ℕ). multiplierBy ρ (getD rates j 0)) i 0 l,
+      twice-scaled ρ (discountBy ρ (getD rates i 0) n) (multiplierBy ρ (getD rates i 0)),
+      factor-scaled ρ (getD rates i 0) n (h i),
+    ))
+
+-- the halves are the factors
+pub doubles-half : (ρ : Rounding) (rates : List ℕ) (n : ℕ) → halfEach (twiceEach (discountsBy ρ rates n)) ≡ discountsBy ρ rates n
+unfolding halfEach twiceEach discountsBy
+doubles-half ρ rates n =
+    table-ext scenarioCount _ _
+    (λ i l. rw (
+      table-getD scenarioCount (λ (j : ℕ). 2 * getD (discountsBy ρ rates n) j 0) i 0 l,
+      table-getD scenarioCount (λ (j : ℕ). discountBy ρ (getD rates j 0) n) i 0 l,
+      mul-div-cancel-left (discountBy ρ (getD rates i 0) n) {n = 2} (lit< tt),
+    ))

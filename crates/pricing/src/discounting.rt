@@ -3,11 +3,11 @@ use crate::PAR;
 use crate::products::upper_half;
 use schedule::scenarios::Scenario;
 ghost use mathlib.Core.Path.{_≡_};
-ghost use Prim.Native.Nat.{_≤_};
+ghost use Prim.Native.Nat.{_*_, _≤_};
 ghost use Rattle.schedule.specs.Shift.{shiftedLimit};
 ghost use Rattle.pricing.specs.Scales.{par};
 ghost use Rattle.pricing.specs.Rounding.{roundingOf};
-ghost use Rattle.pricing.specs.Inner.Multipliers.{multiplierBy, multipliersBy, scaledBy, scaledAllBy, discountsBy, AtMost};
+ghost use Rattle.pricing.specs.Inner.Multipliers.{multiplierBy, multipliersBy, raisedBy, twiceBy, twiceAllBy, halfEach, discountsBy, AtMost};
 
 // The scale of a yield as a month's rate (01:58).
 const RATE_SCALE: u64 = 120_000;
@@ -24,34 +24,54 @@ pub fn discount_factors(rates: &[u64; 7], n: u64, up: bool) -> [u64; 7]
     ensures { λ r. ⌜ r ≡ discountsBy (roundingOf up) (now (rates .entry)) n ⌝ }
 {
     let multipliers = multipliers_of(rates, up);
-    let mut factors = [PAR; 7];
+    let raised = raised_by(up);
+    let mut doubled = [2 * PAR; 7];
     for _ in 0..n {
-        factors = next_factors(&factors, &multipliers, up);
+        doubled = next_factors(&doubled, &multipliers, raised);
     }
-    factors
+    halves(&doubled)
 }
 
-// Each of seven factors times its multiplier.
-fn next_factors(factors: &[u64; 7], multipliers: &[u64; 7], up: bool) -> [u64; 7]
-    requires { ⌜ AtMost par (now factors) ⌝ }
-    ensures { λ r. ⌜ r ≡ scaledAllBy (roundingOf up) (now (factors .entry)) (now (multipliers .entry)) ⌝ }
+// Twice each of seven factors times its multiplier, from twice each factor.
+fn next_factors(doubled: &[u64; 7], multipliers: &[u64; 7], raised: u64) -> [u64; 7]
+    requires { ⌜ AtMost (2 * par) (now doubled) × (raised ≤ 2) ⌝ }
+    ensures { λ r. ⌜ r ≡ twiceAllBy raised (now (doubled .entry)) (now (multipliers .entry)) ⌝ }
 {
     let mut next = [0; 7];
     let mut i: usize = 0;
     while (i as u64) < Scenario::COUNT {
-        next[i] = next_factor(factors[i], multipliers[i], up);
+        next[i] = next_factor(doubled[i], multipliers[i], raised);
         i += 1;
     }
     next
 }
 
-// A factor times a multiplier: the product's floor, or 1 more, as an upper multiplier is too low by less than a factor can bring out.
-fn next_factor(factor: u64, multiplier: u64, up: bool) -> u64
-    requires { ⌜ factor ≤ par ⌝ }
-    ensures { λ r. ⌜ r ≡ scaledBy (roundingOf up) factor multiplier ⌝ }
+// Twice a factor times a multiplier, from twice the factor: twice the product's floor, and what is added to it.
+fn next_factor(doubled: u64, multiplier: u64, raised: u64) -> u64
+    requires { ⌜ (doubled ≤ 2 * par) × (raised ≤ 2) ⌝ }
+    ensures { λ r. ⌜ r ≡ twiceBy raised doubled multiplier ⌝ }
 {
-    let scaled = upper_half(2 * factor, multiplier);
-    if up { scaled + 1 } else { scaled }
+    2 * upper_half(doubled, multiplier) + raised
+}
+
+// What is added: an upper factor is 1 more than the product's floor, as an upper multiplier is too low by less than a factor can bring out.
+fn raised_by(up: bool) -> u64
+    ensures { λ r. ⌜ (r ≡ raisedBy (roundingOf up)) × (r ≤ 2) ⌝ }
+{
+    if up { 2 } else { 0 }
+}
+
+// The halves of seven numbers.
+fn halves(doubled: &[u64; 7]) -> [u64; 7]
+    ensures { λ r. ⌜ r ≡ halfEach (now (doubled .entry)) ⌝ }
+{
+    let mut factors = [0; 7];
+    let mut i: usize = 0;
+    while (i as u64) < Scenario::COUNT {
+        factors[i] = doubled[i] / 2;
+        i += 1;
+    }
+    factors
 }
 
 // The multipliers of seven rates.

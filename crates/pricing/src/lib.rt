@@ -1,8 +1,8 @@
 // Prices of certificate deposits by the monthly run, at either rounding.
 pub mod discounting;
 pub mod months;
-mod products;
-mod rounding;
+pub mod products;
+pub mod rounding;
 
 // The opening balance, and the scale of balances, flows, survivals, discount factors and prices: billionths.
 pub const PAR: u64 = 1_000_000_000;

@@ -6,7 +6,7 @@ ghost use Prim.Native.Nat.{_*_, _/_, _^_, _≤_};
 const HALF: u64 = 4_294_967_296;
 
 // x y / 2^64, by the halves of x and y: the compiler makes one multiplication of it.
-pub(crate) fn upper_half(x: u64, y: u64) -> u64
+pub fn upper_half(x: u64, y: u64) -> u64
     ensures { λ r. ⌜ (r ≡ x * y / 2 ^ 64) × (r ≤ x) ⌝ }
 {
     let carried = x / HALF * (y % HALF) + x % HALF * (y % HALF) / HALF;

@@ -22,7 +22,7 @@ pub(crate) fn quotient(n: u64, d: u64, up: bool) -> u64
 }
 
 // n / 10^9 as a whole number, rounded up or down, by one multiplication.
-pub(crate) fn billionths(n: u64, up: bool) -> u64
+pub fn billionths(n: u64, up: bool) -> u64
     requires { ⌜ n ≤ billionthsLimit ⌝ }
     ensures { λ r. ⌜ r ≡ spec.quotient (spec.roundingOf up) n par ⌝ }
 {

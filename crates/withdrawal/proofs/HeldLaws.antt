@@ -14,7 +14,7 @@ use Rattle.lists.specs.Tables.{tableFrom, table}
 use Rattle.lists.proofs.TableLaws.{table-length, table-getD, table-ext, table-le, table-stored}
 use Rattle.lists.proofs.TestLaws.{everyEntry, entries-le}
 use Rattle.withdrawal.specs.declared.WithdrawalTiers.{WithdrawalTiers}
-use Rattle.withdrawal.specs.Survival.{survival}
+use Rattle.withdrawal.specs.Survival.{survival, fullSurvival}
 use Rattle.schedule.specs.Limits.{tierLimit, edgeLimit, withdrawalLimit}
 use Rattle.withdrawal.specs.declared.ReachedTier.{ReachedTier}
 use Rattle.withdrawal.specs.Tiers.{WithdrawalTier, TierTable, Falling, tier, annualWithdrawal}
@@ -22,6 +22,7 @@ use Rattle.withdrawal.specs.Reached.{reachedTier}
 use Rattle.withdrawal.specs.Inner.TierArrays.{tierTable, tierTableOf, withSurvivals, inPlaces, held, TiersFit, Usable}
 use Rattle.withdrawal.proofs.TierLaws.{placeReached, place-withdrawal}
 use Rattle.withdrawal.proofs.HighestLaws.{edges-tried}
+use Rattle.withdrawal.proofs.SurvivalLaws.{survival-le}
 
 -- an array of which the first i places hold f 0, f 1, .., f (i - 1) and the others 0
 pub record Stored (f : ℕ → ℕ) (i : ℕ) (l : List ℕ) : Type 0 where
@@ -182,3 +183,14 @@ module _ (count otherwise : ℕ) (edge withdrawal : ℕ → ℕ) where
   unfolding tierTable tierTableOf withSurvivals
   placed-usable fit f =
       fit-usable count edges withdrawals otherwise fit placed-held (rw (ap (λ (x : TierTable). x .tiers) placed-table) f)
+
+-- no survival that usable tiers hold is above the whole
+pub survivals-le : (t : WithdrawalTiers) → Usable t → (i : ℕ) → getD (t .survivals) i 0 ≤ fullSurvival
+unfolding held tierTable tierTableOf
+survivals-le t u i =
+    rw (ap (λ (x : WithdrawalTiers). x .survivals) (u .held-is), map-table (λ (y : WithdrawalTier). survival (y .withdrawal)) 0 (t .count) _)
+    (places-le (t .count) _ fullSurvival (λ j. survival-le _) i)
+
+pub retained-le : (t : WithdrawalTiers) → Usable t → t .retained ≤ fullSurvival
+unfolding held
+retained-le t u = rw (ap (λ (x : WithdrawalTiers). x .retained) (u .held-is)) (survival-le _)

@@ -1,9 +1,10 @@
 -- The first tier that is reached, by its place: the tiers are tried one after the other from the highest edge. Assumes nothing.
-use Prim.Native.Nat.{ℕ, suc, _+_, _-_, _≤_, _<_}
-use mathlib.Core.Path.{_≡_, refl}
+use Prim.Native.Nat.{ℕ, zero, suc, _+_, _-_, _≤_, _<_}
+use mathlib.Core.Path.{_≡_, refl, sym, _∙_}
+use mathlib.Core.Logic.{⊎-elim}
 use mathlib.Core.Bool.{Bool, true, false, cond}
 use mathlib.Core.List.{List, [], _∷_, map}
-use native.Mathlib.Nat.{zero-add, add-zero}
+use native.Mathlib.Nat.{zero-add, add-zero, lt-suc-self, le-of-suc-le-suc, eq-or-lt-of-le}
 use native.Mathlib.Numerals.{add-one}
 use native.Mathlib.Omega.{arith}
 use lib.Dec.{ltb, leb·zero, leb·suc-suc}
@@ -13,6 +14,7 @@ use Rattle.lists.specs.Tables.{tableFrom}
 use Rattle.withdrawal.specs.declared.WithdrawalTiers.{WithdrawalTiers}
 use Rattle.withdrawal.specs.Tiers.{WithdrawalTier, tier, reached, firstReached}
 use Rattle.withdrawal.specs.Inner.TierArrays.{tierTable, tierTableOf}
+use Rattle.withdrawal.specs.Inner.Places.{Unreached, FirstPlace}
 
 module _ (gain : ℤ) (cost : ℕ) where
   -- the place of the first tier that is reached, counted from 0; the tiers' count where none is
@@ -37,6 +39,12 @@ module _ (gain : ℤ) (cost : ℕ) where
           ≡ f (cond b (x .withdrawal) (firstReached gain cost otherwise xs))
       by true i h = rw (leb·suc-suc, leb·zero)
       by false i h = rw leb·suc-suc h
+
+-- one place more
+pub unreached-more : (edges : List ℕ) (gain : ℤ) (cost place : ℕ) → Unreached edges gain cost place → reached gain cost (getD edges place 0) ≡ false
+    → Unreached edges gain cost (place + 1)
+unreached-more edges gain cost place u e i h =
+    ⊎-elim (λ q. rw q e) (u i) (eq-or-lt-of-le (le-of-suc-le-suc (rw add-one at h)))
 
 module _ (t : WithdrawalTiers) (gain : ℤ) (cost : ℕ) where
   -- the tier at a place of the code's arrays
@@ -72,3 +80,16 @@ module _ (t : WithdrawalTiers) (gain : ℤ) (cost : ℕ) where
   place-from-end i h =
       let m : t .count - i ≡ 0 = omega arith in
       rw (m, add-zero)
+
+  -- where no edge before a place is reached, the search from there ends where it would from the first
+  unreached-from : (i : ℕ) → i ≤ t .count → Unreached (t .edges) gain cost i → placeFrom i ≡ placeReached gain cost (tierTable t .tiers)
+  unreached-from zero h u = place-from-start
+  unreached-from (suc i) h u =
+      let e : suc i ≡ i + 1 = omega arith in
+      rw e (sym (place-from-suc i h (u i (lt-suc-self i)))) ∙ unreached-from i (omega arith) (λ j l. u j (omega arith))
+
+  -- the first place whose edge is reached
+  pub first-place : (i : ℕ) → FirstPlace (t .count) (t .edges) gain cost i → placeReached gain cost (tierTable t .tiers) ≡ i
+  first-place i f =
+      sym (unreached-from i (f .within) (f .before))
+      ∙ ⊎-elim (λ e. place-from-end i (omega arith)) (λ l. place-from-reached i l (f .here l)) (eq-or-lt-of-le (f .within))

@@ -2,10 +2,11 @@
 use crate::CouponParts;
 use crate::Incentive;
 ghost use mathlib.Core.Path.{_≡_};
-ghost use Prim.Native.Nat.{_≤_};
+ghost use Prim.Native.Nat.{suc, _≤_};
 ghost use Rattle.schedule.specs.Limits.{couponLimit, penaltyLimit, monthsLimit};
 ghost use Rattle.schedule.specs.Shift.{shiftedLimit};
-ghost use Rattle.withdrawal.specs.Inner.Incentives.{partsOf, incentiveFrom, PartsWithin};
+ghost use Rattle.withdrawal.specs.Gain.{atMost};
+ghost use Rattle.withdrawal.specs.Inner.Incentives.{partsOf, incentiveFrom, gainOf, PartsWithin, Small};
 
 // The scale of the gain (01:49; 02:CR 4).
 const GAIN_SCALE: u64 = 120_000_000;
@@ -38,4 +39,12 @@ pub fn gain_and_cost(parts: CouponParts, rate: u64, left: u64) -> Incentive
         forfeited: parts.forfeited,
         cost: parts.cost * left,
     }
+}
+
+// The gain is above the cost.
+pub fn gain_above_cost(incentive: Incentive) -> bool
+    requires { ⌜ Small incentive ⌝ }
+    ensures { λ r. ⌜ r ≡ atMost (suc (incentive .cost)) (gainOf incentive) ⌝ }
+{
+    incentive.cost + incentive.forfeited < incentive.earned
 }

@@ -6,59 +6,54 @@ use crate::WithdrawalTiers;
 use crate::all_survivals;
 use crate::survival;
 ghost use mathlib.Core.Path.{_≡_};
-ghost use Prim.Native.Nat.{_≤_};
-ghost use Rattle.schedule.specs.Limits.{edgeLimit};
+ghost use Prim.Native.Nat.{ℕ, _≤_};
+ghost use lib.ListN.{getD};
+ghost use Rattle.schedule.specs.Limits.{tierLimit, edgeLimit};
 ghost use Rattle.withdrawal.specs.Tiers.{reached, houseTiers};
 ghost use Rattle.withdrawal.specs.Reached.{reachedTier};
-ghost use Rattle.withdrawal.specs.Inner.TierArrays.{tierTable, tiersIn, withSurvivals, TiersFit, Usable};
+ghost use Rattle.withdrawal.specs.Inner.TierArrays.{tierTable, withSurvivals, TiersFit, Usable};
+ghost use Rattle.withdrawal.specs.Inner.Places.{Unreached, FirstPlace};
 ghost use Rattle.withdrawal.specs.Inner.Incentives.{gainOf, Small};
 
-// The tier that an incentive reaches among given tiers.
+// The tier that an incentive reaches among given tiers: the highest edge is tried first, and the search ends at the first that is reached.
 pub fn reached_tier(tiers: WithdrawalTiers, incentive: Incentive) -> ReachedTier
     requires { ⌜ Usable tiers × Small incentive ⌝ }
     ensures { λ r. ⌜ r ≡ reachedTier (tierTable tiers) (gainOf incentive) (incentive .cost) ⌝ }
 {
-    search(
-        tiers.count,
-        &tiers.edges,
-        &tiers.withdrawals,
-        &tiers.survivals,
-        tiers.otherwise,
-        tiers.retained,
-        incentive,
-    )
-}
-
-// The search in tiers whose arrays are lent: the highest edge is tried first, and it ends at the first that is reached.
-pub(crate) fn search<'a>(
-    count: usize,
-    edges: &'a [u64; TIER_LIMIT],
-    withdrawals: &'a [u64; TIER_LIMIT],
-    survivals: &'a [u64; TIER_LIMIT],
-    otherwise: u64,
-    retained: u64,
-    incentive: Incentive,
-) -> ReachedTier
-    requires { ⌜ Usable (tiersIn count (now edges) (now withdrawals) (now survivals) otherwise retained) × Small incentive ⌝ }
-    ensures { λ r. ⌜ r ≡ reachedTier (tierTable (tiersIn count (now (edges .entry)) (now (withdrawals .entry)) (now (survivals .entry)) otherwise retained)) (gainOf incentive) (incentive .cost) ⌝ }
-{
-    let mut tried: usize = 0;
-    while tried < count {
-        let at = tried;
-        tried += 1;
-        if reaches(incentive, edges[at]) {
-            return ReachedTier {
-                withdrawal: withdrawals[at],
-                survival: survivals[at],
-                edges_tried: tried,
-            };
-        }
+    let place = place_from(0, tiers.count, &tiers.edges, incentive);
+    if place < tiers.count {
+        return ReachedTier {
+            withdrawal: tiers.withdrawals[place],
+            survival: tiers.survivals[place],
+            edges_tried: place + 1,
+        };
     }
     ReachedTier {
-        withdrawal: otherwise,
-        survival: retained,
-        edges_tried: count,
+        withdrawal: tiers.otherwise,
+        survival: tiers.retained,
+        edges_tried: tiers.count,
     }
+}
+
+// The place of the first tier that is reached, counted from 0, or the tiers' count. No edge before place `from` is reached: the search goes on from there.
+pub fn place_from(
+    from: usize,
+    count: usize,
+    edges: &[u64; TIER_LIMIT],
+    incentive: Incentive,
+) -> usize
+    requires { ⌜ (count ≤ tierLimit) × ((i : ℕ) → getD (now edges) i 0 ≤ edgeLimit) × Small incentive ⌝ }
+    requires { ⌜ (from ≤ count) × Unreached (now edges) (gainOf incentive) (incentive .cost) from ⌝ }
+    ensures { λ r. ⌜ FirstPlace count (now (edges .entry)) (gainOf incentive) (incentive .cost) r ⌝ }
+{
+    let mut place = from;
+    while place < count {
+        if reaches(incentive, edges[place]) {
+            return place;
+        }
+        place += 1;
+    }
+    place
 }
 
 // An edge in hundredths is reached: 100 times the gain is at least the edge times the cost.

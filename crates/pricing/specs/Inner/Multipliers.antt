@@ -28,9 +28,24 @@ scaledBy up x m = suc (x * m / multiplierScale)
 unfoldable pub multipliersBy : Rounding → List ℕ → List ℕ
 multipliersBy ρ rates = table scenarioCount (λ (i : ℕ). multiplierBy ρ (getD rates i 0))
 
--- seven factors, each times its multiplier
-unfoldable pub scaledAllBy : Rounding → List ℕ → List ℕ → List ℕ
-scaledAllBy ρ xs ms = table scenarioCount (λ (i : ℕ). scaledBy ρ (getD xs i 0) (getD ms i 0))
+-- what is added to twice a product's floor: the upper factors are 1 more than it
+unfoldable pub raisedBy : Rounding → ℕ
+raisedBy down = 0
+raisedBy up = 2
+
+-- twice the factor that follows, from twice a factor
+unfoldable pub twiceBy : ℕ → ℕ → ℕ → ℕ
+twiceBy raised y m = 2 * (y * m / 2 ^ 64) + raised
+
+unfoldable pub twiceAllBy : ℕ → List ℕ → List ℕ → List ℕ
+twiceAllBy raised ys ms = table scenarioCount (λ (i : ℕ). twiceBy raised (getD ys i 0) (getD ms i 0))
+
+-- twice each of seven factors, and their halves
+unfoldable pub twiceEach : List ℕ → List ℕ
+twiceEach xs = table scenarioCount (λ (i : ℕ). 2 * getD xs i 0)
+
+unfoldable pub halfEach : List ℕ → List ℕ
+halfEach ys = table scenarioCount (λ (i : ℕ). getD ys i 0 / 2)
 
 -- the discount factors of seven rates after n factors each
 unfoldable pub discountsBy : Rounding → List ℕ → ℕ → List ℕ

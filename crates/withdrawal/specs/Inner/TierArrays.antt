@@ -59,15 +59,3 @@ pub record Usable (t : WithdrawalTiers) : Type 0 where
   pub edge-le : (i : ℕ) → getD (t .edges) i 0 ≤ edgeLimit
   pub held-is : t ≡ held (tierTable t)
   pub falling : Falling (tierTable t .tiers)
-
--- the tiers that arrays and numbers apart hold
-abbrev pub tiersIn : (count : ℕ) (edges withdrawals survivals : List ℕ) (otherwise retained : ℕ) → WithdrawalTiers
-tiersIn count edges withdrawals survivals otherwise retained =
-    record {
-      count = count;
-      edges = edges;
-      withdrawals = withdrawals;
-      survivals = survivals;
-      otherwise = otherwise;
-      retained = retained;
-    }

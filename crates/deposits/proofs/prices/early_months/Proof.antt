@@ -1,178 +1,103 @@
--- `deposits::prices::early_months` meets its contract: after t months both runs are the definitions' runs. Assumes nothing.
-use Prim.Native.Nat.{ℕ, suc, _+_, _*_, _-_, _<_}
-use mathlib.Core.Path.{_≡_, refl, ap, _∙_}
+-- `deposits::prices::early_months` meets its contract: after t months both runs are those that are walked. Assumes nothing.
+use Prim.Native.Nat.{suc, _+_, _*_, _-_, _≤_, _<_}
+use mathlib.Core.Path.{_≡_, refl}
 use native.Mathlib.Numerals.{add-one}
 use native.Mathlib.Omega.{arith}
-use Rattle.withdrawal.specs.MonthSurvival.{accountOf, monthSurvival}
-use Rattle.withdrawal.specs.Inner.TierArrays.{tierTable}
-use Rattle.withdrawal.specs.Inner.Incentives.{partsOf}
-use Rattle.withdrawal.proofs.IncentiveLaws.{parts-within, incentive-small}
-use Rattle.withdrawal.proofs.MonthSurvivalLaws.{early-month}
-use Rattle.pricing.specs.Rounding.{down, up, roundingOf}
-use Rattle.deposits.specs.declared.Runs.{Runs}
-use Rattle.deposits.specs.Inner.Prices.{listedRuns, shiftedPath}
-use Rattle.deposits.proofs.PriceLaws.{runs-zero, early-on, month-small}
+use Rattle.pricing.specs.Rounding.{down, up}
+use Rattle.deposits.specs.Inner.Places.{walkedBy}
 use Rattle.deposits.proofs.prices.early_months.Statement.{statement}
 use Rattle.deposits.proofs.prices.early_months.Tie as tie
 
 abbrev Inv-loop : tie.InvT-loop
-Inv-loop d rates column lower upper scenario tiers growth servicing parts early low₀ high₀ t₀ low high t =
-    (t < d .months) × (record { lower = low; upper = high } ≡ listedRuns (tierTable tiers) d (shiftedPath scenario rates column) lower upper scenario t)
+Inv-loop months places paid left carried whole lower upper scenario early low₀ high₀ t₀ low high t =
+    (t < months) × (low ≡ walkedBy down paid left carried whole places lower scenario t) × (high ≡ walkedBy up paid left carried whole places upper scenario t)
 
 abbrev μ-loop : tie.MeasureT-loop
-μ-loop d rates column lower upper scenario tiers growth servicing parts early low₀ high₀ t₀ low high t = early - t
-
-coupon-growth-requires : tie.Need-coupon-growth-requires Inv-loop μ-loop
-coupon-growth-requires c κs = c .pre .0 .0 .coupon-le
-
-servicing-cost-requires : tie.Need-servicing-cost-requires Inv-loop μ-loop
-servicing-cost-requires c κs = tt
-
-coupon-parts-requires : tie.Need-coupon-parts-requires Inv-loop μ-loop
-coupon-parts-requires c κs = let limits = c .before .before .pre .0 .0 in (limits .coupon-le, limits .penalty-le)
+μ-loop months places paid left carried whole lower upper scenario early low₀ high₀ t₀ low high t = early - t
 
 sub-early : tie.Need-sub-early Inv-loop μ-loop
 sub-early c = omega arith
 
 loop-holds : tie.Need-loop-holds Inv-loop μ-loop
-loop-holds c = (omega arith, runs-zero _ _ _ _ _ _)
+unfolding walkedBy
+loop-holds c = (omega arith, refl, refl)
 
-add-month-rate : tie.Need-add-month-rate Inv-loop μ-loop
-add-month-rate c = omega arith
+place-at-requires : tie.Need-place-at-requires Inv-loop μ-loop
+place-at-requires c κs = let start = c .before .before in (omega (arith, c .loop-test .taken, start .pre .0 .1), start .pre .0 .2)
 
-month-rate-requires : tie.Need-month-rate-requires Inv-loop μ-loop
-month-rate-requires c κs =
-    let start = c .before .before .before .before .before .before in
-    (start .pre .0 .1, omega (arith, start .pre .0 .3), omega arith, omega (arith, start .pre .0 .0 .months-le))
+-- the month has one after it
+early : (c : tie.In-loop Inv-loop μ-loop) → suc (c .before .loop .t) < c .before .before .args .months
+early c = omega (arith, c .loop-test .taken)
 
-sub-gain-and-cost : tie.Need-sub-gain-and-cost Inv-loop μ-loop
-sub-gain-and-cost c = omega arith
+-- the place of its factor
+factor-place : (c : tie.In-loop Inv-loop μ-loop) → 7 * c .before .loop .t + c .before .before .args .scenario < 840
+factor-place c = let start = c .before .before in omega (arith, c .loop-test .taken, start .pre .0 .1, start .pre .0 .2)
 
-gain-and-cost-requires : tie.Need-gain-and-cost-requires Inv-loop μ-loop
-gain-and-cost-requires c κs =
-    let parts = c .before .before .before .before in
-    let start = parts .before .before .before in
-    let limits = start .pre .0 .0 in (
-      rw (parts .coupon-parts .ensures) (parts-within (limits .coupon-le) (limits .penalty-le)),
-      c .month-rate .ensures .1,
-      omega (arith, limits .months-le),
-    )
-
-early-survival-requires : tie.Need-early-survival-requires Inv-loop μ-loop
-early-survival-requires c κs =
-    let incentive = c .before .before .before .before in
-    let rate = incentive .before in
-    let parts = rate .before .before .before .before in
-    let start = parts .before .before .before in
-    let limits = start .pre .0 .0 in (
-      start .pre .0 .2,
-      rw (incentive .gain-and-cost .ensures, parts .coupon-parts .ensures)
-          (incentive-small (parts-within (limits .coupon-le) (limits .penalty-le)) (rate .month-rate .ensures .1) (omega (arith, limits .months-le))),
-    )
-
--- the rate of the month
-abbrev rateOf : tie.Start Inv-loop μ-loop → ℕ → ℕ
-rateOf s = shiftedPath (s .args .scenario) (s .args .rates .now) (s .args .column)
-
--- the survival of the month
-survival-is : (c : tie.After-early-survival Inv-loop μ-loop)
-    → let at = c .before .before .before .before .before .before .before .before in
-    let start = at .before .before .before .before .before in
-    let a = start .args in
-    c .early-survival .result
-    ≡ monthSurvival (tierTable (a .t4)) (accountOf (a .d .brokered)) (a .d .coupon) (a .d .penalty) (rateOf start (suc (at .loop .t))) (a .d .months) (suc (at .loop .t))
-survival-is c =
-    let incentive = c .before .before .before .before .before in
-    let rate = incentive .before in
-    let test = rate .before in
-    let at = test .before in
-    let parts = at .before .before in
-    let start = parts .before .before .before in
-    let a = start .args in
-    let limits = start .pre .0 .0 in
-    let within : at .loop .t + 1 < a .d .months = omega (arith, test .loop-test .taken) in
-    rw (← (add-one (at .loop .t)), ← (rate .month-rate .ensures .0))
-    (early-month (tierTable (a .t4)) (accountOf (a .d .brokered)) (a .d .coupon) (a .d .penalty) (rate .month-rate .result) (a .d .months)
-    (at .loop .t + 1) (a .d .months - 1 - at .loop .t) (limits .coupon-le) (limits .penalty-le) (parts .coupon-parts .ensures)
-    (incentive .gain-and-cost .ensures) (c .early-survival .ensures) within (omega arith))
-
--- the place of the month's factor
-factor-place : (c : tie.In-loop Inv-loop μ-loop) → 7 * c .before .loop .t + c .before .before .before .before .before .before .args .scenario < 840
-factor-place c =
-    let start = c .before .before .before .before .before .before in
-    omega (arith, c .loop-test .taken, start .pre .0 .0 .months-le, start .pre .0 .3)
+multipliers-at-requires : tie.Need-multipliers-at-requires Inv-loop μ-loop
+multipliers-at-requires c κs =
+    let at = c .before .before in
+    rw (c .place-at .ensures) (at .before .pre .1 .0 .place-le (at .loop .t) (early (c .before)))
 
 mul-i : tie.Need-mul-i Inv-loop μ-loop
-mul-i c = omega arith
+mul-i c = omega (arith, factor-place (c .before .before))
 
 add-i : tie.Need-add-i Inv-loop μ-loop
-add-i c = omega arith
+add-i c = omega (arith, factor-place (c .before .before))
 
-mul-next-month : tie.Need-mul-next-month Inv-loop μ-loop
-mul-next-month c = omega arith
+mul-next-lower : tie.Need-mul-next-lower Inv-loop μ-loop
+mul-next-lower c = omega (arith, factor-place (c .before .before))
 
-element-copy-out-next-month : tie.Need-element-copy-out-next-month Inv-loop μ-loop
-element-copy-out-next-month c = omega arith
+element-copy-out-next-lower : tie.Need-element-copy-out-next-lower Inv-loop μ-loop
+element-copy-out-next-lower c = factor-place (c .before .before)
 
-next-month-requires : tie.Need-next-month-requires Inv-loop μ-loop
-unfolding listedRuns
-next-month-requires c κs =
-    let survival = c .before in
-    let at = survival .before .before .before .before .before .before .before .before in
-    let servicing = at .before .before .before in
-    let start = servicing .before .before in
-    let a = start .args in
-    month-small down (tierTable (a .t4)) (a .d) (rateOf start) (a .lower .now) (a .scenario) (at .loop .t) (servicing .before .coupon-growth .ensures)
-    (servicing .servicing-cost .ensures) (survival-is survival) refl (ap (λ (r : Runs). r .lower) (at .loop .inv .1)) (start .pre .0 .0)
-    (start .pre .1 .0) (at .loop .inv .0)
+next-lower-requires : tie.Need-next-lower-requires Inv-loop μ-loop
+next-lower-requires c κs =
+    let test = c .before .before .before in
+    let at = test .before in
+    let start = at .before in
+    rw (at .loop .inv .1) (start .pre .1 .0 .balance-le (at .loop .t) (early test), start .pre .1 .0 .price-le (at .loop .t) (early test), start .pre .0 .3 _)
 
-mul-next-month-2 : tie.Need-mul-next-month-2 Inv-loop μ-loop
-mul-next-month-2 c = omega (arith, factor-place (c .before .before .before .before .before .before .before .before .before))
+mul-next-upper : tie.Need-mul-next-upper Inv-loop μ-loop
+mul-next-upper c = omega (arith, factor-place (c .before .before .before .before))
 
-element-copy-out-next-month-2 : tie.Need-element-copy-out-next-month-2 Inv-loop μ-loop
-element-copy-out-next-month-2 c = factor-place (c .before .before .before .before .before .before .before .before .before)
+element-copy-out-next-upper : tie.Need-element-copy-out-next-upper Inv-loop μ-loop
+element-copy-out-next-upper c = factor-place (c .before .before .before .before)
 
-next-month-requires-2 : tie.Need-next-month-requires-2 Inv-loop μ-loop
-unfolding listedRuns
-next-month-requires-2 c κs =
-    let survival = c .before .before .before in
-    let at = survival .before .before .before .before .before .before .before .before in
-    let servicing = at .before .before .before in
-    let start = servicing .before .before in
-    let a = start .args in
-    month-small up (tierTable (a .t4)) (a .d) (rateOf start) (a .upper .now) (a .scenario) (at .loop .t) (servicing .before .coupon-growth .ensures)
-    (servicing .servicing-cost .ensures) (survival-is survival) refl (ap (λ (r : Runs). r .upper) (at .loop .inv .1)) (start .pre .0 .0)
-    (start .pre .1 .1) (at .loop .inv .0)
+next-upper-requires : tie.Need-next-upper-requires Inv-loop μ-loop
+next-upper-requires c κs =
+    let multipliers = c .before .before .before in
+    let place = multipliers .before in
+    let test = place .before in
+    let at = test .before in
+    let start = at .before in
+    let walk = start .pre .1 .1 in (
+      rw (at .loop .inv .2) (walk .balance-le (at .loop .t) (early test), walk .price-le (at .loop .t) (early test), start .pre .0 .4 _),
+      rw (multipliers .multipliers-at .ensures, place .place-at .ensures) (walk .paid-pos (at .loop .t) (early test), walk .carried-is (at .loop .t) (early test)),
+    )
 
 add-t : tie.Need-add-t Inv-loop μ-loop
-add-t c = omega (arith, factor-place (c .before .before .before .before .before .before .before .before .before .before .before))
+add-t c = omega (arith, factor-place (c .before .before .before .before .before .before))
 
 loop-less : tie.Need-loop-less Inv-loop μ-loop
 loop-less c = omega arith
 
 loop-again : tie.Need-loop-again Inv-loop μ-loop
-unfolding listedRuns roundingOf
+unfolding walkedBy
 loop-again c =
-    let survival = c .before .before .before .before in
-    let test = survival .before .before .before .before .before .before .before in
-    let at = test .before in
-    let servicing = at .before .before .before in
-    let growth = servicing .before .coupon-growth .ensures in
-    let start = servicing .before .before in
-    let a = start .args in
-    let within : suc (at .loop .t) < a .d .months = omega (arith, test .loop-test .taken) in
-    let low = c .before .before .next-month .ensures ∙
-    early-on down (tierTable (a .t4)) (a .d) (rateOf start) (a .lower .now) (a .scenario) (at .loop .t) growth (servicing .servicing-cost .ensures)
-    (survival-is survival) refl (ap (λ (r : Runs). r .lower) (at .loop .inv .1)) within in
-    let high = c .next-month2 .ensures ∙
-    early-on up (tierTable (a .t4)) (a .d) (rateOf start) (a .upper .now) (a .scenario) (at .loop .t) growth (servicing .servicing-cost .ensures)
-    (survival-is survival) refl (ap (λ (r : Runs). r .upper) (at .loop .inv .1)) within in
-    rw add-one (within, rw (low, high))
+    let multipliers = c .before .before .before .before in
+    let place = multipliers .before in
+    let at = place .before .before in
+    rw (add-one (at .loop .t)) (
+      early (place .before),
+      rw (c .before .before .next-lower .ensures, multipliers .multipliers-at .ensures, place .place-at .ensures, at .loop .inv .1),
+      rw (c .next-upper .ensures, multipliers .multipliers-at .ensures, place .place-at .ensures, at .loop .inv .2),
+    )
 
 returns : tie.Need-returns Inv-loop μ-loop
 returns c =
-    let e : c .before .loop .t ≡ c .before .before .before .before .before .before .args .d .months - 1 = omega arith in
-    rw (← e) (c .before .loop .inv .1)
+    let at = c .before in
+    let e : at .loop .t ≡ at .before .args .months - 1 = omega (arith, c .loop-test .left) in
+    rw (← e) (at .loop .inv .1, at .loop .inv .2)
 
 pub early-months-spec : {M : Type 1} → statement M
 early-months-spec =
@@ -180,24 +105,18 @@ early-months-spec =
     (tie.spec
     Inv-loop
     μ-loop
-    coupon-growth-requires
-    servicing-cost-requires
-    coupon-parts-requires
     sub-early
     loop-holds
-    add-month-rate
-    month-rate-requires
-    sub-gain-and-cost
-    gain-and-cost-requires
-    early-survival-requires
+    place-at-requires
+    multipliers-at-requires
     mul-i
     add-i
-    mul-next-month
-    element-copy-out-next-month
-    next-month-requires
-    mul-next-month-2
-    element-copy-out-next-month-2
-    next-month-requires-2
+    mul-next-lower
+    element-copy-out-next-lower
+    next-lower-requires
+    mul-next-upper
+    element-copy-out-next-upper
+    next-upper-requires
     add-t
     loop-less
     loop-again

@@ -1,13 +1,16 @@
 -- `deposits::prices::price_of` meets its contract. Assumes nothing.
 use Prim.Native.Nat.{ℕ, suc, _-_, _<_}
-use mathlib.Core.Path.{_≡_, refl, ap, _∙_}
+use mathlib.Core.Path.{_≡_, refl, _∙_}
+use mathlib.Core.List.{List}
 use native.Mathlib.Omega.{arith}
 use Rattle.withdrawal.specs.Inner.TierArrays.{tierTable}
-use Rattle.pricing.specs.declared.Run.{Run}
-use Rattle.pricing.specs.Rounding.{down, up, roundingOf}
-use Rattle.deposits.specs.declared.Runs.{Runs}
-use Rattle.deposits.specs.Inner.Prices.{listedPrices, listedRuns, shiftedPath}
+use Rattle.pricing.specs.Rounding.{Rounding, down, up, roundingOf}
+use Rattle.pricing.specs.Inner.Month.{runBy}
+use Rattle.deposits.specs.DepositTerms.{termsOf}
+use Rattle.deposits.specs.Inner.Places.{walkedBy, Walkable}
+use Rattle.deposits.specs.Inner.Prices.{listed, listedPrices, shiftedPath, AtMostPar}
 use Rattle.deposits.proofs.PriceLaws.{month-small, last-on, no-price, last-survival, last-price}
+use Rattle.deposits.proofs.WalkLaws.{walked-is, walkable}
 use borrow.Author.Needs.{needs}
 use Rattle.deposits.proofs.prices.price_of.Statement.{statement}
 use Rattle.deposits.proofs.prices.price_of.Tie as tie
@@ -19,10 +22,31 @@ returns c = no-price _ _ _ _ _ _ (c .if1 .taken)
 abbrev rateOf : tie.Start → ℕ → ℕ
 rateOf s = shiftedPath (s .args .scenario) (s .args .rates .now) (s .args .column)
 
+-- the months can be walked
+walkableOf : (ρ : Rounding) (s : tie.Start) (factors : List ℕ) → AtMostPar factors
+    → let a = s .args in Walkable ρ (a .paid .now) (a .left .now) (a .carried .now) (a .whole .now) (a .places .now) factors (a .scenario) (a .d .months)
+walkableOf ρ s factors p =
+    let a = s .args in
+    walkable ρ (a .tiers) (a .d) (a .rates .now) (a .column) (a .paid .now) (a .left .now) (a .carried .now) (a .whole .now) (a .places .now) factors (a .scenario) (s .pre .0 .0)
+    (s .pre .0 .2) (s .pre .1 .0 .0) (s .pre .1 .0 .1) (s .pre .0 .3) p
+
+-- and end with the run of the definitions
+walkedOf : (ρ : Rounding) (s : tie.Start) (factors : List ℕ) → AtMostPar factors → 0 < s .args .d .months
+    → let a = s .args in
+    walkedBy ρ (a .paid .now) (a .left .now) (a .carried .now) (a .whole .now) (a .places .now) factors (a .scenario) (a .d .months - 1)
+    ≡ runBy ρ (termsOf (tierTable (a .tiers)) (a .d) (rateOf s)) (listed factors (a .scenario)) (a .d .months - 1)
+walkedOf ρ s factors p some =
+    let a = s .args in
+    walked-is ρ (a .tiers) (a .d) (a .rates .now) (a .column) (a .paid .now) (a .left .now) (a .carried .now) (a .whole .now) (a .places .now) factors (a .scenario) (s .pre .0 .0)
+    (s .pre .0 .2) (s .pre .1 .0 .0) (s .pre .1 .0 .1) (s .pre .0 .3) p (a .d .months - 1) (omega arith)
+
 early-months-requires : tie.Need-early-months-requires
 early-months-requires c κs =
     let start = c .before in
-    ((start .pre .0 .0, start .pre .0 .1, start .pre .0 .2, start .pre .0 .3, omega (arith, c .if1 .left)), start .pre .1)
+    let factors = start .pre .1 .1 in (
+      (omega (arith, c .if1 .left), start .pre .0 .0 .months-le, start .pre .0 .3, factors .0, factors .1),
+      (walkableOf down start (start .args .lower .now) (factors .0), walkableOf up start (start .args .upper .now) (factors .1)),
+    )
 
 coupon-growth-requires : tie.Need-coupon-growth-requires
 coupon-growth-requires c κs = search needs
@@ -46,7 +70,6 @@ element-copy-out-next-month : tie.Need-element-copy-out-next-month
 element-copy-out-next-month c = search needs
 
 next-month-requires : tie.Need-next-month-requires
-unfolding listedRuns
 next-month-requires c κs =
     let servicing = c .before in
     let runs = servicing .before .before in
@@ -54,8 +77,8 @@ next-month-requires c κs =
     let a = start .args in
     let some : 0 < a .d .months = omega (arith, runs .before .if1 .left) in
     month-small down (tierTable (a .tiers)) (a .d) (rateOf start) (a .lower .now) (a .scenario) (a .d .months - 1) (servicing .before .coupon-growth .ensures)
-    (servicing .servicing-cost .ensures) (last-survival _ (a .d) (rateOf start) some) refl (ap (λ (r : Runs). r .lower) (runs .early-months .ensures))
-    (start .pre .0 .0) (start .pre .1 .0) (omega arith)
+    (servicing .servicing-cost .ensures) (last-survival _ (a .d) (rateOf start) some) refl (runs .early-months .ensures .0 ∙ walkedOf down start (a .lower .now) (start .pre .1 .1 .0) some)
+    (start .pre .0 .0) (start .pre .1 .1 .0) (omega arith)
 
 mul-next-month-2 : tie.Need-mul-next-month-2
 mul-next-month-2 c = search needs
@@ -64,7 +87,6 @@ element-copy-out-next-month-2 : tie.Need-element-copy-out-next-month-2
 element-copy-out-next-month-2 c = search needs
 
 next-month-requires-2 : tie.Need-next-month-requires-2
-unfolding listedRuns
 next-month-requires-2 c κs =
     let servicing = c .before .before .before in
     let runs = servicing .before .before in
@@ -72,11 +94,11 @@ next-month-requires-2 c κs =
     let a = start .args in
     let some : 0 < a .d .months = omega (arith, runs .before .if1 .left) in
     month-small up (tierTable (a .tiers)) (a .d) (rateOf start) (a .upper .now) (a .scenario) (a .d .months - 1) (servicing .before .coupon-growth .ensures)
-    (servicing .servicing-cost .ensures) (last-survival _ (a .d) (rateOf start) some) refl (ap (λ (r : Runs). r .upper) (runs .early-months .ensures))
-    (start .pre .0 .0) (start .pre .1 .1) (omega arith)
+    (servicing .servicing-cost .ensures) (last-survival _ (a .d) (rateOf start) some) refl (runs .early-months .ensures .1 ∙ walkedOf up start (a .upper .now) (start .pre .1 .1 .1) some)
+    (start .pre .0 .0) (start .pre .1 .1 .1) (omega arith)
 
 returns-2 : tie.Need-returns-2
-unfolding listedPrices listedRuns roundingOf
+unfolding listedPrices roundingOf
 returns-2 c =
     let servicing = c .before .before .before .before in
     let runs = servicing .before .before in
@@ -87,10 +109,10 @@ returns-2 c =
     let whole : suc (a .d .months - 1) ≡ a .d .months = omega arith in
     let low = c .before .before .next-month .ensures ∙
     last-on down (tierTable (a .tiers)) (a .d) (rateOf start) (a .lower .now) (a .scenario) (a .d .months - 1) growth (servicing .servicing-cost .ensures)
-    (last-survival _ (a .d) (rateOf start) some) refl (ap (λ (r : Runs). r .lower) (runs .early-months .ensures)) whole in
+    (last-survival _ (a .d) (rateOf start) some) refl (runs .early-months .ensures .0 ∙ walkedOf down start (a .lower .now) (start .pre .1 .1 .0) some) whole in
     let high = c .next-month2 .ensures ∙
     last-on up (tierTable (a .tiers)) (a .d) (rateOf start) (a .upper .now) (a .scenario) (a .d .months - 1) growth (servicing .servicing-cost .ensures)
-    (last-survival _ (a .d) (rateOf start) some) refl (ap (λ (r : Runs). r .upper) (runs .early-months .ensures)) whole in
+    (last-survival _ (a .d) (rateOf start) some) refl (runs .early-months .ensures .1 ∙ walkedOf up start (a .upper .now) (start .pre .1 .1 .1) some) whole in
     rw (
       low,
       high,

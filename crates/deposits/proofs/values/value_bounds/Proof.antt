@@ -18,7 +18,7 @@ value-of-requires c κs =
     let a = start .args in (
       start .pre .0 .0,
       rw (c .price-of .ensures) (listed-price-limit down (tierTable (a .tiers)) (a .d) (shiftedPath (a .scenario) (a .rates .now) (a .column)) (a .lower .now) _ (start .pre .0 .1)
-          (start .pre .1 .0)),
+          (start .pre .1 .1 .0)),
     )
 
 value-of-requires-2 : tie.Need-value-of-requires-2
@@ -28,7 +28,7 @@ value-of-requires-2 c κs =
     let a = start .args in (
       start .pre .0 .0,
       rw (c .before .price-of .ensures) (listed-price-limit up (tierTable (a .tiers)) (a .d) (shiftedPath (a .scenario) (a .rates .now) (a .column)) (a .upper .now) _ (start .pre .0 .1)
-          (start .pre .1 .1)),
+          (start .pre .1 .1 .1)),
     )
 
 returns : tie.Need-returns

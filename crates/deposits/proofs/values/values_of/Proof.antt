@@ -1,5 +1,5 @@
 -- `deposits::values::values_of` meets its contract: the scenarios passed are written. Assumes nothing.
-use Prim.Native.Nat.{ℕ, _+_, _*_, _-_, _≤_}
+use Prim.Native.Nat.{ℕ, _+_, _*_, _-_, _≤_, _<_}
 use mathlib.Core.List.{[]}
 use mathlib.Core.Path.{_≡_, _∙_}
 use native.Mathlib.Omega.{arith}
@@ -14,15 +14,21 @@ use Rattle.deposits.proofs.values.values_of.Statement.{statement}
 use Rattle.deposits.proofs.values.values_of.Tie as tie
 
 abbrev Inv-loop : tie.InvT-loop
-Inv-loop balance d rates column tiers lower upper values₀ scenario₀ values scenario =
+Inv-loop balance d rates column tiers lower upper values₀ places multipliers scenario₀ values scenario =
     (scenario ≤ 7) × Overwritten (joined (table scenario (λ (s : ℕ). valueBounds (tierTable tiers) balance d (shiftedPath s rates column) lower upper s))) (2 * scenario)
     (replicate 14 0) values
 
 abbrev μ-loop : tie.MeasureT-loop
-μ-loop balance d rates column tiers lower upper values₀ scenario₀ values scenario = 7 - scenario
+μ-loop balance d rates column tiers lower upper values₀ places multipliers scenario₀ values scenario = 7 - scenario
 
 returns : tie.Need-returns Inv-loop μ-loop
 returns c = rw (c .if1 .taken) (no-values _ _ _ _ _ _)
+
+early-places-requires : tie.Need-early-places-requires Inv-loop μ-loop
+early-places-requires c κs = let limits = c .before .pre .0 in (limits .1, limits .2, limits .3)
+
+place-multipliers-requires : tie.Need-place-multipliers-requires Inv-loop μ-loop
+place-multipliers-requires c κs = let limits = c .before .before .pre .0 in (limits .1, limits .3)
 
 loop-holds : tie.Need-loop-holds Inv-loop μ-loop
 unfolding tableFrom joined
@@ -30,9 +36,11 @@ loop-holds c = (omega arith, overwritten-none _)
 
 value-bounds-requires : tie.Need-value-bounds-requires Inv-loop μ-loop
 value-bounds-requires c κs =
-    let start = c .before .before .before in
+    let test = c .before .before .before .before .before .before in
+    let multipliers = test .before .before in
+    let start = multipliers .before .before .before in
     let limits = start .pre .0 in
-    ((limits .0, limits .1, limits .2, limits .3, omega arith), start .pre .1)
+    ((limits .0, limits .1, limits .2, limits .3, omega (arith, test .loop-test .taken)), ((multipliers .before .early-places .ensures, multipliers .place-multipliers .ensures), start .pre .1))
 
 slice-aggregate-write : tie.Need-slice-aggregate-write Inv-loop μ-loop
 slice-aggregate-write c = omega arith
@@ -55,14 +63,16 @@ loop-less c = omega arith
 loop-again : tie.Need-loop-again Inv-loop μ-loop
 loop-again c =
     let bounds = c .before .before .before .before in
-    let at = bounds .before .before in
-    let a = at .before .before .args in
+    let test = bounds .before .before .before .before .before .before .before in
+    let at = test .before in
+    let more : at .loop .scenario < 7 = omega (arith, test .loop-test .taken) in
+    let a = at .before .before .before .before .args in
     let state = at .loop in (
-      omega arith,
+      omega (arith, more),
       rw (c .before .write .ensures)
           (overwritten-row [] (λ (s : ℕ). valueBounds (tierTable (a .tiers)) (a .balance) (a .d) (shiftedPath s (a .rates .now) (a .column)) (a .lower .now) (a .upper .now) s) 2
           (λ s. bounds-length _ _ _ _ _ _ s) (state .scenario) (2 * state .scenario) (2 * (state .scenario + 1)) (replicate 14 0) (state .values)
-          (bounds .value-bounds .result) (state .inv .1) (bounds .value-bounds .ensures) (omega arith) (omega arith)),
+          (bounds .value-bounds .result) (state .inv .1) (bounds .value-bounds .ensures) (omega (arith, more)) (omega (arith, more))),
     )
 
 returns-2 : tie.Need-returns-2 Inv-loop μ-loop
@@ -78,6 +88,8 @@ values-of-spec =
     Inv-loop
     μ-loop
     returns
+    early-places-requires
+    place-multipliers-requires
     loop-holds
     value-bounds-requires
     slice-aggregate-write

@@ -1,0 +1,28 @@
+-- `deposits::prices::place_at` meets its contract. Assumes nothing.
+use borrow.Author.Needs.{needs}
+use Rattle.deposits.specs.Inner.Places.{placeAt}
+use Rattle.deposits.proofs.prices.place_at.Statement.{statement}
+use Rattle.deposits.proofs.prices.place_at.Tie as tie
+
+sub-wide : tie.Need-sub-wide
+sub-wide c = search needs
+
+mul-wide : tie.Need-mul-wide
+mul-wide c = search needs
+
+index-1-wide : tie.Need-index-1-wide
+index-1-wide c = search needs
+
+index-2-wide : tie.Need-index-2-wide
+index-2-wide c = search needs
+
+wide-requires : tie.Need-wide-requires
+wide-requires c κs = tt
+
+returns : tie.Need-returns
+unfolding placeAt
+returns c = c .wide .ensures
+
+pub place-at-spec : {M : Type 1} → statement M
+place-at-spec =
+    tie.close (tie.spec sub-wide mul-wide index-1-wide index-2-wide wide-requires returns)

@@ -1,0 +1,49 @@
+-- `month_steps::multipliers::multipliers_of` meets its contract. Assumes nothing.
+use borrow.Author.Needs.{needs}
+use Rattle.month_steps.specs.Multipliers.{multipliersOf}
+use Rattle.month_steps.proofs.multipliers.multipliers_of.Statement.{statement}
+use Rattle.month_steps.proofs.multipliers.multipliers_of.Tie as tie
+
+mul-share : tie.Need-mul-share
+mul-share c = search needs
+
+add-share : tie.Need-add-share
+add-share c = search needs
+
+beyond-whole-requires : tie.Need-beyond-whole-requires
+beyond-whole-requires c κs = search needs
+
+left-multiplier-requires : tie.Need-left-multiplier-requires
+left-multiplier-requires c κs = search needs
+
+add-paid-multiplier : tie.Need-add-paid-multiplier
+add-paid-multiplier c = search needs
+
+sub-paid-multiplier : tie.Need-sub-paid-multiplier
+sub-paid-multiplier c = search needs
+
+paid-multiplier-requires : tie.Need-paid-multiplier-requires
+paid-multiplier-requires c κs = search needs
+
+carried-of-requires : tie.Need-carried-of-requires
+carried-of-requires c κs = search needs
+
+returns : tie.Need-returns
+unfolding multipliersOf
+returns c =
+    let paid = c .before in
+    rw (c .carried-of .ensures, paid .paid-multiplier .ensures, paid .before .left-multiplier .ensures, paid .before .before .beyond-whole .ensures .0)
+
+pub multipliers-of-spec : {M : Type 1} → statement M
+multipliers-of-spec =
+    tie.close
+    (tie.spec
+    mul-share
+    add-share
+    beyond-whole-requires
+    left-multiplier-requires
+    add-paid-multiplier
+    sub-paid-multiplier
+    paid-multiplier-requires
+    carried-of-requires
+    returns)

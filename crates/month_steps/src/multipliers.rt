@@ -1,0 +1,72 @@
+// The multipliers of a month.
+use crate::MonthMultipliers;
+use pricing::PAR;
+ghost use mathlib.Core.Path.{_≡_};
+ghost use Prim.Native.Nat.{_+_, _*_, _^_, _<_, _≤_};
+ghost use Rattle.pricing.specs.Scales.{par, growthLimit, servicingLimit};
+ghost use Rattle.pricing.specs.Rounding.{up, quotient};
+ghost use Rattle.month_steps.specs.Multipliers.{beyond, carriedOf, multipliersOf};
+
+// The scale of a month's growth and survivors (01:56).
+const GROWTH_SCALE: u64 = 3 * PAR;
+
+// 2^63 / 10^9: the whole part, and the rest in billionths.
+const PAR_WHOLE: u64 = 9_223_372_036;
+
+const PAR_REST: u64 = 854_775_808;
+
+// 2^64 / (3 x 10^9): the whole part, and the rest in units of 1 / (3 x 10^9).
+const GROWTH_WHOLE: u64 = 6_148_914_691;
+
+const GROWTH_REST: u64 = 709_551_616;
+
+// The multipliers of a month, from the growth of its coupon, its servicing cost and its survival.
+pub fn multipliers_of(growth: u64, servicing: u64, survival: u64) -> MonthMultipliers
+    requires { ⌜ (growth ≤ growthLimit) × (servicing ≤ servicingLimit) × (survival ≤ par) ⌝ }
+    ensures { λ r. ⌜ r ≡ multipliersOf growth servicing survival ⌝ }
+{
+    let share = growth + 3 * survival;
+    let whole = GROWTH_SCALE <= share;
+    let left = left_multiplier(beyond_whole(share));
+    MonthMultipliers {
+        paid: paid_multiplier(servicing + PAR - survival),
+        left,
+        carried: carried_of(left),
+        whole,
+    }
+}
+
+// What of a share in units of 1 / (3 x 10^9) is beyond the whole.
+fn beyond_whole(share: u64) -> u64
+    requires { ⌜ share ≤ growthLimit + 3 * par ⌝ }
+    ensures { λ r. ⌜ (r ≡ beyond share) × (r < 3 * par) ⌝ }
+{
+    if GROWTH_SCALE <= share {
+        share - GROWTH_SCALE
+    } else {
+        share
+    }
+}
+
+// What an upper part is more than by one less.
+fn carried_of(left: u64) -> u64
+    ensures { λ r. ⌜ r ≡ carriedOf left ⌝ }
+{
+    if left == 0 { 0 } else { 1 }
+}
+
+// n / 10^9 in units of 1 / 2^63, rounded up.
+fn paid_multiplier(n: u64) -> u64
+    requires { ⌜ n ≤ par + servicingLimit ⌝ }
+    ensures { λ r. ⌜ r ≡ quotient up (n * 2 ^ 63) par ⌝ }
+{
+    PAR_WHOLE * n + (PAR_REST * n + (PAR - 1)) / PAR
+}
+
+// n / (3 x 10^9) in units of 1 / 2^64, rounded up.
+fn left_multiplier(n: u64) -> u64
+    requires { ⌜ n < 3 * par ⌝ }
+    ensures { λ r. ⌜ r ≡ quotient up (n * 2 ^ 64) (3 * par) ⌝ }
+{
+    GROWTH_WHOLE * n + (GROWTH_REST * n + (GROWTH_SCALE - 1)) / GROWTH_SCALE
+}
