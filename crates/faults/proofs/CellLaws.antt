@@ -21,6 +21,11 @@ use Rattle.faults.specs.RecordVerdicts.{shapeVerdict, bodyVerdict}
 use Rattle.faults.specs.Inner.PlainVerdicts.{plainVerdict, SoundCell}
 use Rattle.faults.proofs.RepetitionLaws.{cell-repeated}
 
+-- a class that has a limit above 0 is one of a listed cell
+pub limited-class : (class : ℕ) → (classLimit class ≡ 0 → ⊥) → class ≡ 0 → ⊥
+unfolding classLimit
+limited-class class h e = h (rw e)
+
 module _ (s : List ℕ) (at : ℕ) where
   -- no row of the table holds
   passes : incomplete s at ≡ false → misshapen s at ≡ false → unlisted s at ≡ false → repeated s at ≡ false → pathBesideFlat s at ≡ false

@@ -6,20 +6,16 @@ use bodies::tiers::unsound_tiers;
 use records::CELLS;
 use records::FIRST_CELL;
 use records::KINDS;
-use records::fields::record_cell;
+use records::fields::field_within;
 use records::fields::record_kind;
 use records::fields::record_length;
-use records::fields::record_value;
 use records::items::Item;
 use records::items::record_class;
 use records::items::record_item;
-use records::kinds::CELL_KIND;
 use records::kinds::FLAT_RATES_KIND;
 use records::kinds::RATE_PATH_KIND;
 use records::kinds::due_length;
 use records::kinds::names_cell;
-use schedule::tables::cell_class;
-use schedule::tables::class_limit;
 ghost use mathlib.Core.Path.{_≡_};
 ghost use mathlib.Core.Bool.{true};
 ghost use Prim.Native.Nat.{_≤_};
@@ -29,7 +25,7 @@ ghost use Rattle.answers.specs.Answers.{numberOf, placeOf, verdictOf};
 ghost use Rattle.records.specs.Inner.Notes.{notedBefore};
 ghost use Rattle.faults.specs.Faults as faults;
 ghost use Rattle.faults.specs.RecordVerdicts.{shapeVerdict, bodyVerdict};
-ghost use Rattle.faults.specs.Inner.PlainVerdicts.{plainVerdict, SoundCell};
+ghost use Rattle.faults.specs.Inner.PlainVerdicts.{plainVerdict, SoundCell, cellLimits};
 
 // The answer on the record at an offset by all tests but 16, given what is noted of the records before it.
 pub fn check_record(s: &[u8], at: usize, sheets: &[usize; KINDS], cells: &[usize; CELLS]) -> Answer
@@ -39,9 +35,9 @@ pub fn check_record(s: &[u8], at: usize, sheets: &[usize; KINDS], cells: &[usize
     first_refusal(check_shape(s, at, sheets, cells), check_body(s, at))
 }
 
-// A record of kind 1 that has no fault: the most frequent one, tested at once.
-pub fn sound_cell(s: &[u8], at: usize, cells: &[usize; CELLS]) -> bool
-    requires { ⌜ now cells ≡ notedBefore (now s) at .cells ⌝ }
+// A record of kind 1 that has no fault: the most frequent one, tested at once by the limits of the cells.
+pub fn sound_cell(s: &[u8], at: usize, cells: &[usize; CELLS], limits: &[u64; CELLS]) -> bool
+    requires { ⌜ (now cells ≡ notedBefore (now s) at .cells) × (now limits ≡ cellLimits) ⌝ }
     ensures { λ r. ⌜ (r ≡ true → SoundCell (now (s .entry)) at) ⌝ }
 {
     if s.len() < 14 {
@@ -50,22 +46,28 @@ pub fn sound_cell(s: &[u8], at: usize, cells: &[usize; CELLS]) -> bool
     if s.len() - 14 < at {
         return false;
     }
-    if record_length(s, at) != 12 {
+    if field_within(s, at, 0, 2) != 12 {
         return false;
     }
-    if record_kind(s, at) != CELL_KIND {
+    if field_within(s, at, 2, 2) != 1 {
         return false;
     }
-    let cell = record_cell(s, at);
-    let class = cell_class(cell);
-    if class == 0 {
+    let cell = field_within(s, at, 4, 2);
+    if cell < FIRST_CELL {
+        return false;
+    }
+    if FIRST_CELL + (CELLS as u64) <= cell {
         return false;
     }
     let i = (cell - FIRST_CELL) as usize;
+    let limit = limits[i];
+    if limit == 0 {
+        return false;
+    }
     if cells[i] < s.len() {
         return false;
     }
-    record_value(s, at) <= class_limit(class)
+    field_within(s, at, 6, 8) <= limit
 }
 
 // The tests before 16: 1 to 4 and 12.

@@ -8,7 +8,7 @@ use mathlib.Core.Bool.{Bool, true, false, cond}
 use mathlib.Core.List.{List}
 use borrow.Author.Tests.{ltb-true, ltb-false, lt-ltb, le-ltb}
 use lib.Dec.{ltb}
-use lib.ListN.{length, getD}
+use lib.ListN.{length, getD, replicate, getD-replicate}
 use lib.Seq.{ext-getD}
 use Rattle.lists.specs.Tables.{table, tableFrom, contains}
 use Rattle.lists.proofs.TableLaws.{tableFrom-getD, table-getD, table-length, table-ext}
@@ -63,14 +63,28 @@ pub sheet-noted : (s : List ℕ) (kind : ℕ) → kind < kindCount → getD (not
 unfolding sheetOffset
 sheet-noted s kind h = noted-sheet s (length s) kind h ∙ offset-end s (Sheet kind)
 
--- flat rates by column: the number of a place among the 360
-pub flat-number : (f : ℕ → ℕ) (i : ℕ) {a b c : ℕ} → i < rateCount → a ≡ f 1 → b ≡ f 2 → c ≡ f 3 → cond (ltb i 120) a (cond (ltb i 240) b c) ≡ f (i / monthsLimit + 1)
-flat-number f i {a} {b} {c} l p q r = by (ltb i 120) (ltb i 240) refl refl
+-- flat rates by column: the first in all places, the second from 120 on, and the third from 240 on
+pub flat-filled : (f : ℕ → ℕ) {first second third : ℕ} {middle last : List ℕ} → first ≡ f 1 → second ≡ f 2 → third ≡ f 3
+    → middle ≡ table rateCount (λ (i : ℕ). cond (ltb i 120) (getD (replicate rateCount first) i 0) second)
+    → last ≡ table rateCount (λ (i : ℕ). cond (ltb i 240) (getD middle i 0) third)
+    → last ≡ table rateCount (λ (i : ℕ). f (i / monthsLimit + 1))
+flat-filled f {first} {second} {third} {middle} {last} p q r m l = l ∙ table-ext rateCount _ _ at
   where
-    by : (u v : Bool) → ltb i 120 ≡ u → ltb i 240 ≡ v → cond u a (cond v b c) ≡ f (i / monthsLimit + 1)
-    by true v d e = let n : i / monthsLimit + 1 ≡ 1 = omega (arith, ltb-true i 120 d) in p ∙ ap f (sym n)
-    by false true d e = let n : i / monthsLimit + 1 ≡ 2 = omega (arith, ltb-false i 120 d, ltb-true i 240 e) in q ∙ ap f (sym n)
-    by false false d e = let n : i / monthsLimit + 1 ≡ 3 = omega (arith, ltb-false i 240 e) in r ∙ ap f (sym n)
+    low : (i : ℕ) → i < rateCount → (u : Bool) → ltb i 120 ≡ u → i < 240 → cond u (getD (replicate rateCount first) i 0) second ≡ f (i / monthsLimit + 1)
+    low i h true e b =
+        let n : i / monthsLimit + 1 ≡ 1 = omega (arith, ltb-true i 120 e) in
+        getD-replicate rateCount i first 0 h ∙ p ∙ ap f (sym n)
+    low i h false e b = let n : i / monthsLimit + 1 ≡ 2 = omega (arith, ltb-false i 120 e) in q ∙ ap f (sym n)
+
+    by : (i : ℕ) → i < rateCount → (v : Bool) → ltb i 240 ≡ v → cond v (getD middle i 0) third ≡ f (i / monthsLimit + 1)
+    by i h true e =
+        ap (λ (x : List ℕ). getD x i 0) m
+        ∙ table-getD rateCount (λ (j : ℕ). cond (ltb j 120) (getD (replicate rateCount first) j 0) second) i 0 h
+        ∙ low i h (ltb i 120) refl (ltb-true i 240 e)
+    by i h false e = let n : i / monthsLimit + 1 ≡ 3 = omega (arith, ltb-false i 240 e) in r ∙ ap f (sym n)
+
+    at : (i : ℕ) → i < rateCount → cond (ltb i 240) (getD middle i 0) third ≡ f (i / monthsLimit + 1)
+    at i h = by i h (ltb i 240) refl
 
 -- the rates of a filing, by the sheet that holds them
 module _ (s : List ℕ) {path : ℕ} (path-is : path ≡ sheetOffset s ratePathKind) where

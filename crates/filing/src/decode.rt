@@ -23,7 +23,7 @@ ghost use mathlib.Core.Path.{_≡_};
 ghost use mathlib.Core.Bool.{cond};
 ghost use Prim.Native.Nat.{_+_, _/_, _≤_, _<_};
 ghost use lib.Dec.{ltb};
-ghost use lib.ListN.{length};
+ghost use lib.ListN.{length, getD};
 ghost use Rattle.lists.specs.Tables.{table, tableFrom};
 ghost use Rattle.schedule.specs.Limits.{cellClass, heldLimit, monthsLimit, tierLimit};
 ghost use Rattle.records.specs.Records.{recordCell, sheetNumber};
@@ -139,23 +139,22 @@ fn flat_rates(s: &[u8], flat: usize) -> [u16; 360]
     let first = sheet_number(s, flat, 1);
     let second = sheet_number(s, flat, 2);
     let third = sheet_number(s, flat, 3);
-    let mut rates = [0; 360];
-    let mut i = 0;
-    while i < 360 {
-        rates[i] = flat_rate(first, second, third, i);
-        i += 1;
-    }
+    let mut rates = [first; 360];
+    fill_from(&mut rates, 120, second);
+    fill_from(&mut rates, 240, third);
     rates
 }
 
-// The i-th of them, from 0.
-fn flat_rate(first: u16, second: u16, third: u16, i: usize) -> u16
-    ensures { λ r. ⌜ r ≡ cond (ltb i 120) first (cond (ltb i 240) second third) ⌝ }
+// Fills in a rate from a place on.
+fn fill_from(rates: &mut [u16; 360], from: usize, rate: u16)
+    requires { ⌜ (from ≤ rateCount) × (length (now rates) ≡ rateCount) ⌝ }
+    ensures { λ _. ⌜ now (rates .exit) ≡ table rateCount (λ i. cond (ltb i from) (getD (now (rates .entry)) i 0) rate) ⌝ }
 {
-    if i < 120 {
-        return first;
+    let mut i = from;
+    while i < 360 {
+        rates[i] = rate;
+        i += 1;
     }
-    if i < 240 { second } else { third }
 }
 
 // The tiers of the record at an offset.

@@ -1,6 +1,6 @@
 -- What a record is one of: which records are of a cell, of an amendment and of a sheet, and when two items are the same.
 -- Assumes nothing.
-use Prim.Native.Nat.{ℕ, zero, suc, _+_, _≤_, _<_}
+use Prim.Native.Nat.{ℕ, _+_, _≤_, _<_}
 use native.Mathlib.Omega.{arith}
 use mathlib.Core.Path.{_≡_, refl, sym, ap, _∙_}
 use mathlib.Core.Bool.{Bool, true, false, cond, _&&_, true≢false}
@@ -13,7 +13,7 @@ use Rattle.schedule.proofs.ClassLaws.{class-listed}
 use Rattle.records.specs.declared.items.Item.{Item}
 use Rattle.records.specs.declared.items.Item.the-variants.{Cell, Sheet, Amendment, Nothing}
 use Rattle.records.specs.Records.{recordKind, recordCell, amendmentNumber}
-use Rattle.records.specs.Kinds.{kindCount, cellKind, fineCouponKind, amendmentKind, flatRatesKind, ratePathKind, givesCell, sheetOf, sheetKinds, sheetKind, sheetLength, tiersKind, dueLength}
+use Rattle.records.specs.Kinds.{kindCount, cellKind, fineCouponKind, amendmentKind, givesCell, sheetOf, sheetKinds, sheetKind, sheetLength, tiersKind, dueLength}
 use Rattle.records.specs.Items.{sameItem, recordClass, recordItem, firstWith}
 use Rattle.records.specs.Inner.Notes.{firstCell, cellCount}
 use Rattle.records.proofs.ByteLaws.{number-past}
@@ -55,19 +55,6 @@ pub with-passes : (s : List ℕ) (item : Item) (end : ℕ) → firstWith s item 
 unfolding firstWith
 with-passes s item end h =
     same-item (recordItem s (firstWith s item end)) item (first-passes s (λ (at : ℕ). sameItem (recordItem s at) item) end h)
-
--- a kind that is no sheet holds no number
-pub no-sheet : (kind : ℕ) → (kind ≡ 2 → ⊥) → (kind ≡ flatRatesKind → ⊥) → (kind ≡ ratePathKind → ⊥) → sheetKind kind ≡ sheetOf 0 0
-unfolding sheetKind sheetKinds
-no-sheet zero a b c = refl
-no-sheet (suc zero) a b c = refl
-no-sheet (suc (suc zero)) a b c = absurd (a refl)
-no-sheet (suc (suc (suc zero))) a b c = absurd (b refl)
-no-sheet (suc (suc (suc (suc zero)))) a b c = refl
-no-sheet (suc (suc (suc (suc (suc zero))))) a b c = absurd (c refl)
-no-sheet (suc (suc (suc (suc (suc (suc zero)))))) a b c = refl
-no-sheet (suc (suc (suc (suc (suc (suc (suc zero))))))) a b c = refl
-no-sheet (suc (suc (suc (suc (suc (suc (suc (suc kind)))))))) a b c = refl
 
 -- no record stands past the end
 pub item-past : (s : List ℕ) (at : ℕ) → length s ≤ at → recordItem s at ≡ Nothing

@@ -107,6 +107,14 @@ pub fn tier_count(s: &[u8], at: usize) -> u16
     sheet_number(s, at, 1)
 }
 
+// The same as below, of a number that lies before the end.
+pub fn field_within(s: &[u8], at: usize, skip: usize, width: usize) -> u64
+    requires { ⌜ (width ≤ 8) × (at + skip + width ≤ length (now s)) ⌝ }
+    ensures { λ r. ⌜ r ≡ numberAt (now (s .entry)) (at + skip) width ⌝ }
+{
+    number_within(s, at + skip, width)
+}
+
 // The number of `width` bytes that stands `skip` bytes into the record at an offset.
 fn field_at(s: &[u8], at: usize, skip: usize, width: usize) -> u64
     requires { ⌜ width ≤ 8 ⌝ }

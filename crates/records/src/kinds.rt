@@ -1,14 +1,12 @@
 // The kinds of record: what a sheet of each kind holds, and the length that a record is to have.
+use crate::KINDS;
 use crate::fields::record_kind;
 use crate::fields::tier_count;
 ghost use mathlib.Core.Path.{_≡_};
-ghost use Rattle.schedule.specs.Limits.{rateLimit};
-ghost use Rattle.records.specs.Kinds.{sheetOf, givesCell, namesCell, sheetKind, dueLength};
+ghost use Rattle.records.specs.Kinds.{givesCell, namesCell, sheetKind, dueLength};
 
 // The kinds: a cell, flat retail rates, tiers, retail rates by month, a coupon in thousandths, an amendment.
 pub const CELL_KIND: usize = 1;
-
-pub const YIELDS_KIND: usize = 2;
 
 pub const FLAT_RATES_KIND: usize = 3;
 
@@ -26,32 +24,52 @@ pub struct SheetKind {
     pub limit: u16,
 }
 
+const SHEET_KINDS: [SheetKind; KINDS] = [
+    SheetKind {
+        numbers: 0,
+        limit: 0,
+    },
+    SheetKind {
+        numbers: 0,
+        limit: 0,
+    },
+    SheetKind {
+        numbers: 120,
+        limit: 2_500,
+    },
+    SheetKind {
+        numbers: 3,
+        limit: 2_500,
+    },
+    SheetKind {
+        numbers: 0,
+        limit: 0,
+    },
+    SheetKind {
+        numbers: 360,
+        limit: 2_500,
+    },
+    SheetKind {
+        numbers: 0,
+        limit: 0,
+    },
+    SheetKind {
+        numbers: 0,
+        limit: 0,
+    },
+];
+
 // The sheet of a kind.
 pub fn sheet_kind(kind: usize) -> SheetKind
     ensures { λ r. ⌜ r ≡ sheetKind kind ⌝ }
 {
-    if kind == YIELDS_KIND {
-        return sheet_of(120);
-    }
-    if kind == FLAT_RATES_KIND {
-        return sheet_of(3);
-    }
-    if kind == RATE_PATH_KIND {
-        return sheet_of(360);
-    }
-    SheetKind {
-        numbers: 0,
-        limit: 0,
-    }
-}
-
-// A sheet of so many rates.
-fn sheet_of(numbers: u16) -> SheetKind
-    ensures { λ r. ⌜ r ≡ sheetOf numbers rateLimit ⌝ }
-{
-    SheetKind {
-        numbers,
-        limit: 2_500,
+    if kind < KINDS {
+        SHEET_KINDS[kind]
+    } else {
+        SheetKind {
+            numbers: 0,
+            limit: 0,
+        }
     }
 }
 

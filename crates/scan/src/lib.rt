@@ -14,6 +14,7 @@ use records::fields::record_cell;
 use records::notes::Noted;
 use records::notes::note;
 use records::notes::note_cell;
+use schedule::cell_limits::cell_limits;
 ghost use mathlib.Core.Path.{_≡_};
 ghost use Prim.Native.Nat.{_<_};
 ghost use lib.ListN.{length};
@@ -21,7 +22,7 @@ ghost use Rattle.answers.specs.Answers.{verdictOf};
 ghost use Rattle.records.specs.Records.{nextRecord};
 ghost use Rattle.records.specs.Inner.Notes.{notedAs, notedBefore};
 ghost use Rattle.scan.specs.Inner.Scans.{Visited};
-ghost use Rattle.faults.specs.Inner.PlainVerdicts.{firstPlain, plainsVerdict};
+ghost use Rattle.faults.specs.Inner.PlainVerdicts.{firstPlain, plainsVerdict, cellLimits};
 
 // What stands at an offset of a filing.
 pub enum Step {
@@ -48,9 +49,18 @@ pub fn scan(s: &[u8]) -> Scanned
     let mut cells = [s.len(); CELLS];
     let mut counting = [s.len(); CELLS];
     let mut falling = [false; CELLS];
+    let limits = cell_limits();
     let mut at = 0;
     while at < s.len() {
-        let answer = visit(s, at, &mut sheets, &mut cells, &mut counting, &mut falling);
+        let answer = visit(
+            s,
+            at,
+            &mut sheets,
+            &mut cells,
+            &mut counting,
+            &mut falling,
+            &limits,
+        );
         if number(answer) != 0 {
             return Scanned {
                 answer,
@@ -85,11 +95,12 @@ fn visit(
     cells: &mut [usize; CELLS],
     counting: &mut [usize; CELLS],
     falling: &mut [bool; CELLS],
+    limits: &[u64; CELLS],
 ) -> Answer
-    requires { ⌜ (at < length (now s)) × (notedAs (now sheets) (now cells) (now counting) (now falling) ≡ notedBefore (now s) at) ⌝ }
+    requires { ⌜ (at < length (now s)) × (notedAs (now sheets) (now cells) (now counting) (now falling) ≡ notedBefore (now s) at) × (now limits ≡ cellLimits) ⌝ }
     ensures { λ r. ⌜ Visited (now (s .entry)) at r (notedAs (now (sheets .exit)) (now (cells .exit)) (now (counting .exit)) (now (falling .exit))) ⌝ }
 {
-    if sound_cell(s, at, cells) {
+    if sound_cell(s, at, cells, limits) {
         note_cell(s, at, record_cell(s, at), cells, counting);
         return Answer::Accepted;
     }

@@ -4,6 +4,9 @@ use mathlib.Core.Path.{_≡_}
 use mathlib.Core.List.{List}
 use Rattle.answers.specs.Verdict.{Verdict, accepted, firstRefusal}
 use Rattle.records.specs.declared.items.Item.the-variants.{Cell}
+use Rattle.lists.specs.Tables.{tableFrom}
+use Rattle.schedule.specs.Limits.{cellClass, classLimit}
+use Rattle.records.specs.Inner.Notes.{firstCell, cellCount}
 use Rattle.records.specs.Records.{recordCell}
 use Rattle.records.specs.Items.{recordItem}
 use Rattle.faults.specs.RecordVerdicts.{shapeVerdict, bodyVerdict, firstRefused, verdictBy}
@@ -17,6 +20,10 @@ firstPlain s = firstRefused s (plainVerdict s)
 
 abbrev pub plainsVerdict : List ℕ → Verdict
 plainsVerdict s = verdictBy s (plainVerdict s)
+
+-- the largest values of cells 601 to 661 in a record of kind 1, 0 where a cell is not listed
+abbrev pub cellLimits : List ℕ
+cellLimits = tableFrom firstCell cellCount (λ (cell : ℕ). classLimit (cellClass cell))
 
 -- a record of a cell that they do not refuse
 pub record SoundCell (s : List ℕ) (at : ℕ) : Type 0 where

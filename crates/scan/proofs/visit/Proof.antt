@@ -13,7 +13,7 @@ use Rattle.scan.proofs.visit.Statement.{statement}
 use Rattle.scan.proofs.visit.Tie as tie
 
 sound-cell-requires : tie.Need-sound-cell-requires
-sound-cell-requires c κs = ap (λ (n : Noted). n .cells) (c .before .before .pre .1)
+sound-cell-requires c κs = (ap (λ (n : Noted). n .cells) (c .before .before .pre .1), c .before .before .pre .2)
 
 record-cell-requires : tie.Need-record-cell-requires
 record-cell-requires c κs = search needs

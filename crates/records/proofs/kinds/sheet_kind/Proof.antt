@@ -1,45 +1,25 @@
--- `sheet_kind` meets its contract: the kinds that it tests are the definition's sheets.
+-- `sheet_kind` meets its contract: its table is the definition's own.
 -- Assumes nothing.
 use borrow.Author.Needs.{needs}
-use mathlib.Core.Path.{sym, _∙_}
+use mathlib.Core.Path.{refl, sym}
+use lib.ListN.{List·getD-eq-default}
 use Rattle.records.specs.Kinds.{sheetOf, sheetKinds, sheetKind}
-use Rattle.records.proofs.ItemLaws.{no-sheet}
 use Rattle.records.proofs.kinds.sheet_kind.Statement.{statement}
 use Rattle.records.proofs.kinds.sheet_kind.Tie as tie
 
-sheet-of-requires : tie.Need-sheet-of-requires
-sheet-of-requires c κs = search needs
+mul-result : tie.Need-mul-result
+mul-result c = search needs
+
+array-copy-out-result : tie.Need-array-copy-out-result
+array-copy-out-result c = search needs
 
 returns : tie.Need-returns
-unfolding sheetKind sheetKinds
-returns c = rw (c .before .if1 .taken) (c .sheet-of .ensures)
-
-sheet-of-requires-2 : tie.Need-sheet-of-requires-2
-sheet-of-requires-2 c κs = search needs
+unfolding sheetOf sheetKinds sheetKind
+returns c = refl
 
 returns-2 : tie.Need-returns-2
-unfolding sheetKind sheetKinds
-returns-2 c = rw (c .before .if2 .taken) (c .sheet-of2 .ensures)
-
-sheet-of-requires-3 : tie.Need-sheet-of-requires-3
-sheet-of-requires-3 c κs = search needs
-
-returns-3 : tie.Need-returns-3
-unfolding sheetKind sheetKinds
-returns-3 c = rw (c .before .if3 .taken) (c .sheet-of3 .ensures)
-
-returns-4 : tie.Need-returns-4
-unfolding sheetOf
-returns-4 c = sym (no-sheet _ (c .before .before .if1 .left) (c .before .if2 .left) (c .if3 .left))
+unfolding sheetOf sheetKinds sheetKind
+returns-2 c = sym (List·getD-eq-default sheetKinds (sheetOf 0 0) (c .if1 .left))
 
 pub sheet-kind-spec : {M : Type 1} → statement M
-sheet-kind-spec =
-    tie.close
-    (tie.spec
-    sheet-of-requires
-    returns
-    sheet-of-requires-2
-    returns-2
-    sheet-of-requires-3
-    returns-3
-    returns-4)
+sheet-kind-spec = tie.close (tie.spec mul-result array-copy-out-result returns returns-2)
