@@ -1,9 +1,11 @@
 /*
  * The proved library beside the plain C versions. Without arguments: checks that all give the same answers and numbers on every filing used, and
  * prints times. `bench once VERSION FILING` runs one valuation, for counting instructions; VERSION 0 is a, 1 b, 2 c, 3 d, 4 the library.
- * `bench random COUNT SEED` only compares all versions on random filings.
+ * `bench random COUNT SEED` only compares all versions on random filings, and the calls of certificates and books on random lists.
  */
 #define _POSIX_C_SOURCE 200809L
+#include "book.h"
+#include "certificates.h"
 #include "filings.h"
 #include "spritapricot.h"
 #include "stack.h"
@@ -140,11 +142,20 @@ static void take_apart(double least[FILINGS][VERSIONS])
     printf("proved, of the worst filing: reading with shares %.3f\n", least[NO_BALANCES][PROVED] / least[WORST][PROVED]);
 }
 
+/* A book with one change, called as a valuation is. */
+static uint64_t book_of_one(const uint8_t *filing, size_t size, uint64_t *numbers, size_t length, uint64_t *place)
+{
+    static const uint64_t change[5] = {32, 1000, 5000, 120, 300};
+    (void)length;
+    return spritapricot_book(filing, size, change, 5, numbers, place);
+}
+
 static void stacks(void)
 {
     struct input f = named("worst-all");
     printf("\nstack of one call, bytes:");
-    for (int v = 0; v < VERSIONS; v++) printf(" %s %zu%s", version_name[v], stack_of(version[v], f), v < PROVED ? "," : "\n");
+    for (int v = 0; v < VERSIONS; v++) printf(" %s %zu,", version_name[v], stack_of(version[v], f));
+    printf(" a book %zu\n", stack_of(book_of_one, f));
     free(f.bytes);
 }
 
@@ -203,13 +214,19 @@ int main(int argc, char **argv)
     if (argc == 4 && strcmp(argv[1], "random") == 0) {
         start_random(strtoull(argv[3], NULL, 10));
         compare_random(atoi(argv[2]));
+        compare_certificates(atoi(argv[2]));
+        compare_books(atoi(argv[2]));
         return 0;
     }
     compare_random(4000);
+    compare_certificates(4000);
+    compare_books(1000);
     compare(least);
     take_apart(least);
     stacks();
     refused_inputs();
     amended_inputs();
+    time_certificates(least[WORST][PROVED], now);
+    time_book(least[WORST][PROVED], now);
     return 0;
 }

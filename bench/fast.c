@@ -1,6 +1,6 @@
 /*
  * Plain C with 128-bit products (gcc, clang), for the same numbers as plain.c. Compiled twice: with EACH_MONTH every month tries the tiers from the
- * top, without it a tier is kept for as many months as it holds, which is as fast as it was made here. VALUE is the function's name. No month and no
+ * top, without it a tier is kept for as many months as it holds, which is as fast as it was made here. VALUE and BOOK are the functions' names. No month and no
  * factor divides: x * n / d rounded down is the upper half of x * m, where m is 2^64 * n / d rounded up; rounded up it is 1 more than the upper half of
  * x * (m - 1), for x from 1 on. Both are exact where x * d is at most 2^64: balances and flows stay under 4.6 * 10^9, and d is at most 3 * 10^9.
  */
@@ -200,12 +200,23 @@ static struct pair price(const struct deposit *d, int is_brokered, int s, const 
     return d->flat ? retail_flat(d, s, factor) : retail_path(d, s, factor);
 }
 
+/* Lower and upper value in the seven scenarios of a place that holds a balance. */
+static void value_place(const struct contents *k, const struct place *p, int i, struct pair factor[7][120], uint64_t to[14])
+{
+    struct deposit d;
+    open(&d, k, p, i % 4 >= 2);
+    for (int s = 0; s < 7; s++) {
+        struct pair price_of = price(&d, i % 4 >= 2, s, factor[s]);
+        to[2 * s] = p->balance * price_of.lower / 1000000;
+        to[2 * s + 1] = (p->balance * price_of.upper + 999999) / 1000000;
+    }
+}
+
 uint64_t VALUE(const uint8_t *filing, size_t filing_length, uint64_t *numbers, size_t numbers_length, uint64_t *place)
 {
     struct contents k;
     struct place places[36];
     struct pair factor[7][120];
-    struct deposit d;
     int longest = 0;
     *place = numbers_length;
     if (numbers_length < 568) return 10;
@@ -219,15 +230,59 @@ uint64_t VALUE(const uint8_t *filing, size_t filing_length, uint64_t *numbers, s
     for (int i = 0; i < 36; i++) {
         uint64_t balance = places[i].balance, *to = numbers + 15 * i, *total = numbers + 540 + (i < 24 ? 0 : 2);
         if (balance == 0) continue;
-        open(&d, &k, &places[i], i % 4 >= 2);
         to[0] = balance;
+        value_place(&k, &places[i], i, factor, to + 1);
         for (int s = 0; s < 7; s++) {
-            struct pair p = price(&d, i % 4 >= 2, s, factor[s]);
-            to[1 + 2 * s] = balance * p.lower / 1000000;
-            to[2 + 2 * s] = (balance * p.upper + 999999) / 1000000;
             total[4 * s] += to[1 + 2 * s];
             total[4 * s + 1] += to[2 + 2 * s];
         }
     }
+    return 0;
+}
+
+/* A book (02:CR 7): its places, each with its values, the balance total and the totals. */
+struct book {
+    uint64_t balance[36], value[36][14], shown[29];
+};
+
+/* Whether place i takes what a change sets it to; all 0 clears it. */
+static int fits(const uint64_t c[5])
+{
+    static const uint64_t first[9] = {1, 1, 1, 4, 4, 4, 13, 13, 37}, last[9] = {3, 3, 3, 12, 12, 12, 36, 36, 120};
+    if (35 < c[0]) return 0;
+    if ((c[1] | c[2] | c[3] | c[4]) == 0) return 1;
+    return 1 <= c[1] && c[1] <= 999999999 && c[2] <= 15000 && first[c[0] / 4] <= c[3] && c[3] <= last[c[0] / 4] && c[4] <= (c[0] % 2 == 0 ? 3600u : 0u);
+}
+
+/* Place i holds another balance with its values; the totals move by the difference. */
+static void hold(struct book *b, uint64_t i, uint64_t balance, const uint64_t value[14])
+{
+    uint64_t *total = b->shown + 1 + (i < 24 ? 0 : 2);
+    b->shown[0] += balance - b->balance[i];
+    b->balance[i] = balance;
+    for (int v = 0; v < 14; v++) total[4 * (v / 2) + v % 2] += value[v] - b->value[i][v];
+    memcpy(b->value[i], value, sizeof b->value[i]);
+}
+
+uint64_t BOOK(const uint8_t *filing, size_t filing_length, const uint64_t *changes, size_t changes_length, uint64_t shown[29], uint64_t *place)
+{
+    static const int column[9] = {0, 1, 2, 0, 1, 2, 1, 2, 2};
+    struct contents k;
+    struct pair factor[7][120];
+    struct book book = {{0}, {{0}}, {0}};
+    int refusal = read_filing(filing, filing_length, &k, place);
+    if (refusal != 0) return (uint64_t)refusal;
+    for (int t = 1; t <= 120; t++) discount(k.yield[t - 1], t, factor);
+    for (size_t n = 0; n < changes_length / 5; n++) {
+        const uint64_t *c = changes + 5 * n;
+        uint64_t value[14] = {0};
+        *place = c[0];
+        if (!fits(c)) return 17;
+        struct place p = {c[1], c[2], c[4], (int)c[3], column[c[0] / 4]};
+        if (c[1] != 0) value_place(&k, &p, (int)c[0], factor, value);
+        hold(&book, c[0], c[1], value);
+    }
+    *place = 0;
+    memcpy(shown, book.shown, sizeof book.shown);
     return 0;
 }

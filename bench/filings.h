@@ -39,4 +39,7 @@ struct input amendments(const char *name, size_t size, enum shape shape);
 struct input any(void);
 void start_random(uint64_t seed);
 
+/* A random number below n. */
+uint64_t below(uint64_t n);
+
 #endif

@@ -7,7 +7,7 @@ static uint64_t random_state = 20240611;
 
 void start_random(uint64_t seed) { random_state = 2 * seed + 1; }
 
-static uint64_t below(uint64_t n)
+uint64_t below(uint64_t n)
 {
     random_state ^= random_state << 13;
     random_state ^= random_state >> 7;

@@ -12,4 +12,14 @@ value_function value_recomputed, value_tabled, value_multiplied, value_in_runs;
 enum { PLAIN = 4 };
 static value_function *const plain_version[PLAIN] = {value_recomputed, value_tabled, value_multiplied, value_in_runs};
 
+/* A book after a list of changes, of versions c and d. */
+typedef uint64_t book_function(const uint8_t *, size_t, const uint64_t *, size_t, uint64_t *, uint64_t *);
+
+book_function book_multiplied, book_in_runs;
+
+/* Certificates to cells (cells.c). */
+typedef uint64_t cells_function(uint64_t, uint64_t, uint64_t, const uint64_t *, size_t, uint64_t *, uint64_t *, uint64_t *);
+
+cells_function cells_of;
+
 #endif

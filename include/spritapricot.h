@@ -1,4 +1,7 @@
-/* Values a filing of certificate deposits under seven rate scenarios. Link libexports.a, which `rt staticlib exports` makes. */
+/*
+ * Values a filing of certificate deposits under seven rate scenarios, turns certificates into the cells of a filing, and keeps a book. Link libexports.a, which
+ * `rt staticlib exports` makes.
+ */
 #ifndef SPRITAPRICOT_H
 #define SPRITAPRICOT_H
 
@@ -17,6 +20,27 @@ extern "C" {
  * or the filing; no pointer is null, also where its length is 0.
  */
 uint64_t spritapricot_value(const uint8_t *filing, size_t filing_length, uint64_t *numbers, size_t numbers_length, uint64_t *place);
+
+/*
+ * Turns certificates into cells at the valuation date `year`, `month`, `day`. The `certificates_length` numbers at `certificates` are eight for each
+ * certificate: issue year, month and day, maturity year, month and day, balance in thousands of dollars, coupon in hundredths of a percent a year; a
+ * last part of fewer than eight does not count. Answers 0 for acceptance: the *count cells are then in `cells`, the number and the value of each by
+ * ascending number, 0 past the last, and *place is 0. Otherwise answers the refusal's number, 5 or 13 to 15, with the certificate's index from 0 in
+ * *place and 0 in *count, and leaves `cells` as it was. Memory as above.
+ */
+uint64_t spritapricot_cells(uint64_t year, uint64_t month, uint64_t day, const uint64_t *certificates, size_t certificates_length, uint64_t cells[56],
+    uint64_t *count, uint64_t *place);
+
+/*
+ * Opens a book from the filing of `filing_length` bytes at `filing` and makes the changes of a list in turn. The `changes_length` numbers at `changes`
+ * are five for each change: the place, 0 to 35; balance in thousands of dollars, coupon in thousandths of a percent a year, months, penalty in
+ * hundredths of a month; with the last four 0 the place is cleared. A last part of fewer than five does not count. Answers 0 for acceptance: `totals`
+ * then holds the sum of the balances, and for each scenario the short lower, short upper, long lower and long upper total; *place is 0. Otherwise
+ * answers the number of the first refusal, the filing's own or 17, with its place in *place, and leaves `totals` as it was. Memory as above, but about
+ * 140 KiB of stack.
+ */
+uint64_t spritapricot_book(const uint8_t *filing, size_t filing_length, const uint64_t *changes, size_t changes_length, uint64_t totals[29],
+    uint64_t *place);
 
 #ifdef __cplusplus
 }

@@ -12,6 +12,7 @@ VALUE_AND_SPLIT = 0
 LISTING_TEXT = 1
 SEARCH = 2
 CERTIFICATES = 3
+BOOK = 4
 UNKNOWN = 4_294_967_295
 
 VALUES = shared(deposits(7_777, 525, middle_month), 35, 45, 300)

@@ -11,6 +11,7 @@ sys.dont_write_bytecode = True
 
 import accepted
 import amendments
+import book
 import calls
 import certificates
 import fine_coupons
@@ -47,6 +48,9 @@ def entries():
     for family in certificates.FAMILIES:
         for name, data in family():
             yield f"certificates: {name}", entry(calls.CERTIFICATES, data)
+    for family in book.FAMILIES:
+        for name, data in family():
+            yield f"book: {name}", entry(calls.BOOK, data)
     yield "a call that is unknown", entry(calls.UNKNOWN, b"")
 
 

@@ -5,6 +5,7 @@ import sys
 sys.dont_write_bytecode = True
 
 import amendments
+import book
 import certificates
 import filings
 import fine_coupons
@@ -22,14 +23,20 @@ def printed():
     return {name: text.split("\n", 1)[1] for name, text in zip(names, texts)}
 
 
+def totals(text):
+    return [line for line in text.split("\n") if line.startswith("total ")]
+
+
 def check():
     texts = printed()
-    figures = monthly_rates.FIGURES | fine_coupons.FIGURES | certificates.FIGURES | searches.known()
-    pairs = {*monthly_rates.SAME, *fine_coupons.SAME, *amendments.SAME}
+    figures = monthly_rates.FIGURES | fine_coupons.FIGURES | certificates.FIGURES | book.FIGURES | searches.known()
+    pairs = {*monthly_rates.SAME, *fine_coupons.SAME, *amendments.SAME, *book.SAME}
     for name, line in figures.items():
         assert f"{line}\n" in texts[name], f"{name}: no line {line}"
     for one, other in pairs:
         assert texts[one] == texts[other], f"{one}, {other}: different lines"
+    for one, other in book.TOTALS_OF:
+        assert totals(texts[one]) == totals(texts[other]), f"{one}, {other}: different totals"
     print(f"{len(figures)} known figures, {len(pairs)} pairs of entries that mean the same")
 
 

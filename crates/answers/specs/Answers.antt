@@ -1,7 +1,7 @@
--- The answers of the code as verdicts of the paper's table (01:28-39; 02:CR 1, CR 3, CR 5, CR 6): each case's number and place. Definitions only.
+-- The answers of the code as verdicts of the paper's table (01:28-39; 02:CR 1, CR 3, CR 5, CR 6, CR 7): each case's number and place. Definitions only.
 use Prim.Native.Nat.{ℕ}
 use Rattle.answers.specs.declared.Answer.{Answer}
-use Rattle.answers.specs.declared.Answer.the-variants.{Accepted, RecordIncomplete, RecordMisshapen, CellUnlisted, Repeated, PathBesideFlat, AmendmentRepeated, OverLimit, TiersUnsound, SheetMissing, MonthsOutsideRow, AboveColumnSum, TotalDiffers, ListTooShort, NoSuchDay, NotOutstanding, TooManyMonths}
+use Rattle.answers.specs.declared.Answer.the-variants.{Accepted, RecordIncomplete, RecordMisshapen, CellUnlisted, Repeated, PathBesideFlat, AmendmentRepeated, OverLimit, TiersUnsound, SheetMissing, MonthsOutsideRow, AboveColumnSum, TotalDiffers, ListTooShort, NoSuchDay, NotOutstanding, TooManyMonths, OutsidePlaceLimits}
 use Rattle.answers.specs.Verdict.{Verdict}
 
 -- the number of an answer
@@ -23,6 +23,7 @@ numberOf (ListTooShort size) = 10
 numberOf (NoSuchDay certificate) = 13
 numberOf (NotOutstanding certificate) = 14
 numberOf (TooManyMonths certificate) = 15
+numberOf (OutsidePlaceLimits place) = 17
 
 -- the place of an answer
 abbrev pub placeOf : Answer → ℕ
@@ -43,6 +44,7 @@ placeOf (ListTooShort size) = size
 placeOf (NoSuchDay certificate) = certificate
 placeOf (NotOutstanding certificate) = certificate
 placeOf (TooManyMonths certificate) = certificate
+placeOf (OutsidePlaceLimits place) = place
 
 -- the verdict that an answer stands for
 unfoldable pub verdictOf : Answer → Verdict

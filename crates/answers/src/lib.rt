@@ -1,4 +1,4 @@
-// The answers on a filing and on a list of certificates, and the paper's number and place of each.
+// The answers on a filing, on a list of certificates and on a change of a book, and the paper's number and place of each.
 ghost use mathlib.Core.Path.{_≡_};
 ghost use Rattle.answers.specs.Verdict.{firstRefusal};
 ghost use Rattle.answers.specs.Answers.{numberOf, placeOf, verdictOf};
@@ -27,6 +27,8 @@ pub enum Answer {
     NoSuchDay(usize),
     NotOutstanding(usize),
     TooManyMonths(usize),
+    // At the place of the thirty-six.
+    OutsidePlaceLimits(usize),
 }
 
 // The number of a refusal, 0 for acceptance.
@@ -51,6 +53,7 @@ pub fn number(answer: Answer) -> u64
         Answer::NoSuchDay(_) => 13,
         Answer::NotOutstanding(_) => 14,
         Answer::TooManyMonths(_) => 15,
+        Answer::OutsidePlaceLimits(_) => 17,
     }
 }
 
@@ -76,6 +79,7 @@ pub fn place(answer: Answer) -> usize
         Answer::NoSuchDay(certificate) => certificate,
         Answer::NotOutstanding(certificate) => certificate,
         Answer::TooManyMonths(certificate) => certificate,
+        Answer::OutsidePlaceLimits(place) => place,
     }
 }
 

@@ -13,10 +13,10 @@ use lib.ListN.{length, List·getD-eq-default}
 use Rattle.lists.specs.Ranges.{firstFrom}
 use Rattle.lists.proofs.LogicLaws.{and-both, lt-or-le}
 use Rattle.lists.proofs.RangeLaws.{search-here, search-next, search-end, least-fails}
-use Rattle.certificates_input.specs.Numerals.{byteAt, isDigit, numberEnd, isNumber}
-use Rattle.certificates_input.specs.Lines.{hasForm, formNumbers, formEnd}
+use Rattle.numerals.specs.Numerals.{byteAt, isDigit, numberEnd, isNumber}
+use Rattle.numerals.specs.Forms.{hasForm, formNumbers, formEnd}
 use Rattle.certificates_input.specs.Texts.{lineEnd}
-use Rattle.certificates_input.proofs.NumeralLaws.{number-end-le}
+use Rattle.numerals.proofs.NumeralLaws.{number-end-le}
 
 -- what does not pass is skipped
 skip : (test : ℕ → Bool) (at e d : ℕ) → at + d ≤ e → ((k : ℕ) → at ≤ k → k < at + d → test k ≡ false)

@@ -1,5 +1,3 @@
-pub mod NumeralLaws
-pub mod LineLaws
 pub mod FormLaws
 pub mod TextLaws
 pub mod ReadLaws

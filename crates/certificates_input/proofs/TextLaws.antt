@@ -18,11 +18,12 @@ use Rattle.lists.proofs.LogicLaws.{lt-or-le}
 use Rattle.lists.proofs.RunLaws.{Overwritten, overwritten-row}
 use Rattle.lists.proofs.RangeLaws.{least-is, least-passes, least-ge}
 use Rattle.calendar.specs.declared.Date.{Date}
-use Rattle.certificates_input.specs.declared.lines.Line.{Line}
-use Rattle.certificates_input.specs.Lines.{dateForm, certificateForm, hasForm, formNumbers, formEnd}
+use Rattle.numerals.specs.declared.Line.{Line}
+use Rattle.numerals.specs.Forms.{hasForm, formNumbers, formEnd}
+use Rattle.certificates_input.specs.Lines.{dateForm, certificateForm}
 use Rattle.certificates_input.specs.Texts.{lineEnd, lineStart, lineCount, lineForm, isReadable, firstUnreadable, unreadableLine, lineNumbers, valuationOf, readDate}
-use Rattle.certificates_input.specs.Inner.Fields.{lineAt}
-use Rattle.certificates_input.proofs.LineLaws.{line-is, line-none}
+use Rattle.numerals.specs.Inner.Fields.{lineAt}
+use Rattle.numerals.proofs.LineLaws.{line-is, line-none}
 use Rattle.certificates_input.proofs.FormLaws.{form-line, form-room, form-end-le, form-length}
 
 -- a search in which nothing passes

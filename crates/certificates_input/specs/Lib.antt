@@ -1,4 +1,2 @@
-pub mod Numerals
 pub mod Lines
 pub mod Texts
-pub mod Inner

@@ -1,9 +1,6 @@
--- The form of a line: numbers, each followed by its separator. Definitions only.
-use Prim.Native.Nat.{ℕ, _+_}
-use mathlib.Core.Bool.{Bool, true, _&&_}
+-- The lines of a text by their separators. Definitions only.
+use Prim.Native.Nat.{ℕ}
 use mathlib.Core.List.{List, [], _∷_}
-use lib.Dec.{eqb}
-use Rattle.certificates_input.specs.Numerals.{byteAt, numberEnd, numberAt, isNumber}
 
 -- YEAR-MONTH-DAY and the line feed
 unfoldable pub dateForm : List ℕ
@@ -12,17 +9,3 @@ dateForm = 45 ∷ 45 ∷ 10 ∷ []
 -- YEAR-MONTH-DAY YEAR-MONTH-DAY BALANCE COUPON and the line feed
 unfoldable pub certificateForm : List ℕ
 certificateForm = 45 ∷ 45 ∷ 32 ∷ 45 ∷ 45 ∷ 32 ∷ 32 ∷ 10 ∷ []
-
--- from `at` on stand numbers, each followed by its separator
-unfoldable pub hasForm : List ℕ → ℕ → List ℕ → Bool
-hasForm s at [] = true
-hasForm s at (x ∷ xs) = (isNumber s at && eqb (byteAt s (numberEnd s at)) x) && hasForm s (numberEnd s at + 1) xs
-
--- these numbers, and the place behind the last separator
-unfoldable pub formNumbers : List ℕ → ℕ → List ℕ → List ℕ
-formNumbers s at [] = []
-formNumbers s at (x ∷ xs) = numberAt s at ∷ formNumbers s (numberEnd s at + 1) xs
-
-unfoldable pub formEnd : List ℕ → ℕ → List ℕ → ℕ
-formEnd s at [] = at
-formEnd s at (x ∷ xs) = formEnd s (numberEnd s at + 1) xs

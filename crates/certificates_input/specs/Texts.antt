@@ -9,8 +9,9 @@ use Rattle.lists.specs.Tables.{table, joined}
 use Rattle.calendar.specs.declared.Date.{Date}
 use Rattle.lists.specs.Ranges.{firstFrom}
 use Rattle.certificates_input.specs.declared.Text.{Text}
-use Rattle.certificates_input.specs.Numerals.{byteAt}
-use Rattle.certificates_input.specs.Lines.{dateForm, certificateForm, hasForm, formNumbers}
+use Rattle.numerals.specs.Numerals.{byteAt}
+use Rattle.numerals.specs.Forms.{hasForm, formNumbers}
+use Rattle.certificates_input.specs.Lines.{dateForm, certificateForm}
 
 -- the end of the line from `at` on: its line feed, or the text's end
 unfoldable pub lineEnd : List ℕ → ℕ → ℕ

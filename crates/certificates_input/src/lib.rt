@@ -1,6 +1,5 @@
 // A text of lines: the valuation date, then a certificate a line.
 mod lines;
-mod numerals;
 
 use crate::lines::certificate_line;
 use crate::lines::date_line;

@@ -1,13 +1,12 @@
 -- The text of an input in each of its cases, and the lines of cells one by one. Assumes nothing.
 use Prim.Native.Nat.{ℕ, zero, suc, _+_, _^_, _≤_, _<_}
-use native.Mathlib.Nat.{zero-add}
 use native.Mathlib.Numerals.{add-one}
 use native.Mathlib.Omega.{arith}
 use mathlib.Core.Path.{_≡_, sym, _∙_}
 use mathlib.Core.List.{List, [], _∷_, _++_}
 use borrow.Author.Tests.{lt-ltb, le-ltb, eq-eqb, ne-eqb}
 use lib.ListN.{length, getD, take, drop, length-append, drop-of-length-le}
-use lib.Seq.{take-at, drop-at, drop-cons, length-take-le, getD-take}
+use lib.Seq.{take-at, drop-cons, length-take-le, getD-take}
 use Rattle.lists.specs.Tables.{joined}
 use Rattle.answers.specs.Answers.{numberOf, placeOf, verdictOf}
 use Rattle.calendar.specs.declared.Date.{Date}
@@ -18,13 +17,11 @@ use Rattle.certificates.specs.Filled.{filledCells}
 use Rattle.certificates.specs.Promise.{Converted}
 use Rattle.certificates.proofs.CallLaws.{filled-count}
 use Rattle.text.specs.Decimal.{decimal}
-use Rattle.text.specs.Lines.{restOfLine, refusalLine}
-use Rattle.text.specs.Appended.{Appended}
-use Rattle.text.proofs.AppendLaws.{appended-front, appended-length}
+use Rattle.text.specs.Lines.{restOfLine, refusalLine, tooLong}
 use Rattle.text.proofs.DecimalLaws.{decimal-length}
 use Rattle.text.proofs.LineLaws.{rest-length}
 use Rattle.certificates_input.specs.Texts.{unreadableLine, valuationOf, certificatesOf}
-use Rattle.certificates_text.specs.Printed.{inputLimit, cellLine, cellLines, answerText, unreadableText, tooLong, printedText, Printed}
+use Rattle.certificates_text.specs.Printed.{inputLimit, cellLine, cellLines, answerText, unreadableText, printedText}
 
 -- a number with 20 digits at most, behind a space, and the line feed
 pub rest-short : (n : ℕ) → n < 2 ^ 64 → length (restOfLine (n ∷ [])) ≤ 22
@@ -91,17 +88,3 @@ module _ (v : Date) (c : List ℕ) (r : Cells) (converted : Converted v c r) whe
   pub answer-long : r .count ≤ length (r .cells)
   unfolding inPlaces
   answer-long = rw (converted .count-is, converted .cells-are, length-append) (omega arith)
-
--- text put at the front of the bytes, where it is the input's
-pub printed : (s before text after : List ℕ) (size : ℕ) → length text ≤ length before → text ≡ printedText s → Appended before 0 text after size
-    → Printed s before after size
-printed s before text after size fits e a =
-    let k : length text ≡ size = sym (a .end-is ∙ zero-add (length text)) in
-    let front = appended-front before text after size fits a in
-    let in-front : take size after ≡ text = rw (front, take-at text (drop size before) size k) in
-    record {
-      text-is = in-front ∙ e;
-      rest-is = rw (front, drop-at text (drop size before) size k);
-      within = omega (arith, appended-length before 0 text after size a);
-      counted = rw in-front (sym k);
-    }

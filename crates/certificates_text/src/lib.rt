@@ -12,14 +12,14 @@ use text::append_refusal;
 ghost use Prim.Native.Nat.{_+_, _≤_};
 ghost use mathlib.Core.List.{[], _∷_, _++_};
 ghost use lib.ListN.{length, take};
-ghost use Rattle.text.specs.Appended.{Appended};
+ghost use Rattle.text.specs.Appended.{Appended, InFront};
 ghost use Rattle.text.specs.Decimal.{decimal};
 ghost use Rattle.text.specs.Lines.{restOfLine};
-ghost use Rattle.certificates_text.specs.Printed.{cellLines, answerText, unreadableText, Printed};
+ghost use Rattle.certificates_text.specs.Printed.{cellLines, answerText, unreadableText, printedText};
 
 // Puts the text of an input at the front of the bytes and answers how many it has: 28 lines of 42 bytes at most.
 pub fn write_cells(input: &[u8], out: &mut [u8; 1176]) -> usize
-    ensures { λ r. ⌜ Printed (now (input .entry)) (now (out .entry)) (now (out .exit)) r ⌝ }
+    ensures { λ r. ⌜ InFront (printedText (now (input .entry))) (now (out .entry)) (now (out .exit)) r ⌝ }
 {
     if 131072 < input.len() {
         return append(out, 0, b"too long\n");

@@ -6,9 +6,10 @@ use mathlib.Core.List.{List, [], _∷_, _++_}
 use Rattle.lists.specs.Ranges.{firstFrom}
 use Rattle.lists.specs.Tables.{tableFrom, joined}
 use Rattle.text.specs.Decimal.{digit, digitsWithin, decimal}
-use Rattle.text.specs.Lines.{spaced, restOfLine}
-use Rattle.certificates_input.specs.Numerals as numerals
-use Rattle.certificates_input.specs.Lines.{dateForm, certificateForm, hasForm, formNumbers}
+use Rattle.text.specs.Lines.{spaced, restOfLine, unreadableWord}
+use Rattle.numerals.specs.Numerals as numerals
+use Rattle.numerals.specs.Forms.{hasForm, formNumbers}
+use Rattle.certificates_input.specs.Lines.{dateForm, certificateForm}
 use Rattle.certificates_input.specs.Texts.{lineEnd, lineStart, lineCount, lineForm, isReadable, firstUnreadable, unreadableLine, lineNumbers, valuationOf, certificatesOf}
 use Rattle.certificates_text.specs.Printed.{cellLine, cellLines, unreadableText}
 
@@ -59,5 +60,5 @@ printed-hold : cellLines (record { cell = 645; value = 10 } ∷ []) ∷ unreadab
     ≡ (54 ∷ 52 ∷ 53 ∷ 32 ∷ 49 ∷ 48 ∷ 10 ∷ [])
     ∷ (117 ∷ 110 ∷ 114 ∷ 101 ∷ 97 ∷ 100 ∷ 97 ∷ 98 ∷ 108 ∷ 101 ∷ 32 ∷ 50 ∷ 10 ∷ [])
     ∷ []
-unfolding cellLines cellLine unreadableText joined restOfLine spaced decimal digitsWithin digit
+unfolding cellLines cellLine unreadableText unreadableWord joined restOfLine spaced decimal digitsWithin digit
 printed-hold = refl

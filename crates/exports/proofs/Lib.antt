@@ -1,1 +1,3 @@
 pub mod ExportedLaws
+pub mod ConvertedLaws
+pub mod ChangedLaws

@@ -1,1 +1,3 @@
 pub mod Exported
+pub mod Converted
+pub mod Changed

@@ -1,4 +1,7 @@
-// The valuing call for programs in C and in languages that call C: include/spritapricot.h declares it.
+// The calls for programs in C and in languages that call C, as include/spritapricot.h declares them: the valuing call here, the book's call in `book`, the certificates' call in `cells`.
+pub mod book;
+pub mod cells;
+
 use valuation::value;
 ghost use Rattle.exports.specs.Exported.{ValuedForC};
 

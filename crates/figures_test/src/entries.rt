@@ -65,7 +65,7 @@ fn print_input(input: &mut [u8], call: usize, numbers: usize, places: usize) {
 }
 
 // Call 0 values the input with a list of `numbers` numbers and splits it into a list of `places` places; call 1 lists it; call 2 searches a tier; call 3
-// makes cells of certificates.
+// makes cells of certificates; call 4 keeps a book.
 fn print_call(input: &[u8], call: usize, numbers: usize, places: usize) {
     match call {
         0 => {
@@ -75,6 +75,7 @@ fn print_call(input: &[u8], call: usize, numbers: usize, places: usize) {
         1 => crate::listing::print_listing(input),
         2 => crate::searching::print_search(input),
         3 => crate::certifying::print_certificates(input),
+        4 => crate::keeping::print_book(input),
         _ => {
             text(b"no call");
             next_number(call as u64);

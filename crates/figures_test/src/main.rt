@@ -2,6 +2,7 @@
 // that of its list of places and that of its input, 4 bytes each, little-endian, and the input. The crate `second` prints the same.
 mod certifying;
 mod entries;
+mod keeping;
 mod listing;
 mod numbers;
 mod searching;

@@ -13,6 +13,8 @@ const SEVENS: SubBalance = SubBalance {
     balance: 7,
     coupon: 7,
     remaining_months: 7,
+    penalty: 7,
+    values: [7; 14],
 };
 
 // Splits a filing into a list of `places` places, 40 at most.
@@ -49,7 +51,21 @@ fn print_rest(list: [SubBalance; 40], written: usize, lent: usize) {
 }
 
 fn holds_sevens(place: SubBalance) -> bool {
-    (place.balance == 7) & (place.coupon == 7) & (place.remaining_months == 7)
+    let values = place.values;
+    (place.balance == 7)
+        & (place.coupon == 7)
+        & (place.remaining_months == 7)
+        & (place.penalty == 7)
+        & (count_of(values, 7) == 14)
+}
+
+// How many of the values are n.
+fn count_of(values: [u64; 14], n: u64) -> u64 {
+    let mut count = 0;
+    for i in 0..14usize {
+        count = count_if(count, values[i] == n);
+    }
+    count
 }
 
 fn print_places(list: [SubBalance; 40]) {
@@ -58,14 +74,17 @@ fn print_places(list: [SubBalance; 40]) {
     }
 }
 
-// A place's balance, coupon and months, where one of them is not 0.
+// A place's balance, coupon, months and penalty, and how many of its values are 0, where one of the four is not.
 fn print_place(i: u64, place: SubBalance) {
-    if place.balance | place.coupon | place.remaining_months != 0 {
+    if place.balance | place.coupon | place.remaining_months | place.penalty != 0 {
         text(b"share");
         next_number(i);
         next_number(place.balance);
         next_number(place.coupon);
         next_number(place.remaining_months);
+        next_number(place.penalty);
+        let values = place.values;
+        next_number(count_of(values, 0));
         end_line();
     }
 }

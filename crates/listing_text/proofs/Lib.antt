@@ -1,3 +1,3 @@
-pub mod NumberLineLaws
+pub mod TotalLineLaws
 pub mod ListingLaws
 pub mod TextCases

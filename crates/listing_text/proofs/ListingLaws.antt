@@ -2,10 +2,7 @@
 use Prim.Native.Nat.{ℕ, _≤_, _<_}
 use mathlib.Core.Path.{_≡_, ap, sym, _∙_}
 use mathlib.Core.List.{List}
-use native.Mathlib.Nat.{zero-add}
-use native.Mathlib.Omega.{arith}
-use lib.ListN.{length, take, drop}
-use lib.Seq.{take-at, drop-at}
+use lib.ListN.{length}
 use borrow.Author.Tests.{lt-ltb, le-ltb, eq-eqb, ne-eqb}
 use Rattle.answers.specs.declared.Answer.{Answer}
 use Rattle.answers.specs.Answers.{numberOf, placeOf, verdictOf}
@@ -14,12 +11,10 @@ use Rattle.answers.proofs.VerdictLaws.{list-long}
 use Rattle.filing.specs.Verdict.{filingVerdict}
 use Rattle.valuation.specs.Numbers.{numberCount}
 use Rattle.valuation.specs.Promise.{verdictOn, listAfter, Valued}
-use Rattle.text.specs.Appended.{Appended}
-use Rattle.text.specs.Lines.{refusalLine}
-use Rattle.text.proofs.AppendLaws.{appended-front, appended-length}
-use Rattle.listing_text.specs.Listing.{filingLimit, verdictText, tooLong, listingText, Listed}
-use Rattle.listing_text.specs.Inner.NumberLines.{linesIn}
-use Rattle.listing_text.proofs.NumberLineLaws.{lines-are}
+use Rattle.text.specs.Lines.{refusalLine, tooLong}
+use Rattle.listing_text.specs.Listing.{filingLimit, verdictText, listingText}
+use Rattle.listing_text.specs.TotalLines.{linesIn}
+use Rattle.listing_text.proofs.TotalLineLaws.{lines-are}
 
 -- an input over the limit
 pub text-too-long : (s : List ℕ) → filingLimit < length s → tooLong ≡ listingText s
@@ -43,23 +38,9 @@ module _ (s before after : List ℕ) (answer : Answer)
   text-refused number place n p h = rw (n, p) (rw (ne-eqb (numberOf answer) 0 (λ e. h (n ∙ e))) at text-is)
 
   -- an accepted filing
-  pub text-accepted : (number : ℕ) → number ≡ numberOf answer → number ≡ 0 → linesIn after ≡ listingText s
+  pub text-accepted : (number : ℕ) → number ≡ numberOf answer → number ≡ 0 → linesIn after 540 ≡ listingText s
   unfolding verdictText verdictOf listAfter
   text-accepted number n h =
       let zero : numberOf answer ≡ 0 = sym n ∙ h in
       let e : verdictOn s before .number ≡ 0 = ap (λ (v : Verdict). v .number) (sym (valued .answer-is)) ∙ zero in
       rw (valued .list-is, eq-eqb (verdictOn s before .number) 0 e, lines-are) (rw (eq-eqb (numberOf answer) 0 zero) at text-is)
-
--- text put at the front of the bytes, where it is the filing's
-pub listed : (s before text after : List ℕ) (size : ℕ) → length text ≤ length before → text ≡ listingText s → Appended before 0 text after size
-    → Listed s before after size
-listed s before text after size fits e a =
-    let k : length text ≡ size = sym (a .end-is ∙ zero-add (length text)) in
-    let front = appended-front before text after size fits a in
-    let in-front : take size after ≡ text = rw (front, take-at text (drop size before) size k) in
-    record {
-      text-is = in-front ∙ e;
-      rest-is = rw (front, drop-at text (drop size before) size k);
-      within = omega (arith, appended-length before 0 text after size a);
-      counted = rw in-front (sym k);
-    }

@@ -3,8 +3,9 @@ use mathlib.Core.Path.{_≡_, refl}
 use mathlib.Core.List.{[], _∷_}
 use lib.ListN.{replicate}
 use Rattle.text.specs.Decimal.{digit, digitsWithin, decimal, signed}
-use Rattle.text.specs.Lines.{spaced, restOfLine, refusedWord, refusalLine}
-use Rattle.listing_text.specs.Listing.{shift, tooLong, listingText}
+use Rattle.text.specs.Lines.{spaced, restOfLine, refusedWord, refusalLine, tooLong}
+use Rattle.listing_text.specs.TotalLines.{shift}
+use Rattle.listing_text.specs.Listing.{listingText}
 
 -- 0
 zero-is : decimal 0 ≡ 48 ∷ []

@@ -1,2 +1,2 @@
+pub mod TotalLines
 pub mod Listing
-pub mod Inner

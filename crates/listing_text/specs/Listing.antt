@@ -1,12 +1,10 @@
 -- The text that the listing prints of a filing, as ASCII bytes (01:73-84): a line for each scenario, or the line of the refusal, or `too long`.
 -- Totals in dollars, shifts in hundredths of a percent a year. Definitions only.
-use Prim.Native.Nat.{ℕ, _*_, _≤_}
-use mathlib.Core.Path.{_≡_}
+use Prim.Native.Nat.{ℕ}
 use mathlib.Core.Bool.{cond}
-use mathlib.Core.List.{List, [], _∷_, _++_}
+use mathlib.Core.List.{List, _++_}
 use lib.Dec.{ltb, eqb}
-use lib.IntN.{ℤ, subℕ}
-use lib.ListN.{length, take, drop}
+use lib.ListN.{length}
 use Rattle.lists.specs.Tables.{table, joined}
 use Rattle.schedule.specs.Shift.{scenarioCount}
 use Rattle.answers.specs.Verdict.{Verdict}
@@ -15,15 +13,12 @@ use Rattle.filing.specs.Contents.{contentsOf}
 use Rattle.filing.specs.Verdict.{filingVerdict}
 use Rattle.valuation.specs.Numbers.{scenarioTotals}
 use Rattle.text.specs.Decimal.{signed}
-use Rattle.text.specs.Lines.{restOfLine, refusalLine}
+use Rattle.text.specs.Lines.{restOfLine, refusalLine, tooLong}
+use Rattle.listing_text.specs.TotalLines.{shift}
 
 -- the most bytes that a filing may have
 abbrev pub filingLimit : ℕ
 filingLimit = 65536
-
--- the shift of a scenario: -300, -200, .., 300 (01:48)
-unfoldable pub shift : ℕ → ℤ
-shift scenario = subℕ (100 * scenario) 300
 
 -- the line of a scenario: shift, short lower, short upper, long lower, long upper
 unfoldable pub scenarioLine : Contents → ℕ → List ℕ
@@ -37,18 +32,6 @@ scenarioLines k = joined (table scenarioCount (scenarioLine k))
 unfoldable pub verdictText : List ℕ → Verdict → List ℕ
 verdictText s v = cond (eqb (v .number) 0) (scenarioLines (contentsOf s)) (refusalLine (v .number) (v .place))
 
--- `too long`
-unfoldable pub tooLong : List ℕ
-tooLong = 116 ∷ 111 ∷ 111 ∷ 32 ∷ 108 ∷ 111 ∷ 110 ∷ 103 ∷ 10 ∷ []
-
 -- the text of any input
 unfoldable pub listingText : List ℕ → List ℕ
 listingText s = cond (ltb filingLimit (length s)) tooLong (verdictText s (filingVerdict s))
-
--- what the call that makes the text promises: s is the input, before and after are the lent bytes at the call and at the return, size is the answer.
--- The text stands in front, and `size` counts its bytes; the rest is as it was
-pub record Listed (s before after : List ℕ) (size : ℕ) : Type 0 where
-  pub text-is : take size after ≡ listingText s
-  pub rest-is : drop size after ≡ drop size before
-  pub within : size ≤ length after
-  pub counted : size ≡ length (take size after)

@@ -8,14 +8,14 @@ pub fn text(s: &[u8]) {
 }
 
 // A number in decimal.
-fn number(n: u64) {
+pub fn number_of(n: u64) {
     io::print_decimal(STDOUT_FILENO, n);
 }
 
 // A space and a number.
 pub fn next_number(n: u64) {
     text(b" ");
-    number(n);
+    number_of(n);
 }
 
 // A refusal: its number and its place.
@@ -30,22 +30,29 @@ pub fn refusal(refused: u64, place: u64) {
 fn shift(scenario: u64) {
     if scenario < 3 {
         text(b"-");
-        number(100 * (3 - scenario));
+        number_of(100 * (3 - scenario));
     } else if scenario < 7 {
-        number(100 * (scenario - 3));
+        number_of(100 * (scenario - 3));
     }
 }
 
 // The four totals of each scenario, behind its shift, from the 568 numbers of a valued filing.
 pub fn scenario_lines(name: &[u8], numbers: &[u64]) {
+    if 540 <= numbers.len() {
+        total_lines(name, &numbers[540..]);
+    }
+}
+
+// The same from a list of totals, four for each scenario.
+pub fn total_lines(name: &[u8], totals: &[u64]) {
     let mut scenario: usize = 0;
     while (scenario as u64) < Scenario::COUNT {
         text(name);
         shift(scenario as u64);
-        let from = 540 + 4 * scenario;
+        let from = 4 * scenario;
         let end = from + 4;
-        if end <= numbers.len() {
-            rest_of_line(&numbers[from..end]);
+        if end <= totals.len() {
+            rest_of_line(&totals[from..end]);
         }
         scenario += 1;
     }

@@ -19,7 +19,7 @@ use Rattle.shares.specs.Places.{placeAt}
 use Rattle.shares.specs.SubBalances.{positionOf}
 use Rattle.deposits.specs.DepositTerms.{termsOf}
 use Rattle.deposits.proofs.TermsLaws.{flat-terms}
-use Rattle.place_values.specs.PlaceTerms.{depositAt, rateAt, filingTiers, termsAt}
+use Rattle.place_values.specs.PlaceTerms.{depositAt, rateAt, filingTiers, termsHeld}
 use Rattle.place_values.proofs.PlaceTermsLaws.{deposit-limits}
 
 module _ (s : List ℕ) (flat : length s ≤ sheetOffset s ratePathKind) where
@@ -32,10 +32,10 @@ module _ (s : List ℕ) (flat : length s ≤ sheetOffset s ratePathKind) where
 
   pub flat-terms-at : Valid (contentsOf s) → (scenario place : ℕ) → place < 36
       → let k = contentsOf s in
-      termsAt k scenario place
-      ≡ termsOf (filingTiers k) (depositAt (k .cells) place (placeAt k place))
+      termsHeld k scenario place (placeAt k place)
+      ≡ termsOf (filingTiers k) (depositAt place (placeAt k place))
       (λ (t : ℕ). shiftedRate scenario (sheetNumber s (sheetOffset s flatRatesKind) (positionOf place .column)))
-  unfolding termsAt rateAt positionOf
+  unfolding termsHeld rateAt positionOf
   flat-terms-at v scenario place h =
       let range = column-range (place / 4) (omega arith) in
       flat-terms _ _ _ _

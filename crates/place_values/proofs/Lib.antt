@@ -1,4 +1,5 @@
 pub mod PlaceTermsLaws
+pub mod HeldLaws
 pub mod FlatLaws
 pub mod FilingTierLaws
 pub mod TierAnswerLaws

@@ -1,29 +1,26 @@
--- The deposit at each place of an accepted filing is within its limits, and so are its terms. Assumes nothing.
-use Prim.Native.Nat.{ℕ, _/_, _%_, _≤_, _<_, zero-le}
+-- The deposit at each place of an accepted filing is within its limits. Assumes nothing.
+use Prim.Native.Nat.{ℕ, _/_, _≤_, _<_, zero-le}
 use native.Mathlib.Omega.{arith}
-use lib.Dec.{eqb}
 use Rattle.lists.proofs.TestLaws.{either}
 use Rattle.schedule.specs.Cells.{positionAt}
 use Rattle.schedule.specs.Limits.{penaltyLimit}
 use Rattle.filing.specs.declared.Contents.{Contents}
 use Rattle.filing.specs.Valid.{Valid}
 use Rattle.shares.specs.Places.{placeAt}
-use Rattle.shares.specs.SubBalances.{positionOf, couponAt, monthsAt}
+use Rattle.shares.specs.SubBalances.{positionOf, couponAt, monthsAt, withPenalty, penaltyAt}
 use Rattle.conditions.proofs.SumLaws.{column-range}
-use Rattle.pricing.specs.Bounded.{Bounded}
 use Rattle.deposits.specs.Inner.Prices.{DepositLimits}
-use Rattle.deposits.proofs.TermsLaws.{terms-of-bounded}
-use Rattle.place_values.specs.PlaceTerms.{penaltyAt, depositAt, termsAt}
+use Rattle.place_values.specs.PlaceTerms.{depositAt}
 
 module _ (k : Contents) (v : Valid k) (place : ℕ) (h : place < 36) where
   -- the penalty is its column's, or 0
-  penalty-le : penaltyAt (k .cells) place ≤ penaltyLimit
+  pub penalty-le : penaltyAt k place ≤ penaltyLimit
   unfolding penaltyAt positionOf
   penalty-le =
       let range = column-range (place / 4) (omega arith) in
-      either (λ (p : ℕ). p ≤ penaltyLimit) (eqb (place % 2) 0) (v .penalty-limit (positionAt (place / 4) .column) (range .0) (range .1)) zero-le
+      either (λ (p : ℕ). p ≤ penaltyLimit) (withPenalty place) (v .penalty-limit (positionAt (place / 4) .column) (range .0) (range .1)) zero-le
 
-  pub deposit-limits : DepositLimits (depositAt (k .cells) place (placeAt k place))
+  pub deposit-limits : DepositLimits (depositAt place (placeAt k place))
   unfolding depositAt placeAt couponAt monthsAt positionOf
   deposit-limits =
       record {
@@ -31,7 +28,3 @@ module _ (k : Contents) (v : Valid k) (place : ℕ) (h : place < 36) where
         penalty-le = penalty-le;
         months-le = v .months-limit (place / 4) (omega arith);
       }
-
-  pub terms-bounded : (scenario : ℕ) → Bounded (termsAt k scenario place)
-  unfolding termsAt
-  terms-bounded scenario = terms-of-bounded _ _ _ (deposit-limits .coupon-le) (deposit-limits .months-le)

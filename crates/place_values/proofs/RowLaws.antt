@@ -4,8 +4,18 @@ use mathlib.Core.Path.{_≡_, ap}
 use mathlib.Core.List.{List, _∷_, append-nil}
 use lib.ListN.{length, replicate}
 use Rattle.lists.specs.Runs.{written}
+use Rattle.shares.specs.declared.SubBalance.{SubBalance}
+use Rattle.withdrawal.specs.Tiers.{TierTable}
+use Rattle.deposits.proofs.ValueLaws.{values-length}
+use Rattle.place_values.specs.Inner.PlaceRows.{listedHeld}
 
 -- fourteen values written behind a balance
 pub row-written : (balance : ℕ) (values : List ℕ) → length values ≡ 14 → written (replicate 15 balance) 1 values ≡ balance ∷ values
 unfolding written
 row-written balance values e = rw e (ap (λ (l : List ℕ). balance ∷ l) (append-nil values))
+
+-- a place has fourteen values
+pub listed-length : (held : SubBalance) (place : ℕ) (rates : List ℕ) (tiers : TierTable) (lower upper : List ℕ)
+    → length (listedHeld held place rates tiers lower upper) ≡ 14
+unfolding listedHeld
+listed-length held place rates tiers lower upper = values-length _ _ _ _ _ _ _

@@ -1,3 +1,4 @@
 pub mod PlaceTerms
+pub mod HeldValues
 pub mod TierAnswers
 pub mod Inner

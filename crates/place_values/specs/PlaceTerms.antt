@@ -1,39 +1,27 @@
--- The deposit at each place of a filing, with its terms in each scenario (01:48-56), from what the filing says. Definitions only.
-use Prim.Native.Nat.{ℕ, _-_, _%_}
-use mathlib.Core.Bool.{Bool, cond}
-use mathlib.Core.List.{List}
-use lib.Dec.{leb, eqb}
+-- The deposit at a place, from what the place holds, and its terms in each scenario (01:48-56) under what a filing says. Definitions only.
+use Prim.Native.Nat.{ℕ, _-_}
+use mathlib.Core.Bool.{cond}
+use lib.Dec.{eqb}
 use lib.ListN.{getD}
 use Rattle.lists.specs.Tables.{table}
-use Rattle.schedule.specs.Cells.{penaltyMonthsCell}
 use Rattle.schedule.specs.Shift.{shiftedRate}
 use Rattle.filing.specs.declared.Contents.{Contents}
 use Rattle.filing.specs.declared.FiledTiers.{FiledTiers}
-use Rattle.conditions.specs.Conditions.{cellIn}
 use Rattle.filing.specs.Contents.{cdYield, retailRate}
 use Rattle.shares.specs.declared.SubBalance.{SubBalance}
-use Rattle.shares.specs.SubBalances.{positionOf}
-use Rattle.shares.specs.Places.{placeAt}
+use Rattle.shares.specs.SubBalances.{positionOf, isBrokered}
 use Rattle.withdrawal.specs.Tiers.{TierTable, tier, houseTiers}
 use Rattle.pricing.specs.Terms.{Terms}
 use Rattle.deposits.specs.DepositTerms.{termsOf}
 use Rattle.deposits.specs.declared.Deposit.{Deposit}
 
--- the places of each four: retail with and without penalty, then brokered with and without (01:45)
-unfoldable pub isBrokered : ℕ → Bool
-isBrokered place = leb 2 (place % 4)
-
--- the penalty of a place, hundredths of a month: its column's, or 0 where the place is without penalty (01:49)
-unfoldable pub penaltyAt : List ℕ → ℕ → ℕ
-penaltyAt cells place = cond (eqb (place % 2) 0) (cellIn cells (penaltyMonthsCell (positionOf place .column))) 0
-
--- the deposit at a place, 0 to 35, from the filing's cells and what the place holds
-unfoldable pub depositAt : List ℕ → ℕ → SubBalance → Deposit
-depositAt cells place held =
+-- the deposit at a place, 0 to 35, from what the place holds
+unfoldable pub depositAt : ℕ → SubBalance → Deposit
+depositAt place held =
     record {
       brokered = isBrokered place;
       coupon = held .coupon;
-      penalty = penaltyAt cells place;
+      penalty = held .penalty;
       months = held .«remaining_months»;
     }
 
@@ -57,9 +45,9 @@ tiersOf t = cond (eqb (t .count) 0) houseTiers (ownTiers t)
 abbrev pub filingTiers : Contents → TierTable
 filingTiers k = tiersOf (k .tiers)
 
--- the terms of the deposit at a place in a scenario, 0 to 6
-unfoldable pub termsAt : Contents → ℕ → ℕ → Terms
-termsAt k scenario place = termsOf (filingTiers k) (depositAt (k .cells) place (placeAt k place)) (rateAt k scenario place)
+-- the terms of what a place holds in a scenario, 0 to 6, under a filing's rates and tiers
+unfoldable pub termsHeld : Contents → ℕ → ℕ → SubBalance → Terms
+termsHeld k scenario place held = termsOf (filingTiers k) (depositAt place held) (rateAt k scenario place)
 
 -- the CD yield of a month in a scenario, hundredths of a percent a year
 unfoldable pub monthYield : Contents → ℕ → ℕ → ℕ

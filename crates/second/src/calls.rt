@@ -1,5 +1,6 @@
 // The calls by their numbers.
 use second_numbers::arith::least;
+use second_output::book::print_book;
 use second_output::certificates::print_certificates;
 use second_output::filings::print_listing;
 use second_output::filings::print_splitting;
@@ -15,7 +16,7 @@ pub struct Call {
 }
 
 // Call 0 values and splits a filing; call 1 prints its listing; call 2 searches a tier; call 3 makes
-// cells of certificates.
+// cells of certificates; call 4 keeps a book.
 pub fn print_call(s: &[u8], survivals: &[u64], call: Call) {
     let number = call.number;
     match number {
@@ -26,6 +27,7 @@ pub fn print_call(s: &[u8], survivals: &[u64], call: Call) {
         1 => print_listing(s, survivals),
         2 => print_search(s, survivals),
         3 => print_certificates(s),
+        4 => print_book(s, survivals),
         _ => print_line(b"no call", number),
     }
 }

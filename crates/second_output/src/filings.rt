@@ -107,14 +107,16 @@ fn print_shares(s: &[u8]) {
     }
 }
 
-// A place's balance, coupon and months, where one of them is not 0.
+// A place's balance, coupon, months and penalty, and that its fourteen values are 0, where one of the four is not.
 fn print_share(part: SubBalance, place: u64) {
-    if part.balance | part.coupon | part.months != 0 {
+    if part.balance | part.coupon | part.months | part.penalty != 0 {
         print(b"share");
         print_number(place);
         print_number(part.balance);
         print_number(part.coupon);
-        print_line(b"", part.months);
+        print_number(part.months);
+        print_number(part.penalty);
+        print_line(b"", 14);
     }
 }
 

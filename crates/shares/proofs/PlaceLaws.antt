@@ -1,25 +1,33 @@
--- Laws of the thirty-six places: a place is one of its position's four. Assumes nothing.
+-- Laws of the thirty-six places: a place is one of its position's four, and four places more are filled. Assumes nothing.
 use Prim.Native.Nat.{ℕ, _+_, _*_, _/_, _%_, _<_}
+use mathlib.Core.Bool.{cond}
 use mathlib.Core.List.{List}
 use mathlib.Core.Path.{_≡_, ap, _∙_}
 use native.Mathlib.Omega.{arith}
-use lib.ListN.{getD}
+use lib.Dec.{eqb}
+use lib.ListN.{getD, set}
+use Rattle.lists.proofs.FillLaws.{Filled, fill-more}
 use Rattle.filing.specs.declared.Contents.{Contents}
 use Rattle.filing.specs.Valid.{Valid}
-use Rattle.shares.specs.SubBalances.{positionOf, balanceAt, couponAt, monthsAt}
+use Rattle.shares.specs.SubBalances.{positionOf, balanceAt, couponAt, monthsAt, withPenalty, penaltyAt}
 use Rattle.shares.specs.declared.Row.{Row}
 use Rattle.shares.specs.declared.SubBalance.{SubBalance}
-use Rattle.shares.specs.Places.{placeAt}
-use Rattle.shares.specs.Inner.Rows.{rowAt, rowShares}
+use Rattle.shares.specs.Places.{placeAt, noPlace}
+use Rattle.shares.specs.Inner.Rows.{rowAt, rowShares, rowPlace}
 use Rattle.shares.proofs.RowLaws.{four-row}
 
--- place 4 × i + r has the r-th of its row's four, and its row's coupon and remaining months
+-- place 4 × i + r has the r-th of its row's four, its row's coupon and remaining months, and the penalty of its column where it is subject to one
 pub place-of : (k : Contents) → Valid k → (i : ℕ) → i < 9 → (row : Row) → row ≡ rowAt (k .cells) i → (four : List ℕ) → four ≡ rowShares row
-    → (r place : ℕ) → place ≡ 4 * i + r → r < 4
-    → _≡_ {A = SubBalance} (record { balance = getD four r 0; coupon = row .coupon; «remaining_months» = row .«remaining_months» }) (placeAt k place)
-unfolding placeAt balanceAt couponAt monthsAt positionOf rowAt
+    → (r place : ℕ) → place ≡ 4 * i + r → r < 4 → rowPlace row (getD four r 0) (cond (eqb (r % 2) 0) (row .penalty) 0) ≡ placeAt k place
+unfolding placeAt balanceAt couponAt monthsAt penaltyAt withPenalty positionOf rowAt
 place-of k v i h row is four are r place e small =
     let q : place / 4 ≡ i = omega arith in
     let s : place % 4 ≡ r = omega arith in
+    let p : place % 2 ≡ r % 2 = omega arith in
     let shares = are ∙ ap rowShares is ∙ four-row k v i h in
-    rw (q, s, shares, is)
+    rw (q, s, p, shares, is)
+
+-- one place more is filled
+pub fill-place : (k : Contents) (i more : ℕ) (l : List SubBalance) (p : SubBalance) → more ≡ i + 1 → i < 36 → p ≡ placeAt k i
+    → Filled (placeAt k) noPlace 36 i l → Filled (placeAt k) noPlace 36 more (set l i p)
+fill-place k i more l p e h is filled = rw e (fill-more (placeAt k) noPlace 36 i l p h is filled)

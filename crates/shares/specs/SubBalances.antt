@@ -1,9 +1,11 @@
 -- The thirty-six sub-balances of a filing (01:44-45), thousands of dollars. Definitions only.
 use Prim.Native.Nat.{ℕ, _+_, _*_, _-_, _/_, _%_}
+use mathlib.Core.Bool.{Bool, cond}
 use mathlib.Core.List.{List, [], _∷_}
+use lib.Dec.{leb, eqb}
 use lib.ListN.{getD}
 use Rattle.schedule.specs.declared.Position.{Position}
-use Rattle.schedule.specs.Cells.{positionAt, brokeredCell, penaltyBalanceCell}
+use Rattle.schedule.specs.Cells.{positionAt, brokeredCell, penaltyBalanceCell, penaltyMonthsCell}
 use Rattle.filing.specs.declared.Contents.{Contents}
 use Rattle.filing.specs.Contents.{cell}
 use Rattle.conditions.specs.Conditions.{columnBalances}
@@ -62,3 +64,14 @@ couponAt k place = cell k (positionOf place .coupon)
 
 unfoldable pub monthsAt : Contents → ℕ → ℕ
 monthsAt k place = cell k (positionOf place .months)
+
+-- the places of each four: retail with and without penalty, then brokered with and without (01:45)
+unfoldable pub isBrokered : ℕ → Bool
+isBrokered place = leb 2 (place % 4)
+
+unfoldable pub withPenalty : ℕ → Bool
+withPenalty place = eqb (place % 2) 0
+
+-- the penalty of a place, hundredths of a month: its column's, or 0 where the place is without penalty (01:49)
+unfoldable pub penaltyAt : Contents → ℕ → ℕ
+penaltyAt k place = cond (withPenalty place) (cell k (penaltyMonthsCell (positionOf place .column))) 0

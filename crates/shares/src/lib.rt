@@ -3,11 +3,13 @@ mod apportion;
 pub mod places;
 
 // What a place of the thirty-six holds: the balance in thousands of dollars, its cell's WAC in thousandths of a percent a year and its cell's WARM
-// in months.
+// in months, the penalty in hundredths of a month (0 if not subject), and in each scenario the lower and the upper value in dollars.
 pub struct SubBalance {
     pub balance: u64,
     pub coupon: u64,
     pub remaining_months: u64,
+    pub penalty: u64,
+    pub values: [u64; 14],
 }
 
 // A place that holds nothing.
@@ -15,10 +17,12 @@ pub const NO_PLACE: SubBalance = SubBalance {
     balance: 0,
     coupon: 0,
     remaining_months: 0,
+    penalty: 0,
+    values: [0; 14],
 };
 
 // A row of a column: the column's sum, the sum of the rows above it, its balance, the column's brokered balance and balance subject to penalty, all
-// in thousands of dollars, and its cells' WAC in thousandths of a percent a year and WARM in months.
+// in thousands of dollars, its cells' WAC in thousandths of a percent a year and WARM in months, and the column's penalty in hundredths of a month.
 pub struct Row {
     pub total: u64,
     pub above: u64,
@@ -27,4 +31,5 @@ pub struct Row {
     pub penalized: u64,
     pub coupon: u64,
     pub remaining_months: u64,
+    pub penalty: u64,
 }

@@ -12,7 +12,7 @@ ghost use mathlib.Core.Path.{_≡_};
 ghost use Prim.Native.Nat.{_<_};
 ghost use Rattle.filing.specs.Valid.{Valid};
 ghost use Rattle.conditions.specs.Inner.Sums.{columnSums};
-ghost use Rattle.shares.specs.Inner.Rows.{rowAt};
+ghost use Rattle.shares.specs.Inner.Rows.{rowAt, rowPlace};
 ghost use Rattle.shares.specs.Places.{placesOf};
 
 // The thirty-six places of a filing: nine positions ascending, four places each.
@@ -27,29 +27,26 @@ pub fn places_of(k: Contents) -> [SubBalance; 36]
         let row = row_at(&k.cells, sums, i);
         let four = row_shares(row);
         let at = 4 * i;
-        places[at] = SubBalance {
-            balance: four[0],
-            coupon: row.coupon,
-            remaining_months: row.remaining_months,
-        };
-        places[at + 1] = SubBalance {
-            balance: four[1],
-            coupon: row.coupon,
-            remaining_months: row.remaining_months,
-        };
-        places[at + 2] = SubBalance {
-            balance: four[2],
-            coupon: row.coupon,
-            remaining_months: row.remaining_months,
-        };
-        places[at + 3] = SubBalance {
-            balance: four[3],
-            coupon: row.coupon,
-            remaining_months: row.remaining_months,
-        };
+        places[at] = place_in(row, four[0], row.penalty);
+        places[at + 1] = place_in(row, four[1], 0);
+        places[at + 2] = place_in(row, four[2], row.penalty);
+        places[at + 3] = place_in(row, four[3], 0);
         i += 1;
     }
     places
+}
+
+// A place of a row, with its balance and its penalty. Its values are 0: the shares are not valued.
+fn place_in(row: Row, balance: u64, penalty: u64) -> SubBalance
+    ensures { λ r. ⌜ r ≡ rowPlace row balance penalty ⌝ }
+{
+    SubBalance {
+        balance,
+        coupon: row.coupon,
+        remaining_months: row.remaining_months,
+        penalty,
+        values: [0; 14],
+    }
 }
 
 // The row of a position.
@@ -67,5 +64,6 @@ fn row_at(cells: &[u64; 61], sums: ColumnSums, i: usize) -> Row
         penalized: cell_value(cells, 652 + p.column),
         coupon: cell_value(cells, p.coupon),
         remaining_months: cell_value(cells, p.months),
+        penalty: cell_value(cells, 655 + p.column),
     }
 }

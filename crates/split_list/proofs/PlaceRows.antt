@@ -33,6 +33,10 @@ localType ls i = typeOf (getD ls i (local tyUnit valueLocal))
 abbrev pub Place : RattleType
 Place = T.the-row
 
+-- the bytes that a place takes
+abbrev pub placeSize : ℕ
+placeSize = 144
+
 abbrev pub PlacesOf : ℕ → RattleType
 PlacesOf n = Array Place n
 

@@ -2,12 +2,12 @@
 use Prim.Native.Nat.{ℕ, suc, _+_, _≤_, _<_}
 use mathlib.Core.Path.{_≡_, refl, sym, _∙_}
 use mathlib.Core.List.{List, [], _∷_, _++_}
-use native.Mathlib.Nat.{add-zero, add-suc, suc-add}
+use native.Mathlib.Nat.{zero-add, add-zero, add-suc, suc-add}
 use native.Mathlib.Numerals.{add-one}
 use native.Mathlib.Omega.{arith}
-use lib.ListN.{length, getD, drop, set, length-append}
-use lib.Seq.{sets, sets-eq, length-sets, drop-cons, drop-length}
-use Rattle.text.specs.Appended.{Appended}
+use lib.ListN.{length, getD, take, drop, set, length-append}
+use lib.Seq.{sets, sets-eq, length-sets, take-at, drop-at, drop-cons, drop-length}
+use Rattle.text.specs.Appended.{Appended, InFront}
 
 sets-append : (l : List ℕ) (i : ℕ) (x y : List ℕ) → sets l i (x ++ y) ≡ sets (sets l i x) (i + length x) y
 sets-append l i [] y = rw add-zero
@@ -31,6 +31,18 @@ pub appended-front : (l t m : List ℕ) (k : ℕ) → length t ≤ length l → 
 appended-front l t m k h a =
     let e : 0 + length t ≡ k = omega (arith, a .end-is) in
     a .bytes-are ∙ sets-eq t l 0 (omega arith) ∙ rw e
+
+pub in-front : (t before after : List ℕ) (size : ℕ) → length t ≤ length before → Appended before 0 t after size → InFront t before after size
+in-front t before after size fits a =
+    let k : length t ≡ size = sym (a .end-is ∙ zero-add (length t)) in
+    let front = appended-front before t after size fits a in
+    let taken : take size after ≡ t = rw (front, take-at t (drop size before) size k) in
+    record {
+      text-is = taken;
+      rest-is = rw (front, drop-at t (drop size before) size k);
+      within = omega (arith, appended-length before 0 t after size a);
+      counted = rw taken (sym k);
+    }
 
 -- on the way to `text` at place i of the list l: `rest` remains to be put at place j of the list m
 pub record Remaining (l : List ℕ) (i : ℕ) (text m : List ℕ) (j : ℕ) (rest : List ℕ) : Type 0 where

@@ -19,3 +19,11 @@ refusedWord = 114 ∷ 101 ∷ 102 ∷ 117 ∷ 115 ∷ 101 ∷ 100 ∷ []
 -- the line of a refusal: `refused`, number and place
 unfoldable pub refusalLine : ℕ → ℕ → List ℕ
 refusalLine number place = refusedWord ++ restOfLine (number ∷ place ∷ [])
+
+-- the word `unreadable`
+unfoldable pub unreadableWord : List ℕ
+unreadableWord = 117 ∷ 110 ∷ 114 ∷ 101 ∷ 97 ∷ 100 ∷ 97 ∷ 98 ∷ 108 ∷ 101 ∷ []
+
+-- the line `too long`
+unfoldable pub tooLong : List ℕ
+tooLong = 116 ∷ 111 ∷ 111 ∷ 32 ∷ 108 ∷ 111 ∷ 110 ∷ 103 ∷ 10 ∷ []

@@ -1,57 +1,50 @@
 -- The row of a place with the discount factors of the lists has the numbers of the definitions, none above the limit of a value. Assumes nothing.
-use Prim.Native.Nat.{ℕ, zero, suc, _+_, _*_, _-_, _≤_, _<_}
+use Prim.Native.Nat.{ℕ, zero, suc, _≤_, _<_}
 use mathlib.Core.Path.{_≡_, ap, _∙_}
 use mathlib.Core.Logic.{⊎-elim}
 use mathlib.Core.List.{List, _∷_}
-use native.Mathlib.Nat.{mul-le-mul, le-refl, le-trans, not-suc-le-zero, le-of-suc-le-suc, le-max-left, le-max-right, eq-or-lt-of-le, ne-of-gt}
+use native.Mathlib.Nat.{le-refl, le-trans, not-suc-le-zero, le-of-suc-le-suc, le-max-left, le-max-right, eq-or-lt-of-le, ne-of-gt}
 use native.Mathlib.Omega.{arith}
-use lib.Dec.{lit<}
 use lib.ListN.{getD}
 use borrow.Author.Tests.{ne-eqb}
 use Rattle.lists.specs.Tables.{joined}
 use Rattle.lists.proofs.TableLaws.{table-getD, joined-le}
 use Rattle.schedule.specs.Limits.{balanceLimit}
-use Rattle.schedule.specs.Shift.{pathRate}
 use Rattle.filing.specs.declared.Contents.{Contents}
-use Rattle.filing.specs.Contents.{cdYield}
 use Rattle.filing.specs.Valid.{Valid}
 use Rattle.shares.specs.declared.SubBalance.{SubBalance}
-use Rattle.shares.specs.SubBalances.{balanceAt, monthsAt, positionOf}
-use Rattle.shares.specs.Places.{placeAt, placesOf, noPlace}
+use Rattle.shares.specs.SubBalances.{balanceAt, monthsAt}
+use Rattle.shares.specs.Places.{placeAt, placesOf, placeIn}
 use Rattle.shares.proofs.SubBalanceLaws.{balanceAt-limit}
 use Rattle.withdrawal.specs.declared.WithdrawalTiers.{WithdrawalTiers}
 use Rattle.withdrawal.specs.Inner.TierArrays.{tierTable, Usable}
-use Rattle.pricing.specs.Scales.{valueScale}
 use Rattle.pricing.specs.Rounding.{Rounding, down, up}
-use Rattle.pricing.specs.Run.{valueBy}
-use Rattle.pricing.proofs.RoundingLaws.{quotient-le}
-use Rattle.pricing.proofs.LimitLaws.{price-limit}
-use Rattle.deposits.specs.DepositTerms.{sheetYield}
-use Rattle.deposits.specs.Inner.Factors.{factorsBy, WithinRates}
-use Rattle.deposits.specs.Inner.Prices.{shiftedPath, DepositLimits, AtMostPar}
+use Rattle.deposits.specs.Inner.Factors.{factorsBy}
+use Rattle.deposits.specs.Inner.Prices.{DepositLimits, AtMostPar}
 use Rattle.deposits.proofs.FactorLaws.{factors-at-most-par}
-use Rattle.deposits.proofs.ValueLaws.{values-are}
-use Rattle.place_values.specs.PlaceTerms.{depositAt, rateAt, filingTiers, termsAt, monthYield}
+use Rattle.place_values.specs.PlaceTerms.{depositAt, filingTiers}
 use Rattle.valuation.specs.Run.{valueAt}
 use Rattle.valuation.specs.Numbers.{valuesOf, placeNumbers}
 use Rattle.place_values.specs.Inner.LongestTerm.{termOf, longestTo, longestTerm}
+use Rattle.place_values.specs.HeldValues.{boundsHeld, valuesHeld}
 use Rattle.place_values.specs.Inner.PlaceRows.{rowOf}
 use Rattle.totals.specs.RowTotals.{valueLimit}
-use Rattle.place_values.proofs.PlaceTermsLaws.{deposit-limits, terms-bounded}
+use Rattle.place_values.proofs.PlaceTermsLaws.{deposit-limits}
+use Rattle.place_values.proofs.HeldLaws.{held-le, held-are}
 
 -- a place's term is at most the longest
-longest-le : (ps : List SubBalance) (n i : ℕ) → i < n → termOf (getD ps i noPlace) ≤ longestTo ps n
+longest-le : (ps : List SubBalance) (n i : ℕ) → i < n → termOf (placeIn ps i) ≤ longestTo ps n
 unfolding longestTo
 longest-le ps zero i h = absurd (not-suc-le-zero h)
 longest-le ps (suc n) i h =
-    ⊎-elim (λ e. rw e (le-max-right (longestTo ps n) (termOf (getD ps n noPlace))))
-    (λ l. le-trans (longest-le ps n i l) (le-max-left (longestTo ps n) (termOf (getD ps n noPlace)))) (eq-or-lt-of-le (le-of-suc-le-suc h))
+    ⊎-elim (λ e. rw e (le-max-right (longestTo ps n) (termOf (placeIn ps n))))
+    (λ l. le-trans (longest-le ps n i l) (le-max-left (longestTo ps n) (termOf (placeIn ps n)))) (eq-or-lt-of-le (le-of-suc-le-suc h))
 
 module _ (k : Contents) where
   -- what stands at a place of the thirty-six
-  pub place-is : (place : ℕ) → place < 36 → getD (placesOf k) place noPlace ≡ placeAt k place
+  pub place-is : (place : ℕ) → place < 36 → placeIn (placesOf k) place ≡ placeAt k place
   unfolding placesOf
-  place-is place h = table-getD 36 (placeAt k) place noPlace h
+  place-is place h = table-getD 36 (placeAt k) place _ h
 
   term-of-place : (place : ℕ) → 0 < balanceAt k place → monthsAt k place ≤ termOf (placeAt k place)
   unfolding termOf placeAt
@@ -62,28 +55,14 @@ module _ (k : Contents) where
   unfolding longestTerm
   months-le-longest place h pos = le-trans held (longest-le (placesOf k) 36 place h)
     where
-      held : monthsAt k place ≤ termOf (getD (placesOf k) place noPlace)
+      held : monthsAt k place ≤ termOf (placeIn (placesOf k) place)
       held = rw (place-is place h) (term-of-place place pos)
 
   module _ (v : Valid k) where
-    -- the yields and the retail rates are within the limit
-    pub yields-within : WithinRates (k .yields)
-    unfolding cdYield
-    yields-within i = let e : suc i - 1 ≡ i = omega arith in rw e at (v .yield-limit (suc i))
-
-    pub rates-within : WithinRates (k .rates)
-    unfolding pathRate
-    rates-within i = let e : 120 * (1 - 1) + (suc i - 1) ≡ i = omega arith in rw e at (v .rate-limit 1 (suc i))
-
     -- no number of a row is above the limit of a value
     valueAt-le : (ρ : Rounding) (scenario place : ℕ) → place < 36 → valueAt ρ k scenario place ≤ valueLimit
-    unfolding valueAt valueBy
-    valueAt-le ρ scenario place h =
-        quotient-le ρ _ valueScale valueLimit (lit< tt)
-        (omega (
-          arith,
-          mul-le-mul (balanceAt-limit k v place h) (price-limit (termsAt k scenario place) (monthYield k scenario) (terms-bounded k v place h scenario) ρ),
-        ))
+    unfolding valueAt placeAt
+    valueAt-le ρ scenario place h = held-le k place (placeAt k place) (deposit-limits k v place h) (balanceAt-limit k v place h) ρ scenario
 
     bounds-le : (place scenario : ℕ) → place < 36 → (i : ℕ) → getD (valuesOf k place scenario) i 0 ≤ valueLimit
     unfolding valuesOf
@@ -111,19 +90,18 @@ module _ (k : Contents) (tiers : WithdrawalTiers) (places : List SubBalance) (lo
   factors-limits = rw (p .lower-is, p .upper-is) (factors-at-most-par down _ _, factors-at-most-par up _ _)
 
   module _ (place : ℕ) (h : place < 36) where
-    held-is : getD places place noPlace ≡ placeAt k place
+    held-is : placeIn places place ≡ placeAt k place
     held-is = rw (p .places-are) (place-is k place h)
 
     -- what a place holds is within its limits
-    pub held-limits : (getD places place noPlace .balance ≤ balanceLimit) × DepositLimits (depositAt (k .cells) place (getD places place noPlace))
+    pub held-limits : (placeIn places place .balance ≤ balanceLimit) × DepositLimits (depositAt place (placeIn places place))
     unfolding placeAt
     held-limits = rw held-is (balanceAt-limit k (p .valid) place h, deposit-limits k (p .valid) place h)
 
     -- the row of a place has its fifteen numbers
-    pub row-is : rowOf (getD places place noPlace) place (k .cells) (k .rates) (tierTable tiers) lower upper ≡ placeNumbers k place
-    unfolding rowOf placeNumbers valuesOf valueAt termsAt rateAt monthYield cdYield shiftedPath sheetYield placeAt depositAt
+    pub row-is : rowOf (placeIn places place) place (k .rates) (tierTable tiers) lower upper ≡ placeNumbers k place
+    unfolding rowOf placeNumbers valuesOf valueAt placeAt valuesHeld boundsHeld
     row-is =
         rw (p .lower-is, p .upper-is, p .tiers-are, held-is)
         (ap (λ (l : List ℕ). balanceAt k place ∷ l)
-        (values-are (filingTiers k) (k .yields) (longestTerm (placesOf k)) (balanceAt k place) (depositAt (k .cells) place (placeAt k place))
-        (k .rates) (positionOf place .column) (deposit-limits k (p .valid) place h .months-le) (months-le-longest k place h)))
+        (held-are k place (placeAt k place) (deposit-limits k (p .valid) place h) (longestTerm (placesOf k)) (months-le-longest k place h)))

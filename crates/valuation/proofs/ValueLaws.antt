@@ -12,21 +12,20 @@ use Rattle.filing.specs.declared.Contents.{Contents}
 use Rattle.filing.specs.Contents.{cell}
 use Rattle.filing.specs.Valid.{Valid}
 use Rattle.shares.specs.SubBalances.{balanceAt, subBalanceCount}
+use Rattle.shares.specs.Places.{placeAt}
 use Rattle.shares.proofs.SubBalanceLaws.{balanceAt-total}
 use Rattle.pricing.specs.Rounding.{Rounding, down, up}
-use Rattle.pricing.proofs.EnclosureLaws.{value-encloses}
-use Rattle.pricing.proofs.WidthLaws.{value-width}
-use Rattle.place_values.specs.PlaceTerms.{termsAt, monthYield}
 use Rattle.valuation.specs.Rows.{isShort, isLong}
 use Rattle.valuation.specs.Exact.{exactValueAt, exactTotal}
 use Rattle.valuation.specs.Run.{valueAt, totalBy}
-use Rattle.place_values.proofs.PlaceTermsLaws.{terms-bounded}
+use Rattle.place_values.proofs.PlaceTermsLaws.{deposit-limits}
+use Rattle.place_values.proofs.HeldLaws.{held-encloses, held-width}
 
 -- lower ≤ exact ≤ upper for each place and scenario
 pub valueAt-encloses : (k : Contents) (scenario place : ℕ)
     → Encloses (valueAt down k scenario place) (exactValueAt k scenario place) (valueAt up k scenario place)
 unfolding valueAt exactValueAt
-valueAt-encloses k scenario place = value-encloses (balanceAt k place) (termsAt k scenario place) (monthYield k scenario)
+valueAt-encloses k scenario place = held-encloses k place (placeAt k place) scenario
 
 -- and for the total over any places
 pub totalBy-encloses : (test : ℕ → Bool) (k : Contents) (scenario : ℕ)
@@ -38,14 +37,29 @@ totalBy-encloses test k scenario =
 -- 250 × (upper - lower) ≤ balance + 500
 pub valueAt-width : (k : Contents) → Valid k → (scenario place : ℕ) → place < 36
     → 250 * valueAt up k scenario place ≤ 250 * valueAt down k scenario place + (balanceAt k place + 500)
-unfolding valueAt
-valueAt-width k v scenario place h = value-width (balanceAt k place) (termsAt k scenario place) (monthYield k scenario) (terms-bounded k v place h scenario)
+unfolding valueAt placeAt
+valueAt-width k v scenario place h = held-width k place (placeAt k place) (deposit-limits k v place h) scenario
 
 -- c at each of n places
 constant-sum : (c n : ℕ) → sumWhere everywhere (λ _. c) n ≡ c * n
 unfolding sumWhere
 constant-sum c zero = omega arith
 constant-sum c (suc n) = omega (arith, constant-sum c n)
+
+-- values that are each within their width are so together
+pub widths-add : (l u b : ℕ → ℕ) (n : ℕ) → ((i : ℕ) → i < n → 250 * u i ≤ 250 * l i + (b i + 500))
+    → 250 * sumWhere everywhere u n ≤ 250 * sumWhere everywhere l n + (sumWhere everywhere b n + 500 * n)
+widths-add l u b n h =
+    omega (
+      arith,
+      sumWhere-mono everywhere (λ (i : ℕ). 250 * u i) (λ (i : ℕ). 250 * l i + (b i + 500)) n h,
+      sumWhere-mul 250 everywhere u n,
+      sumWhere-mul 250 everywhere l n,
+      sumWhere-add everywhere (λ (i : ℕ). 250 * l i)
+          (λ (i : ℕ). b i + 500) n,
+      sumWhere-add everywhere b (λ (_ : ℕ). 500) n,
+      constant-sum 500 n,
+    )
 
 -- over all places: 250 × (sum of upper - sum of lower) ≤ total + 18,000
 pub all-width : (k : Contents) → Valid k → (scenario : ℕ)
@@ -54,24 +68,9 @@ unfolding totalBy
 all-width k v scenario =
     omega (
       arith,
-      sumWhere-mono everywhere (λ (i : ℕ). 250 * u i) (λ (i : ℕ). 250 * l i + (b i + 500)) subBalanceCount (valueAt-width k v scenario),
-      sumWhere-mul 250 everywhere u subBalanceCount,
-      sumWhere-mul 250 everywhere l subBalanceCount,
-      sumWhere-add everywhere (λ (i : ℕ). 250 * l i)
-          (λ (i : ℕ). b i + 500) subBalanceCount,
-      sumWhere-add everywhere b (λ (_ : ℕ). 500) subBalanceCount,
-      constant-sum 500 subBalanceCount,
+      widths-add (valueAt down k scenario) (valueAt up k scenario) (balanceAt k) subBalanceCount (valueAt-width k v scenario),
       balanceAt-total k v,
     )
-  where
-    u : ℕ → ℕ
-    u = valueAt up k scenario
-
-    l : ℕ → ℕ
-    l = valueAt down k scenario
-
-    b : ℕ → ℕ
-    b = balanceAt k
 
 -- the short and the long total together are the total over all places
 pub short-and-long : (ρ : Rounding) (k : Contents) (scenario : ℕ)

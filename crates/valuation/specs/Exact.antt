@@ -4,13 +4,13 @@ use mathlib.Core.Bool.{Bool}
 use Rattle.fraction.specs.Fraction.{Fraction}
 use Rattle.fraction.specs.Totals.{totalWhere}
 use Rattle.filing.specs.declared.Contents.{Contents}
-use Rattle.shares.specs.SubBalances.{balanceAt, subBalanceCount}
-use Rattle.pricing.specs.Exact.{exactValue}
-use Rattle.place_values.specs.PlaceTerms.{termsAt, monthYield}
+use Rattle.shares.specs.SubBalances.{subBalanceCount}
+use Rattle.shares.specs.Places.{placeAt}
+use Rattle.place_values.specs.HeldValues.{exactHeld}
 
 -- the exact value of the sub-balance at a place, 0 to 35, in a scenario, 0 to 6
 unfoldable pub exactValueAt : Contents → ℕ → ℕ → Fraction
-exactValueAt k scenario place = exactValue (balanceAt k place) (termsAt k scenario place) (monthYield k scenario)
+exactValueAt k scenario place = exactHeld k scenario place (placeAt k place)
 
 -- the exact total over the places that pass a test
 unfoldable pub exactTotal : (ℕ → Bool) → Contents → ℕ → Fraction

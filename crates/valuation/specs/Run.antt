@@ -3,14 +3,14 @@ use Prim.Native.Nat.{ℕ}
 use mathlib.Core.Bool.{Bool}
 use Rattle.lists.specs.Sums.{sumWhere}
 use Rattle.filing.specs.declared.Contents.{Contents}
-use Rattle.shares.specs.SubBalances.{balanceAt, subBalanceCount}
+use Rattle.shares.specs.SubBalances.{subBalanceCount}
+use Rattle.shares.specs.Places.{placeAt}
 use Rattle.pricing.specs.Rounding.{Rounding}
-use Rattle.pricing.specs.Run.{valueBy}
-use Rattle.place_values.specs.PlaceTerms.{termsAt, monthYield}
+use Rattle.place_values.specs.HeldValues.{valueHeld}
 
 -- the value of the sub-balance at a place, 0 to 35, in a scenario, 0 to 6
 unfoldable pub valueAt : Rounding → Contents → ℕ → ℕ → ℕ
-valueAt ρ k scenario place = valueBy ρ (balanceAt k place) (termsAt k scenario place) (monthYield k scenario)
+valueAt ρ k scenario place = valueHeld ρ k scenario place (placeAt k place)
 
 -- the total over the places that pass a test
 unfoldable pub totalBy : Rounding → (ℕ → Bool) → Contents → ℕ → ℕ

@@ -31,7 +31,6 @@ fn write_rows(k: Contents, list: &mut [u64])
     requires { ⌜ Valid k × (540 ≤ length (now list)) ⌝ }
     ensures { λ _. ⌜ now (list .exit) ≡ joined (table subBalanceCount (placeNumbers k)) ++ drop 540 (now (list .entry)) ⌝ }
 {
-    let cells = k.cells;
     let filed = k.tiers;
     let tiers = tiers_of(filed);
     let places = places_of(k);
@@ -40,15 +39,7 @@ fn write_rows(k: Contents, list: &mut [u64])
     let upper = factor_table(&k.yields, longest, true);
     let mut place: usize = 0;
     while place < 36 {
-        let row = row_of(
-            places[place],
-            place,
-            &cells,
-            &k.rates,
-            tiers,
-            &lower,
-            &upper,
-        );
+        let row = row_of(places[place], place, &k.rates, tiers, &lower, &upper);
         write(list, 15 * place, &row);
         place += 1;
     }

@@ -8,10 +8,11 @@ use borrow.Author.Tests.{not-true, not-false}
 use lib.ListN.{length}
 use Rattle.lists.specs.Tables.{tableFrom, joined}
 use Rattle.lists.proofs.RunLaws.{overwritten-none}
-use Rattle.certificates_input.specs.declared.lines.Line.{Line}
+use Rattle.numerals.specs.declared.Line.{Line}
 use Rattle.certificates_input.specs.Texts.{readCount}
-use Rattle.certificates_input.specs.Lines.{dateForm, certificateForm, hasForm, formNumbers, formEnd}
-use Rattle.certificates_input.proofs.LineLaws.{line-readable, line-is}
+use Rattle.numerals.specs.Forms.{hasForm, formNumbers, formEnd}
+use Rattle.certificates_input.specs.Lines.{dateForm, certificateForm}
+use Rattle.numerals.proofs.LineLaws.{line-readable, line-is}
 use Rattle.certificates_input.proofs.TextLaws.{LinesRead, Stored, first-read, form-takes, next-read, line-fails, first-fails, count-is, none-fails, stored-next, certificate-read, numbers-are, certificate-length, first-none, line-first, none-first, date-read}
 use Rattle.certificates_input.proofs.read_text.Statement.{statement}
 use Rattle.certificates_input.proofs.read_text.Tie as tie

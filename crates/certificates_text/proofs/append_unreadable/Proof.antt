@@ -1,5 +1,6 @@
 -- `append_unreadable` meets its contract. Assumes nothing.
 use native.Mathlib.Omega.{arith}
+use Rattle.text.specs.Lines.{unreadableWord}
 use Rattle.text.proofs.AppendLaws.{appended-append}
 use Rattle.certificates_text.specs.Printed.{unreadableText}
 use Rattle.certificates_text.proofs.PrintingLaws.{rest-short}
@@ -28,7 +29,7 @@ same-length : tie.Need-same-length
 same-length c = search needs
 
 returns : tie.Need-returns
-unfolding unreadableText
+unfolding unreadableText unreadableWord
 returns c = let a = c .before .before .before .before .before .before .before .before .before .before .before .args in
     let line = appended-append _ _ _ _ _ _ _ _ (c .before .before .before .before .before .before .before .append .ensures) (c .before .before .append-line .ensures) in
     (line, omega (arith, c .before .before .before .before .before .before .before .append .ensures .end-is, c .before .before .append-line .ensures .end-is, rest-short (a .line) (omega (arith, c .before .before .before .before .before .before .before .before .before .before .before .fits .line))))

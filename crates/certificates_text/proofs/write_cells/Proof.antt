@@ -2,9 +2,10 @@
 use native.Mathlib.Omega.{arith}
 use mathlib.Core.Path.{sym, _∙_}
 use lib.Seq.{length-take-le}
+use Rattle.text.specs.Lines.{tooLong}
+use Rattle.text.proofs.AppendLaws.{in-front}
 use Rattle.certificates_input.proofs.ReadLaws.{date-all, numbers-all}
-use Rattle.certificates_text.specs.Printed.{tooLong}
-use Rattle.certificates_text.proofs.PrintingLaws.{text-too-long, text-unreadable, text-readable, printed}
+use Rattle.certificates_text.proofs.PrintingLaws.{text-too-long, text-unreadable, text-readable}
 use borrow.Author.Needs.{needs}
 use Rattle.certificates_text.proofs.write_cells.Statement.{statement}
 use Rattle.certificates_text.proofs.write_cells.Tie as tie
@@ -19,7 +20,7 @@ returns : tie.Need-returns
 unfolding tooLong
 returns c =
     let s = c .before .before .before .before .before .args .input .now in
-    printed _ _ _ _ _ (omega arith) (text-too-long s (omega arith)) (c .append .ensures)
+    rw (sym (text-too-long s (omega arith))) (in-front _ _ _ _ (omega arith) (c .append .ensures))
 
 slice-aggregate-read-text : tie.Need-slice-aggregate-read-text
 slice-aggregate-read-text c = search needs
@@ -36,7 +37,7 @@ returns-2 c =
     let s = r .before .before .before .before .args .input .now in
     let line = c .append-unreadable .ensures in
     let text = text-unreadable s (r .read-text .result .unreadable) (omega arith) (r .read-text .ensures .unreadable-is) (c .before .before .if2 .taken) in
-    printed _ _ _ _ _ (omega (arith, line .0 .end-is, line .1)) text (line .0)
+    rw (sym text) (in-front _ _ _ _ (omega (arith, line .0 .end-is, line .1)) (line .0))
 
 mul-end : tie.Need-mul-end
 mul-end c = search needs
@@ -60,7 +61,7 @@ returns-3 c =
     let lines = c .append-answer .ensures in
     let readable = sym (read .unreadable-is) ∙ c .before .before .before .before .before .if2 .left in
     let text = text-readable s _ _ (omega arith) readable (read .valuation-is ∙ date-all s readable) (numbers-all s readable _ _ _ read) in
-    printed _ _ _ _ _ (omega (arith, lines .0 .end-is, lines .1)) text (lines .0)
+    rw (sym text) (in-front _ _ _ _ (omega (arith, lines .0 .end-is, lines .1)) (lines .0))
 
 pub write-cells-spec : {M : Type 1} → statement M
 write-cells-spec =

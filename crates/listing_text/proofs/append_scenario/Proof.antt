@@ -1,15 +1,10 @@
--- `listing_text::append_scenario` meets its contract. Assumes nothing.
-use Prim.Native.Nat.{ℕ, _*_}
-use mathlib.Core.Path.{_≡_, ap}
-use mathlib.Core.List.{List, [], _∷_, _++_}
+-- `append_scenario` meets its contract. Assumes nothing.
+use mathlib.Core.Path.{ap}
 use native.Mathlib.Omega.{arith}
-use lib.IntN.{subℕ}
 use lib.ListN.{length, length-append}
-use Rattle.text.specs.Decimal.{signed}
-use Rattle.text.specs.Lines.{restOfLine}
-use Rattle.listing_text.specs.Inner.NumberLines.{lineIn}
+use Rattle.listing_text.specs.TotalLines.{totalsIn}
 use Rattle.text.proofs.AppendLaws.{appended-append}
-use Rattle.listing_text.proofs.NumberLineLaws.{line-is, line-of}
+use Rattle.listing_text.proofs.TotalLineLaws.{line-is}
 use borrow.Author.Needs.{needs}
 use Rattle.listing_text.proofs.append_scenario.Statement.{statement}
 use Rattle.listing_text.proofs.append_scenario.Tie as tie
@@ -20,48 +15,67 @@ mul-append-difference c = search needs
 append-difference-requires : tie.Need-append-difference-requires
 append-difference-requires c κs =
     let s = c .before .before .before .args in
-    omega (arith, simp length-append at (ap length (line-is (s .numbers .now) (s .scenario))))
+    omega (arith, simp length-append at (ap length (line-is (s .numbers .now) (s .from) (s .scenario))))
 
-total-requires : tie.Need-total-requires
-total-requires c κs = search needs
+mul-first : tie.Need-mul-first
+mul-first c = search needs
 
-total-requires-2 : tie.Need-total-requires-2
-total-requires-2 c κs = search needs
+add-first : tie.Need-add-first
+add-first c = search needs
 
-total-requires-3 : tie.Need-total-requires-3
-total-requires-3 c κs = search needs
+mul-short-lower : tie.Need-mul-short-lower
+mul-short-lower c = search needs
 
-total-requires-4 : tie.Need-total-requires-4
-total-requires-4 c κs = search needs
+shared-slice-read-short-lower : tie.Need-shared-slice-read-short-lower
+shared-slice-read-short-lower c = search needs
+
+add-short-upper : tie.Need-add-short-upper
+add-short-upper c = search needs
+
+mul-short-upper : tie.Need-mul-short-upper
+mul-short-upper c = search needs
+
+shared-slice-read-short-upper : tie.Need-shared-slice-read-short-upper
+shared-slice-read-short-upper c = search needs
+
+add-long-lower : tie.Need-add-long-lower
+add-long-lower c = search needs
+
+mul-long-lower : tie.Need-mul-long-lower
+mul-long-lower c = search needs
+
+shared-slice-read-long-lower : tie.Need-shared-slice-read-long-lower
+shared-slice-read-long-lower c = search needs
+
+add-long-upper : tie.Need-add-long-upper
+add-long-upper c = search needs
+
+mul-long-upper : tie.Need-mul-long-upper
+mul-long-upper c = search needs
+
+shared-slice-read-long-upper : tie.Need-shared-slice-read-long-upper
+shared-slice-read-long-upper c = search needs
 
 slice-aggregate-append-line : tie.Need-slice-aggregate-append-line
 slice-aggregate-append-line c = search needs
 
--- the line, of the totals as they were read
-abbrev list-of : tie.After-total4 → List ℕ
-list-of c = c .before .before .before .before .before .before .before .before .before .before .args .numbers .now
-
-abbrev scenario-of : tie.After-total4 → ℕ
-scenario-of c = c .before .before .before .before .before .before .before .before .before .before .args .scenario
-
-line : (c : tie.After-total4) → lineIn (list-of c) (scenario-of c) ≡ signed (subℕ (100 * scenario-of c) 300)
-    ++ restOfLine (c .before .before .before .total .result ∷ c .before .before .total2 .result ∷ c .before .total3 .result ∷ c .total4 .result ∷ [])
-line c =
-    line-of _ _ _ _ _ _ (c .before .before .before .total .ensures) (c .before .before .total2 .ensures) (c .before .total3 .ensures) (c .total4 .ensures)
-
 append-line-requires : tie.Need-append-line-requires
+unfolding totalsIn
 append-line-requires c κs =
-    let t = c .before .before in
-    omega (arith, t .before .before .before .before .before .before .append-difference .ensures .end-is, simp length-append at (ap length (line t)))
+    let d = c .before .before .before .before .before .before .before .before in
+    let s = d .before .before .before .before .args in
+    omega (arith, d .append-difference .ensures .end-is, simp length-append at (ap length (line-is (s .numbers .now) (s .from) (s .scenario))))
 
 same-length : tie.Need-same-length
 same-length c = search needs
 
 returns : tie.Need-returns
+unfolding totalsIn
 returns c =
-    let t = c .before .before .before .before .before in
-    rw (line t)
-    (appended-append _ _ _ _ _ _ _ _ (t .before .before .before .before .before .before .append-difference .ensures) (c .before .before .append-line .ensures))
+    let d = c .before .before .before .before .before .before .before .before .before .before .before in
+    let s = d .before .before .before .before .args in
+    rw (line-is (s .numbers .now) (s .from) (s .scenario))
+    (appended-append _ _ _ _ _ _ _ _ (d .append-difference .ensures) (c .before .before .append-line .ensures))
 
 pub append-scenario-spec : {M : Type 1} → statement M
 append-scenario-spec =
@@ -69,10 +83,19 @@ append-scenario-spec =
     (tie.spec
     mul-append-difference
     append-difference-requires
-    total-requires
-    total-requires-2
-    total-requires-3
-    total-requires-4
+    mul-first
+    add-first
+    mul-short-lower
+    shared-slice-read-short-lower
+    add-short-upper
+    mul-short-upper
+    shared-slice-read-short-upper
+    add-long-lower
+    mul-long-lower
+    shared-slice-read-long-lower
+    add-long-upper
+    mul-long-upper
+    shared-slice-read-long-upper
     slice-aggregate-append-line
     append-line-requires
     same-length

@@ -1,11 +1,12 @@
 -- `listing_text::write_listing` meets its contract. Assumes nothing.
 use Prim.Native.Nat.{_≤_}
+use mathlib.Core.Path.{sym}
 use native.Mathlib.Omega.{arith}
 use lib.ListN.{length}
-use Rattle.text.specs.Lines.{refusalLine}
+use Rattle.text.specs.Lines.{refusalLine, tooLong}
 use Rattle.text.proofs.LineLaws.{refusal-short}
-use Rattle.listing_text.specs.Listing.{tooLong}
-use Rattle.listing_text.proofs.ListingLaws.{text-too-long, text-refused, text-accepted, listed}
+use Rattle.text.proofs.AppendLaws.{in-front}
+use Rattle.listing_text.proofs.ListingLaws.{text-too-long, text-refused, text-accepted}
 use borrow.Author.Needs.{needs}
 use Rattle.listing_text.proofs.write_listing.Statement.{statement}
 use Rattle.listing_text.proofs.write_listing.Tie as tie
@@ -20,7 +21,7 @@ returns : tie.Need-returns
 unfolding tooLong
 returns c =
     let s = c .before .before .before .before .before .args .filing .now in
-    listed _ _ _ _ _ (omega arith) (text-too-long s (omega arith)) (c .append .ensures)
+    rw (sym (text-too-long s (omega arith))) (in-front _ _ _ _ (omega arith) (c .append .ensures))
 
 slice-aggregate-value : tie.Need-slice-aggregate-value
 slice-aggregate-value c = search needs
@@ -48,7 +49,7 @@ returns-2 c =
     let s = v .before .before .before .before .args .filing .now in
     let refusal =
     text-refused s _ _ _ (omega arith) (omega arith) (v .value .ensures) _ _ (n .number .ensures) (p .place .ensures) (c .before .before .before .if2 .taken) in
-    listed _ _ _ _ _ (omega (arith, short p)) refusal (c .append-refusal .ensures)
+    rw (sym refusal) (in-front _ _ _ _ (omega (arith, short p)) (c .append-refusal .ensures))
 
 slice-aggregate-append-scenarios : tie.Need-slice-aggregate-append-scenarios
 slice-aggregate-append-scenarios c = search needs
@@ -62,7 +63,7 @@ returns-3 c =
     let v = n .before .before in
     let s = v .before .before .before .before .args .filing .now in
     let lines = text-accepted s _ _ _ (omega arith) (omega arith) (v .value .ensures) _ (n .number .ensures) (omega arith) in
-    listed _ _ _ _ _ (omega (arith, c .append-scenarios .ensures .0 .end-is)) lines (c .append-scenarios .ensures .0)
+    rw (sym lines) (in-front _ _ _ _ (omega (arith, c .append-scenarios .ensures .0 .end-is)) (c .append-scenarios .ensures .0))
 
 pub write-listing-spec : {M : Type 1} → statement M
 write-listing-spec =

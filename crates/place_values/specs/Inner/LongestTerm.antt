@@ -3,10 +3,9 @@ use Prim.Native.Nat.{ℕ, zero, suc, max}
 use mathlib.Core.Bool.{cond}
 use mathlib.Core.List.{List}
 use lib.Dec.{eqb}
-use lib.ListN.{getD}
 use Rattle.shares.specs.declared.SubBalance.{SubBalance}
 use Rattle.shares.specs.SubBalances.{subBalanceCount}
-use Rattle.shares.specs.Places.{noPlace}
+use Rattle.shares.specs.Places.{placeIn}
 
 -- the remaining months of a place with a balance, 0 of one without
 unfoldable pub termOf : SubBalance → ℕ
@@ -15,7 +14,7 @@ termOf p = cond (eqb (p .balance) 0) 0 (p .«remaining_months»)
 -- the longest such term among the first n places, and among the thirty-six
 unfoldable pub longestTo : List SubBalance → ℕ → ℕ
 longestTo ps zero = 0
-longestTo ps (suc n) = max (longestTo ps n) (termOf (getD ps n noPlace))
+longestTo ps (suc n) = max (longestTo ps n) (termOf (placeIn ps n))
 
 unfoldable pub longestTerm : List SubBalance → ℕ
 longestTerm ps = longestTo ps subBalanceCount

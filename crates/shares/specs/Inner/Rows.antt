@@ -2,11 +2,13 @@
 -- Definitions only.
 use Prim.Native.Nat.{ℕ, _+_, _-_, _≤_}
 use mathlib.Core.List.{List, [], _∷_}
-use Rattle.schedule.specs.Cells.{positionAt, brokeredCell, penaltyBalanceCell}
+use Rattle.schedule.specs.Cells.{positionAt, brokeredCell, penaltyBalanceCell, penaltyMonthsCell}
 use Rattle.schedule.specs.Limits.{columnLimit}
 use Rattle.conditions.specs.Conditions.{cellIn}
 use Rattle.conditions.specs.Inner.Sums.{columnSum}
 use Rattle.shares.specs.declared.Row.{Row}
+use Rattle.shares.specs.declared.SubBalance.{SubBalance}
+use Rattle.shares.specs.Places.{noValues}
 use Rattle.shares.specs.Apportion.{shareBehind}
 
 -- the row of the i-th position, 0 to 8, among the cells of a filing
@@ -20,7 +22,13 @@ rowAt cells i =
       penalized = cellIn cells (penaltyBalanceCell (positionAt i .column));
       coupon = cellIn cells (positionAt i .coupon);
       «remaining_months» = cellIn cells (positionAt i .months);
+      penalty = cellIn cells (penaltyMonthsCell (positionAt i .column));
     }
+
+-- a place of a row, with its balance and its penalty
+abbrev pub rowPlace : Row → ℕ → ℕ → SubBalance
+rowPlace row balance penalty =
+    record { balance = balance; coupon = row .coupon; «remaining_months» = row .«remaining_months»; penalty = penalty; values = noValues }
 
 -- a row lies within its column, the column within its limit, and the column's brokered and penalty balances within the column
 pub record RowWithin (row : Row) : Type 0 where

@@ -1,25 +1,21 @@
 -- `places_of` meets its contract. The loop's invariant: the places of the positions passed are theirs.
 -- Assumes nothing.
-use Prim.Native.Nat.{ℕ, _+_, _*_, _-_, _≤_}
+use Prim.Native.Nat.{_+_, _*_, _-_, _≤_}
 use mathlib.Core.Path.{_≡_, refl, sym, subst, _∙_}
 use native.Mathlib.Omega.{arith}
 use lib.Dec.{lit<}
-use lib.ListN.{length, take, length-set}
-use lib.Seq.{take-all}
 use borrow.Author.Needs.{needs}
-use Rattle.lists.specs.Tables.{tableFrom, table}
-use Rattle.lists.proofs.TableLaws.{table-stored}
+use Rattle.lists.proofs.FillLaws.{Filled, fill-none, fill-all}
 use Rattle.filing.specs.Valid.{Valid}
-use Rattle.shares.specs.Places.{placeAt, placesOf}
+use Rattle.shares.specs.Places.{placeAt, placesOf, noPlace}
 use Rattle.shares.specs.Inner.Rows.{RowWithin}
 use Rattle.shares.proofs.RowLaws.{row-within}
-use Rattle.shares.proofs.PlaceLaws.{place-of}
+use Rattle.shares.proofs.PlaceLaws.{place-of, fill-place}
 use Rattle.shares.proofs.places.places_of.Statement.{statement}
 use Rattle.shares.proofs.places.places_of.Tie as tie
 
 abbrev Inv-loop : tie.InvT-loop
-Inv-loop k sums places₀ i₀ places i =
-    (i ≤ 9) × (length places ≡ 36) × (take (4 * i) places ≡ table (4 * i) (placeAt k))
+Inv-loop k sums places₀ i₀ places i = (i ≤ 9) × Filled (placeAt k) noPlace 36 (4 * i) places
 
 abbrev μ-loop : tie.MeasureT-loop
 μ-loop k sums places₀ i₀ places i = 9 - i
@@ -28,8 +24,7 @@ column-sums-requires : tie.Need-column-sums-requires Inv-loop μ-loop
 column-sums-requires c κs = c .before .before .pre .balance-limit
 
 loop-holds : tie.Need-loop-holds Inv-loop μ-loop
-unfolding tableFrom
-loop-holds c = (omega arith, refl, refl)
+loop-holds c = (omega arith, fill-none (placeAt _) noPlace noPlace 36)
 
 -- what holds at the loop's head: the contents are valid
 valid : (c : tie.At-loop Inv-loop μ-loop) → Valid (c .before .before .before .before .args .t1)
@@ -46,8 +41,11 @@ row-shares-requires c κs =
 mul-at : tie.Need-mul-at Inv-loop μ-loop
 mul-at c = search needs
 
-array-read-t16 : tie.Need-array-read-t16 Inv-loop μ-loop
-array-read-t16 c = search needs
+array-read-place-in : tie.Need-array-read-place-in Inv-loop μ-loop
+array-read-place-in c = search needs
+
+place-in-requires : tie.Need-place-in-requires Inv-loop μ-loop
+place-in-requires c κs = search needs
 
 mul-places : tie.Need-mul-places Inv-loop μ-loop
 mul-places c = search needs
@@ -55,8 +53,11 @@ mul-places c = search needs
 array-set-from-places : tie.Need-array-set-from-places Inv-loop μ-loop
 array-set-from-places c = omega arith
 
-array-read-t16-2 : tie.Need-array-read-t16-2 Inv-loop μ-loop
-array-read-t16-2 c = search needs
+array-read-place-in-2 : tie.Need-array-read-place-in-2 Inv-loop μ-loop
+array-read-place-in-2 c = search needs
+
+place-in-requires-2 : tie.Need-place-in-requires-2 Inv-loop μ-loop
+place-in-requires-2 c κs = search needs
 
 add-places : tie.Need-add-places Inv-loop μ-loop
 add-places c = omega arith
@@ -67,8 +68,11 @@ mul-places-2 c = search needs
 array-set-from-places-2 : tie.Need-array-set-from-places-2 Inv-loop μ-loop
 array-set-from-places-2 c = omega arith
 
-array-read-t16-3 : tie.Need-array-read-t16-3 Inv-loop μ-loop
-array-read-t16-3 c = search needs
+array-read-place-in-3 : tie.Need-array-read-place-in-3 Inv-loop μ-loop
+array-read-place-in-3 c = search needs
+
+place-in-requires-3 : tie.Need-place-in-requires-3 Inv-loop μ-loop
+place-in-requires-3 c κs = search needs
 
 add-places-2 : tie.Need-add-places-2 Inv-loop μ-loop
 add-places-2 c = omega arith
@@ -79,8 +83,11 @@ mul-places-3 c = search needs
 array-set-from-places-3 : tie.Need-array-set-from-places-3 Inv-loop μ-loop
 array-set-from-places-3 c = omega arith
 
-array-read-t16-4 : tie.Need-array-read-t16-4 Inv-loop μ-loop
-array-read-t16-4 c = search needs
+array-read-place-in-4 : tie.Need-array-read-place-in-4 Inv-loop μ-loop
+array-read-place-in-4 c = search needs
+
+place-in-requires-4 : tie.Need-place-in-requires-4 Inv-loop μ-loop
+place-in-requires-4 c κs = search needs
 
 add-places-3 : tie.Need-add-places-3 Inv-loop μ-loop
 add-places-3 c = omega arith
@@ -99,28 +106,24 @@ loop-less c = omega arith
 
 loop-again : tie.Need-loop-again Inv-loop μ-loop
 loop-again c =
-    let test = c .before .before .before .before in
+    let shares = c .before .before .before .before in
+    let test = shares .before .before .before .before in
     let k = test .before .before .before .before .before .args .t1 in
     let loop = test .before .loop in
     let i = loop .i in
-    let place = place-of k (valid (test .before)) i (test .loop-test .taken) _ (c .before .row-at .ensures) _ (c .row-shares .ensures) in (
+    let place = place-of k (valid (test .before)) i (test .loop-test .taken) _ (shares .before .row-at .ensures) _ (shares .row-shares .ensures) in (
       omega arith,
-      simp length-set (loop .inv .1),
-      table-stored (placeAt k) _ (4 * i + 3) (4 * (i + 1)) _
-          (table-stored (placeAt k) _ (4 * i + 2) (4 * i + 3) _
-          (table-stored (placeAt k) _ (4 * i + 1) (4 * i + 2) _
-          (table-stored (placeAt k) _ (4 * i) (4 * i + 1) _ (loop .inv .2) (omega arith) refl (place 0 (4 * i) (omega arith) (lit< tt)))
-          (simp length-set (omega arith)) (omega arith) (place 1 (4 * i + 1) refl (lit< tt)))
-          (simp length-set (omega arith)) (omega arith) (place 2 (4 * i + 2) refl (lit< tt)))
-          (simp length-set (omega arith)) (omega arith) (place 3 (4 * i + 3) refl (lit< tt)),
+      fill-place k (4 * i + 3) (4 * (i + 1)) _ _ (omega arith) (omega arith) (c .place-in4 .ensures ∙ place 3 (4 * i + 3) refl (lit< tt))
+          (fill-place k (4 * i + 2) (4 * i + 3) _ _ (omega arith) (omega arith) (c .before .place-in3 .ensures ∙ place 2 (4 * i + 2) refl (lit< tt))
+          (fill-place k (4 * i + 1) (4 * i + 2) _ _ (omega arith) (omega arith) (c .before .before .place-in2 .ensures ∙ place 1 (4 * i + 1) refl (lit< tt))
+          (fill-place k (4 * i) (4 * i + 1) _ _ refl (omega arith) (c .before .before .before .place-in .ensures ∙ place 0 (4 * i) (omega arith) (lit< tt)) (loop .inv .1)))),
     )
 
 returns : tie.Need-returns Inv-loop μ-loop
 unfolding placesOf
 returns c =
-    let places = c .before .loop .places in
     let e : 4 * c .before .loop .i ≡ 36 = omega arith in
-    sym (take-all 36 places (omega arith)) ∙ rw e at (c .before .loop .inv .2)
+    fill-all (placeAt _) noPlace 36 _ (rw e at (c .before .loop .inv .1))
 
 pub places-of-spec : {M : Type 1} → statement M
 places-of-spec =
@@ -133,18 +136,22 @@ places-of-spec =
     row-at-requires
     row-shares-requires
     mul-at
-    array-read-t16
+    array-read-place-in
+    place-in-requires
     mul-places
     array-set-from-places
-    array-read-t16-2
+    array-read-place-in-2
+    place-in-requires-2
     add-places
     mul-places-2
     array-set-from-places-2
-    array-read-t16-3
+    array-read-place-in-3
+    place-in-requires-3
     add-places-2
     mul-places-3
     array-set-from-places-3
-    array-read-t16-4
+    array-read-place-in-4
+    place-in-requires-4
     add-places-3
     mul-places-4
     array-set-from-places-4

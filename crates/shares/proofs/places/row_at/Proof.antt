@@ -5,7 +5,7 @@ use native.Mathlib.Omega.{arith}
 use borrow.Author.Needs.{needs}
 use lib.ListN.{getD}
 use Rattle.schedule.specs.declared.Position.{Position}
-use Rattle.schedule.specs.Cells.{positionAt, brokeredCell, penaltyBalanceCell}
+use Rattle.schedule.specs.Cells.{positionAt, brokeredCell, penaltyBalanceCell, penaltyMonthsCell}
 use Rattle.conditions.specs.declared.ColumnSums.{ColumnSums}
 use Rattle.conditions.specs.Inner.Sums.{columnSum}
 use Rattle.conditions.proofs.SumLaws.{column-range, totals-are, above-at, sum-at}
@@ -68,10 +68,16 @@ cell-value-requires-4 c κs = search needs
 cell-value-requires-5 : tie.Need-cell-value-requires-5
 cell-value-requires-5 c κs = search needs
 
+add-cell-value-3 : tie.Need-add-cell-value-3
+add-cell-value-3 c = omega (arith, in-range (c .before .before .before .before .before .before .before .before .before .before .before))
+
+cell-value-requires-6 : tie.Need-cell-value-requires-6
+cell-value-requires-6 c κs = search needs
+
 returns : tie.Need-returns
-unfolding rowAt brokeredCell penaltyBalanceCell
+unfolding rowAt brokeredCell penaltyBalanceCell penaltyMonthsCell
 returns c =
-    let at = c .before .before .before .before .before .before .before .before .before .before in
+    let at = c .before .before .before .before .before .before .before .before .before .before .before .before in
     cc (total-is at, above-is (at .before), column-is at)
 
 pub row-at-spec : {M : Type 1} → statement M
@@ -91,4 +97,6 @@ row-at-spec =
     cell-value-requires-3
     cell-value-requires-4
     cell-value-requires-5
+    add-cell-value-3
+    cell-value-requires-6
     returns)

@@ -40,7 +40,8 @@ use denote.Triple.Walked.{says, Stays, stay-slice, stay-none, walkOf, ends-at}
 use denote.Exit.{yes}
 use denote.Signature.{plain}
 use Rattle.shares.specs.declared.SubBalance.{SubBalance}
-use Rattle.split_list.proofs.PlaceRows.{Place, Places, localType, placeVals, placesVals, place-tells, places-tells, place-typed, place-makes, places-makes}
+use Rattle.shares.specs.Places.{noPlace}
+use Rattle.split_list.proofs.PlaceRows.{Place, Places, localType, placeSize, placeVals, placesVals, place-tells, places-tells, place-typed, place-makes, places-makes}
 use Rattle.split_list.proofs.OverwriteLaws.{overwrite-length, overwrite-suc}
 use Rattle.split_list.proofs.fill as fill′
 use Rattle.split_list.proofs.fill.Code.Mir as mir′
@@ -51,9 +52,6 @@ stayed = (stay-slice (0 ∷ []) tt (plain (λ _. Place)), (stay-none (λ _. Plac
 -- the types of the locals
 abbrev pub ty : ℕ → Ty
 ty = localType mir′.locals
-
-abbrev none : SubBalance
-none = record { balance = 0; coupon = 0; «remaining_months» = 0 }
 
 module _ {M : Type 1} (𝓤 : URA M) (H : Heap 𝓤) (A : Atoms 𝓤) (W : Given 𝓤 H A) (at-mem : Memory → SProp 𝓤) (run : Routine → Fun 𝓤) (κ : Lft) (q : Share) (b o : ℕ) (γ : GName) (ys fs : List SubBalance) (arr : Val) (m : ℕ)
     (room : Room Place (length ys)) (are : Is Places fs (arr ∷ [])) (m-fits : m < 2 ^ 64) (few : m ≤ 36) (within : m ≤ length ys) where
@@ -131,19 +129,19 @@ module _ {M : Type 1} (𝓤 : URA M) (H : Heap 𝓤) (A : Atoms 𝓤) (W : Given
         assigns ! (bin ! (load ! (from ! (stop !)) (look ! 19 refl)) (lit ! tt) (record { fits = scaled })) (from ! (stop !)) (init ! 15 refl (tt, record { fits = scaled })) $
         assigns ! (addr ! (from ! (stop !))) (from ! (stop !)) (init ! 13 refl (tt, tt)) $
         assigns ! (bin ! (load ! (from ! (stop !)) (look ! 13 refl)) (load ! (from ! (stop !)) (look ! 15 refl)) tt) (from ! (stop !)) (init ! 11 refl (tt, tt)) $
-        rewrite ! 11 (λ (p : ℕ). ‵ (fat fullShare tyPtr l₉ 0 (vptr l₄ p))) (sym (place-is 24 0 i)) refl $
+        rewrite ! 11 (λ (p : ℕ). ‵ (fat fullShare tyPtr l₉ 0 (vptr l₄ p))) (sym (place-is placeSize 0 i)) refl $
         -- the element is read out of the array
-        elem-out ! Place (Is Place) (shows 𝓤 H A Place) placeVals place-tells fullShare fs i none l₄ 0 inArr (λ is.
-        assigns ! (of-opd ! (load ! (from ! (hop ! (look ! 13 refl) (stop !))) (look-raw ! 0 refl))) (from ! (stop !)) (init ! 11 refl (place-typed 𝓤 H A W (getD fs i none) is)) $
-        elem-back ! Place fullShare fs i none (placeVals (getD fs i none)) l₄ 0 inArr $
+        elem-out ! Place (Is Place) (shows 𝓤 H A Place) placeVals place-tells fullShare fs i noPlace l₄ 0 inArr (λ is.
+        assigns ! (of-opd ! (load ! (from ! (hop ! (look ! 13 refl) (stop !))) (look-raw ! 0 refl))) (from ! (stop !)) (init ! 11 refl (place-typed 𝓤 H A W (getD fs i noPlace) is)) $
+        elem-back ! Place fullShare fs i noPlace (placeVals (getD fs i noPlace)) l₄ 0 inArr $
         assigns ! (bin ! (load ! (from ! (stop !)) (look ! 19 refl)) (lit ! tt) (record { fits = scaled })) (from ! (stop !)) (init ! 7 refl (tt, record { fits = scaled })) $
         assigns ! (bin ! (load ! (from ! (fld ! refl (stop !))) (look-in ! 26 (sub ! 0 refl (whole !)))) (load ! (from ! (stop !)) (look ! 7 refl)) tt) (from ! (stop !)) (init ! 5 refl (tt, tt)) $
-        rewrite ! 5 (λ (p : ℕ). ‵ (fat fullShare tyPtr l₁₂ 0 (vptr b p))) (sym (place-is 24 o i)) refl $
+        rewrite ! 5 (λ (p : ℕ). ‵ (fat fullShare tyPtr l₁₂ 0 (vptr b p))) (sym (place-is placeSize o i)) refl $
         -- and stored in the slice
-        move ! (1 ∷ []) $ elem-out ! Place (Is Place) (shows 𝓤 H A Place) placeVals place-tells fullShare (mixed i) i none b o inSlice (λ _.
-        assigns ! (of-opd ! (load ! (from ! (stop !)) (look ! 11 refl))) (from ! (hop ! (look ! 7 refl) (stop !))) (store-raw ! 0 refl (place-typed 𝓤 H A W (getD fs i none) is)) $
-        move ! (1 ∷ []) $ leave ! $ owned ! Place (Is Place) (place-makes 𝓤 H A W) (getD fs i none) _ is $ move ! (1 ∷ 0 ∷ []) $
-        elem-put ! Place fullShare (mixed i) i (getD fs i none) (placeVals (getD fs i none)) b o inSlice $
+        move ! (1 ∷ []) $ elem-out ! Place (Is Place) (shows 𝓤 H A Place) placeVals place-tells fullShare (mixed i) i noPlace b o inSlice (λ _.
+        assigns ! (of-opd ! (load ! (from ! (stop !)) (look ! 11 refl))) (from ! (hop ! (look ! 7 refl) (stop !))) (store-raw ! 0 refl (place-typed 𝓤 H A W (getD fs i noPlace) is)) $
+        move ! (1 ∷ []) $ leave ! $ owned ! Place (Is Place) (place-makes 𝓤 H A W) (getD fs i noPlace) _ is $ move ! (1 ∷ 0 ∷ []) $
+        elem-put ! Place fullShare (mixed i) i (getD fs i noPlace) (placeVals (getD fs i noPlace)) b o inSlice $
         rewrite ! 0 (λ (l : List SubBalance). ‵ (row Place fullShare l b o)) next refl $ move ! (1 ∷ 0 ∷ []) $
         assigns-last ! (bin ! (load ! (from ! (stop !)) (look ! 19 refl)) (lit ! tt) (record { fits = next-fits })) (from ! (stop !)) (store ! 19 refl (tt, record { fits = next-fits })) $
         forget ! 5 refl $ forget ! 7 refl $ forget ! 9 refl $ forget ! 11 refl $ forget ! 13 refl $ forget ! 15 refl $ forget ! 17 refl $ by ! k))
@@ -154,14 +152,14 @@ module _ {M : Type 1} (𝓤 : URA M) (H : Heap 𝓤) (A : Atoms 𝓤) (W : Given
         inSlice : i < length (mixed i)
         inSlice = omega (arith, overwrite-length fs ys i (omega arith) (omega arith))
 
-        scaled : i * 24 < 2 ^ 64
+        scaled : i * placeSize < 2 ^ 64
         scaled = omega arith
 
         next-fits : i + 1 < 2 ^ 64
         next-fits = omega arith
 
-        next : set (mixed i) i (getD fs i none) ≡ mixed (i + 1)
-        next = rw add-one (overwrite-suc fs ys i none inArr (omega arith))
+        next : set (mixed i) i (getD fs i noPlace) ≡ mixed (i + 1)
+        next = rw add-one (overwrite-suc fs ys i noPlace inArr (omega arith))
 
     -- the turn that leaves the loop, and the rest of the body: the borrow is closed, and the array is put together again
     ends : (X : SProp 𝓤) → ent 𝓤 (⋆ 𝓤 H A (At m)) (Wp 𝓤 H C Λ En mir′.turn-1 (afterTurn 𝓤 H X Left))

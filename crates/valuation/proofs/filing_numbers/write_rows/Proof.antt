@@ -11,34 +11,35 @@ use Rattle.valuation.specs.Numbers.{placeNumbers}
 use Rattle.place_values.specs.Inner.LongestTerm.{longestTerm}
 use Rattle.place_values.proofs.FilingTierLaws.{filed-limits}
 use Rattle.valuation.proofs.NumberLaws.{row-length}
-use Rattle.valuation.proofs.RowLaws.{Prepared, yields-within, rates-within, held-limits, factors-limits, row-is}
+use Rattle.place_values.proofs.HeldLaws.{yields-within, rates-within}
+use Rattle.valuation.proofs.RowLaws.{Prepared, held-limits, factors-limits, row-is}
 use Rattle.valuation.proofs.filing_numbers.write_rows.Statement.{statement}
 use Rattle.valuation.proofs.filing_numbers.write_rows.Tie as tie
 
 abbrev Inv-loop : tie.InvT-loop
-Inv-loop list₀ k cells tiers places longest lower upper place₀ list place =
+Inv-loop list₀ k tiers places longest lower upper place₀ list place =
     (place ≤ 36) × (540 ≤ length list₀) × Prepared k tiers places lower upper × Overwritten (joined (table place (placeNumbers k))) (15 * place) list₀ list
 
 abbrev μ-loop : tie.MeasureT-loop
-μ-loop list₀ k cells tiers places longest lower upper place₀ list place = 36 - place
+μ-loop list₀ k tiers places longest lower upper place₀ list place = 36 - place
 
 tiers-of-requires : tie.Need-tiers-of-requires Inv-loop μ-loop
-tiers-of-requires c κs = filed-limits _ (c .before .before .before .pre .0)
+tiers-of-requires c κs = filed-limits _ (c .before .before .pre .0)
 
 places-of-requires : tie.Need-places-of-requires Inv-loop μ-loop
-places-of-requires c κs = c .before .before .before .before .pre .0
+places-of-requires c κs = c .before .before .before .pre .0
 
 longest-term-requires : tie.Need-longest-term-requires Inv-loop μ-loop
 longest-term-requires c κs = tt
 
 factor-table-requires : tie.Need-factor-table-requires Inv-loop μ-loop
 factor-table-requires c κs =
-    let start = c .before .before .before .before .before .before .before .before in
+    let start = c .before .before .before .before .before .before .before in
     yields-within (start .args .t1) (start .pre .0)
 
 factor-table-requires-2 : tie.Need-factor-table-requires-2 Inv-loop μ-loop
 factor-table-requires-2 c κs =
-    let start = c .before .before .before .before .before .before .before .before .before .before .before in
+    let start = c .before .before .before .before .before .before .before .before .before .before in
     yields-within (start .args .t1) (start .pre .0)
 
 loop-holds : tie.Need-loop-holds Inv-loop μ-loop
@@ -48,7 +49,7 @@ loop-holds c =
     let term = lower .before .before .before in
     let places = term .before in
     let tiers = places .before in
-    let start = tiers .before .before .before .before in
+    let start = tiers .before .before .before in
     let longest = term .longest-term .ensures ∙ ap longestTerm (places .places-of .ensures) in (
       omega arith,
       start .pre .1,
@@ -71,7 +72,7 @@ array-copy-out-row-of c = omega arith
 
 row-of-requires : tie.Need-row-of-requires Inv-loop μ-loop
 row-of-requires c κs =
-    let at = c .before .before .before .before .before .before .before in
+    let at = c .before .before .before .before .before .before in
     let state = at .loop in
     let prepared = state .inv .2 in
     let held = held-limits _ _ _ _ _ prepared (state .place) (omega arith) in
@@ -96,7 +97,7 @@ loop-less c = omega arith
 loop-again : tie.Need-loop-again Inv-loop μ-loop
 loop-again c =
     let row = c .before .before .before .before .before in
-    let at = row .before .before .before .before .before .before .before .before in
+    let at = row .before .before .before .before .before .before .before in
     let state = at .loop in
     let prepared = state .inv .2 in (
       omega arith,

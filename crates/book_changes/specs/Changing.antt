@@ -1,0 +1,59 @@
+-- A list of changes made in turn on the book that a filing opens (02:CR 7). Definitions only.
+use Prim.Native.Nat.{ℕ, _+_, _*_, _/_}
+use mathlib.Core.Path.{_≡_}
+use mathlib.Core.Bool.{Bool, cond, _&&_}
+use mathlib.Core.List.{List}
+use lib.Dec.{eqb}
+use lib.ListN.{length, getD}
+use Rattle.lists.specs.Tables.{table}
+use Rattle.answers.specs.Answers.{verdictOf}
+use Rattle.answers.specs.Verdict.{Verdict, accepted, firstRefusal, firstOf}
+use Rattle.filing.specs.Verdict.{filingVerdict}
+use Rattle.books.specs.declared.Book.{Book}
+use Rattle.books.specs.declared.Answered.{Answered}
+use Rattle.books.specs.Books.{openedBook}
+use Rattle.books.specs.Changes.{Change, setPlace, clearPlace, changeVerdict, bookAfterAll}
+use Rattle.books.specs.Promise.{Kept}
+
+-- a place that is to hold nothing: balance, coupon, months and penalty are 0
+unfoldable pub leavesNothing : ℕ → ℕ → ℕ → ℕ → Bool
+leavesNothing balance coupon months penalty = eqb balance 0 && (eqb coupon 0 && (eqb months 0 && eqb penalty 0))
+
+-- the change that five numbers mean: place, balance (thousands of dollars), coupon (thousandths of a percent a year), months, penalty (hundredths of a month)
+unfoldable pub changeOf : ℕ → ℕ → ℕ → ℕ → ℕ → Change
+changeOf place balance coupon months penalty =
+    cond (leavesNothing balance coupon months penalty) (clearPlace place) (setPlace place balance coupon months penalty)
+
+-- how many whole changes a list of numbers has, and the k-th
+abbrev pub changeCount : List ℕ → ℕ
+changeCount l = length l / 5
+
+unfoldable pub changeAt : List ℕ → ℕ → Change
+changeAt l k = changeOf (getD l (5 * k) 0) (getD l (5 * k + 1) 0) (getD l (5 * k + 2) 0) (getD l (5 * k + 3) 0) (getD l (5 * k + 4) 0)
+
+-- the changes of a list, and the first refusal among them: 17, at the place given
+unfoldable pub changesOf : List ℕ → List Change
+changesOf l = table (changeCount l) (changeAt l)
+
+unfoldable pub changesVerdict : List ℕ → Verdict
+changesVerdict l = firstOf (table (changeCount l) (λ (k : ℕ). changeVerdict (changeAt l k)))
+
+-- the book after the changes; with one of them refused, as it was
+unfoldable pub bookWith : Book → List ℕ → Book
+bookWith b l = cond (eqb (changesVerdict l .number) 0) (bookAfterAll b (changesOf l)) b
+
+-- what a list of changes does to a book
+pub record ChangedAll (before : Book) (l : List ℕ) (r : Answered) : Type 0 where
+  pub answer-is : verdictOf (r .answer) ≡ changesVerdict l
+  pub book-is : r .book ≡ bookWith before l
+  pub kept : (s : List ℕ) → Kept s before → Kept s (r .book)
+
+-- the refusal of the filing, then those of the changes in turn
+unfoldable pub bookVerdict : List ℕ → List ℕ → Verdict
+bookVerdict s l = firstRefusal (filingVerdict s) (changesVerdict l)
+
+-- what is answered on a filing s and a list of changes l: the first refusal, or the book, which is kept
+pub record BookOf (s l : List ℕ) (r : Answered) : Type 0 where
+  pub answer-is : verdictOf (r .answer) ≡ bookVerdict s l
+  pub book-is : r .book ≡ cond (eqb (bookVerdict s l .number) 0) (bookAfterAll (openedBook s) (changesOf l)) (openedBook s)
+  pub kept : verdictOf (r .answer) ≡ accepted → Kept s (r .book)

@@ -1,0 +1,111 @@
+-- Laws of the sheets and tiers that a book holds: where they are usable each number is within its limit, and those of a valid filing are.
+-- Assumes nothing.
+use Prim.Native.Nat.{ℕ, zero, suc, _+_, _-_, _≤_, _<_, zero-le}
+use mathlib.Core.Path.{_≡_, refl, ap}
+use mathlib.Core.Bool.{Bool, true, false, not, _&&_, false≢true}
+use mathlib.Core.List.{List}
+use native.Mathlib.Nat.{lt-trans, lt-suc-self}
+use native.Mathlib.Numerals.{add-one}
+use native.Mathlib.Omega.{arith}
+use borrow.Author.Tests.{ltb-true, ltb-false, le-ltb, leb-true, leb-false, le-leb, lt-leb, not-true}
+use lib.Dec.{leb, ltb}
+use lib.ListN.{length, getD, List·getD-eq-default}
+use Rattle.lists.specs.Tables.{anyBelow}
+use Rattle.lists.proofs.TestLaws.{any-fails}
+use Rattle.schedule.specs.Limits.{rateLimit, monthsLimit, tierLimit, withdrawalLimit}
+use Rattle.filing.specs.declared.Contents.{Contents}
+use Rattle.filing.specs.declared.FiledTiers.{FiledTiers}
+use Rattle.filing.specs.Valid.{Valid}
+use Rattle.pricing.specs.Scales.{par}
+use Rattle.pricing.specs.Rounding.{down, up}
+use Rattle.deposits.specs.Inner.Factors.{factorsBy}
+use Rattle.deposits.specs.Inner.Prices.{AtMostPar}
+use Rattle.deposits.proofs.FactorLaws.{factors-at-most-par}
+use Rattle.place_values.specs.Inner.FiledLimits.{FiledLimits}
+use Rattle.place_values.proofs.FilingTierLaws.{filed-limits}
+use Rattle.place_values.proofs.HeldLaws.{rates-within}
+use Rattle.book_sheets.specs.Sheets.{aboveLimit, noneAbove, notRising, tiersUsable, sheetsUsable}
+
+-- both sides of a conjunction
+pub and-true : (a b : Bool) → (a && b) ≡ true → (a ≡ true) × (b ≡ true)
+and-true true b e = (refl, e)
+and-true false b e = absurd (false≢true e)
+
+none-below : (test : ℕ → Bool) (n : ℕ) → ((i : ℕ) → i < n → test i ≡ false) → anyBelow test n ≡ false
+unfolding anyBelow
+none-below test zero h = refl
+none-below test (suc n) h = rw (none-below test n (λ i l. h i (lt-trans l (lt-suc-self n)))) (h n (lt-suc-self n))
+
+-- no number above the limit: each is at most the limit, past the end too
+none-above : (limit : ℕ) (numbers : List ℕ) → noneAbove limit numbers ≡ true → (i : ℕ) → getD numbers i 0 ≤ limit
+unfolding noneAbove aboveLimit
+none-above limit numbers e i = by (ltb i (length numbers)) refl
+  where
+    by : (b : Bool) → ltb i (length numbers) ≡ b → getD numbers i 0 ≤ limit
+    by true h = ltb-false limit (getD numbers i 0) (any-fails _ (length numbers) (not-true _ e) i (ltb-true i (length numbers) h))
+    by false h = rw (List·getD-eq-default numbers 0 (ltb-false i (length numbers) h)) zero-le
+
+above-none : (limit : ℕ) (numbers : List ℕ) → ((i : ℕ) → getD numbers i 0 ≤ limit) → noneAbove limit numbers ≡ true
+unfolding noneAbove aboveLimit
+above-none limit numbers h = ap not (none-below _ (length numbers) (λ i l. le-ltb limit (getD numbers i 0) (h i)))
+
+-- edges of which none is not above the one before it rise
+rising : (t : FiledTiers) → anyBelow (notRising (t .edges)) (t .count - 1) ≡ false
+    → (i : ℕ) → suc i < t .count → getD (t .edges) i 0 < getD (t .edges) (suc i) 0
+unfolding notRising
+rising t e i h = rw (← add-one i) (leb-false _ _ (any-fails _ (t .count - 1) e i (omega arith)))
+
+falling-none : (t : FiledTiers) → ((i : ℕ) → suc i < t .count → getD (t .edges) i 0 < getD (t .edges) (suc i) 0)
+    → anyBelow (notRising (t .edges)) (t .count - 1) ≡ false
+unfolding notRising
+falling-none t h = none-below _ (t .count - 1) (λ i l. rw (add-one i) (lt-leb _ _ (h i (omega arith))))
+
+-- the limits of what a book holds
+pub record Limits (rates : List ℕ) (tiers : FiledTiers) (lower upper : List ℕ) : Type 0 where
+  pub rates-le : (i : ℕ) → getD rates i 0 ≤ rateLimit
+  pub tiers-within : FiledLimits tiers
+  pub lower-le : AtMostPar lower
+  pub upper-le : AtMostPar upper
+
+module _ (rates : List ℕ) (tiers : FiledTiers) (lower upper : List ℕ) where
+  pub usable-limits : sheetsUsable rates tiers lower upper ≡ true → Limits rates tiers lower upper
+  unfolding sheetsUsable tiersUsable
+  usable-limits e =
+      let first = and-true (noneAbove rateLimit rates) (tiersUsable tiers && (noneAbove par lower && noneAbove par upper)) e in
+      let second = and-true (tiersUsable tiers) (noneAbove par lower && noneAbove par upper) (first .1) in
+      let third = and-true (noneAbove par lower) (noneAbove par upper) (second .1) in
+      let count = and-true (leb (tiers .count) tierLimit) _ (second .0) in
+      let own = and-true (not (anyBelow (notRising (tiers .edges)) (tiers .count - 1))) (noneAbove withdrawalLimit (tiers .withdrawals)) (count .1) in
+      record {
+        rates-le = none-above rateLimit rates (first .0);
+        tiers-within =
+            record {
+              count-le = leb-true (tiers .count) tierLimit (count .0);
+              edges-rise = rising tiers (not-true _ (own .0));
+              withdrawal-le = none-above withdrawalLimit (tiers .withdrawals) (own .1);
+            };
+        lower-le = none-above par lower (third .0);
+        upper-le = none-above par upper (third .1);
+      }
+
+  pub limits-usable : Limits rates tiers lower upper → sheetsUsable rates tiers lower upper ≡ true
+  unfolding sheetsUsable tiersUsable
+  limits-usable l =
+      rw (
+        above-none rateLimit rates (l .rates-le),
+        le-leb (tiers .count) tierLimit (l .tiers-within .count-le),
+        falling-none tiers (l .tiers-within .edges-rise),
+        above-none withdrawalLimit (tiers .withdrawals) (l .tiers-within .withdrawal-le),
+        above-none par lower (l .lower-le),
+        above-none par upper (l .upper-le),
+      )
+
+-- what a valid filing says is within them
+pub filing-limits : (k : Contents) → Valid k → Limits (k .rates) (k .tiers) (factorsBy down (k .yields) monthsLimit) (factorsBy up (k .yields) monthsLimit)
+filing-limits k v =
+    record {
+      rates-le = rates-within k v;
+      tiers-within = filed-limits k v;
+      lower-le = factors-at-most-par down (k .yields) monthsLimit;
+      upper-le = factors-at-most-par up (k .yields) monthsLimit;
+    }

@@ -1,0 +1,41 @@
+-- The values of a place under the sheets and tiers that a book holds (02:CR 7). A book opened from a filing holds that filing's, which are within their
+-- limits; under others the values are 0. Definitions only.
+use Prim.Native.Nat.{ℕ, _+_, _-_}
+use mathlib.Core.Bool.{Bool, cond, not, _&&_}
+use mathlib.Core.List.{List}
+use lib.Dec.{leb, ltb}
+use lib.ListN.{length, getD}
+use Rattle.lists.specs.Tables.{anyBelow}
+use Rattle.schedule.specs.Limits.{rateLimit, tierLimit, withdrawalLimit}
+use Rattle.filing.specs.declared.FiledTiers.{FiledTiers}
+use Rattle.shares.specs.declared.SubBalance.{SubBalance}
+use Rattle.shares.specs.Places.{noValues}
+use Rattle.pricing.specs.Scales.{par}
+use Rattle.place_values.specs.PlaceTerms.{tiersOf}
+use Rattle.place_values.specs.Inner.PlaceRows.{listedHeld}
+
+-- number i of a list is above a limit
+unfoldable pub aboveLimit : ℕ → List ℕ → ℕ → Bool
+aboveLimit limit numbers i = ltb limit (getD numbers i 0)
+
+-- no number of a list is above the limit
+unfoldable pub noneAbove : ℕ → List ℕ → Bool
+noneAbove limit numbers = not (anyBelow (aboveLimit limit numbers) (length numbers))
+
+-- edge i + 1 is not above edge i
+unfoldable pub notRising : List ℕ → ℕ → Bool
+notRising edges i = leb (getD edges (i + 1) 0) (getD edges i 0)
+
+-- at most 16 tiers, whose edges rise and whose annual withdrawals are within the limit
+unfoldable pub tiersUsable : FiledTiers → Bool
+tiersUsable t =
+    leb (t .count) tierLimit && (not (anyBelow (notRising (t .edges)) (t .count - 1)) && noneAbove withdrawalLimit (t .withdrawals))
+
+-- the retail rates, the tiers and the discount factors are within their limits
+unfoldable pub sheetsUsable : List ℕ → FiledTiers → List ℕ → List ℕ → Bool
+sheetsUsable rates tiers lower upper = noneAbove rateLimit rates && (tiersUsable tiers && (noneAbove par lower && noneAbove par upper))
+
+-- lower and upper value in each scenario of what a place holds, dollars
+unfoldable pub valuesUnder : List ℕ → FiledTiers → List ℕ → List ℕ → ℕ → SubBalance → List ℕ
+valuesUnder rates tiers lower upper place held =
+    cond (sheetsUsable rates tiers lower upper) (listedHeld held place rates (tiersOf tiers) lower upper) noValues

@@ -1,0 +1,113 @@
+// The values of a place under the sheets and tiers that a book holds.
+use deposits::RatePaths;
+use deposits::factors::FactorTable;
+use filing::FiledTiers;
+use place_values::filing_tiers::tiers_of;
+use place_values::place_row::held_values;
+use shares::SubBalance;
+ghost use mathlib.Core.Path.{_≡_};
+ghost use Prim.Native.Nat.{_-_, _≤_, _<_};
+ghost use lib.ListN.{length};
+ghost use Rattle.lists.specs.Tables.{anyBelow};
+ghost use Rattle.schedule.specs.Limits.{balanceLimit, tierLimit};
+ghost use Rattle.shares.specs.SubBalances.{subBalanceCount};
+ghost use Rattle.pricing.specs.Scales.{par};
+ghost use Rattle.deposits.specs.Inner.Prices.{DepositLimits};
+ghost use Rattle.place_values.specs.PlaceTerms.{depositAt};
+ghost use Rattle.book_sheets.specs.Sheets.{aboveLimit, notRising, tiersUsable, sheetsUsable, valuesUnder};
+
+// No discount factor is above par, in billionths.
+const PAR: u64 = 1_000_000_000;
+
+// Lower and upper value in each scenario of what a place holds, in dollars. They are 0 under sheets that no filing has.
+pub fn values_in<'a>(
+    held: SubBalance,
+    place: usize,
+    rates: &'a RatePaths,
+    tiers: FiledTiers,
+    lower: &'a FactorTable,
+    upper: &'a FactorTable,
+) -> [u64; 14]
+    requires { ⌜ (place < subBalanceCount) × (held .balance ≤ balanceLimit) × DepositLimits (depositAt place held) ⌝ }
+    ensures { λ r. ⌜ r ≡ valuesUnder (now (rates .entry)) tiers (now (lower .entry)) (now (upper .entry)) place held ⌝ }
+{
+    if !usable(rates, tiers, lower, upper) {
+        return [0; 14];
+    }
+    let own = tiers_of(tiers);
+    held_values(held, place, rates, own, lower, upper)
+}
+
+// Every rate, tier and factor is within its limit, as those of a filing are.
+fn usable(rates: &RatePaths, tiers: FiledTiers, lower: &FactorTable, upper: &FactorTable) -> bool
+    ensures { λ r. ⌜ r ≡ sheetsUsable (now (rates .entry)) tiers (now (lower .entry)) (now (upper .entry)) ⌝ }
+{
+    if some_above(rates, 2_500) {
+        return false;
+    }
+    if !tiers_usable(tiers) {
+        return false;
+    }
+    if above_par(lower) {
+        return false;
+    }
+    !above_par(upper)
+}
+
+// At most 16 tiers, of rising edges and annual withdrawals up to 600 thousandths.
+fn tiers_usable(tiers: FiledTiers) -> bool
+    ensures { λ r. ⌜ r ≡ tiersUsable tiers ⌝ }
+{
+    if 16 < tiers.count {
+        return false;
+    }
+    let edges = tiers.edges;
+    if some_not_rising(&edges, tiers.count) {
+        return false;
+    }
+    let withdrawals = tiers.withdrawals;
+    !some_above(&withdrawals, 600)
+}
+
+// One of the first `count` edges is not above the one before it.
+fn some_not_rising(edges: &[u16; 16], count: usize) -> bool
+    requires { ⌜ count ≤ tierLimit ⌝ }
+    ensures { λ r. ⌜ r ≡ anyBelow (notRising (now (edges .entry))) (count - 1) ⌝ }
+{
+    let mut i: usize = 0;
+    while i + 1 < count {
+        if edges[i + 1] <= edges[i] {
+            return true;
+        }
+        i += 1;
+    }
+    false
+}
+
+// One of the numbers is above the limit.
+fn some_above(numbers: &[u16], limit: u16) -> bool
+    ensures { λ r. ⌜ r ≡ anyBelow (aboveLimit limit (now (numbers .entry))) (length (now (numbers .entry))) ⌝ }
+{
+    let mut i: usize = 0;
+    while i < numbers.len() {
+        if limit < numbers[i] {
+            return true;
+        }
+        i += 1;
+    }
+    false
+}
+
+// One of the factors is above par.
+fn above_par(factors: &[u64]) -> bool
+    ensures { λ r. ⌜ r ≡ anyBelow (aboveLimit par (now (factors .entry))) (length (now (factors .entry))) ⌝ }
+{
+    let mut i: usize = 0;
+    while i < factors.len() {
+        if PAR < factors[i] {
+            return true;
+        }
+        i += 1;
+    }
+    false
+}

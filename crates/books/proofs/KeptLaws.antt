@@ -1,0 +1,140 @@
+-- A book that stands under an accepted filing keeps its promise: its totals are fresh sums, and its figures enclose the exact ones within the widths.
+-- Assumes nothing.
+use Prim.Native.Nat.{ℕ, _+_, _*_, _/_, _%_, _≤_, _<_}
+use mathlib.Core.Path.{_≡_, refl, sym, ap, _∙_}
+use mathlib.Core.Bool.{Bool}
+use mathlib.Core.List.{List}
+use native.Mathlib.Omega.{arith}
+use lib.Dec.{lit<}
+use lib.ListN.{length, getD}
+use Rattle.lists.specs.Sums.{sumWhere, everywhere}
+use Rattle.lists.proofs.SumLaws.{sumWhere-ext, sumWhere-split}
+use Rattle.lists.proofs.TableLaws.{joined-getD}
+use Rattle.fraction.specs.Fraction.{Encloses}
+use Rattle.fraction.proofs.EnclosureLaws.{total-encloses}
+use Rattle.filing.specs.declared.Contents.{Contents}
+use Rattle.filing.specs.Contents.{contentsOf}
+use Rattle.shares.specs.SubBalances.{subBalanceCount}
+use Rattle.pricing.specs.Rounding.{Rounding, down, up}
+use Rattle.place_values.specs.HeldValues.{exactHeld, valueHeld, boundsHeld, valuesHeld}
+use Rattle.place_values.proofs.HeldLaws.{held-encloses, held-width}
+use Rattle.valuation.specs.Rows.{isShort, isLong}
+use Rattle.valuation.proofs.ValueLaws.{widths-add}
+use Rattle.books.specs.declared.Book.{Book}
+use Rattle.kept_totals.specs.KeptTotals.{sumsPlace, valueOfTotal}
+use Rattle.books.specs.Books.{heldIn}
+use Rattle.books.specs.Inner.Standing.{Standing}
+use Rattle.books.specs.Promise.{balanceIn, lowerIn, upperIn, totalIn, exactIn, exactTotalIn, Kept}
+
+-- total r of a scenario's four, short lower, short upper, long lower, long upper, is a fresh sum
+module _ (k : Contents) (b : Book) (stands : Standing k b) (scenario : ℕ) (h : scenario < 7) where
+  -- of the places that pass a test, value j of the fourteen
+  fresh : (r j : ℕ) (test : ℕ → Bool) → r < 4 → sumsPlace (4 * scenario + r) ≡ test → valueOfTotal (4 * scenario + r) ≡ j
+      → totalIn b scenario r ≡ sumWhere test (λ (place : ℕ). getD (heldIn b place .values) j 0) subBalanceCount
+  unfolding totalIn
+  fresh r j test small e f = rw (← e, ← f) (stands .total-is (4 * scenario + r) (omega arith))
+
+  pub short-lower-is : totalIn b scenario 0 ≡ sumWhere isShort (lowerIn b scenario) subBalanceCount
+  unfolding lowerIn sumsPlace valueOfTotal
+  short-lower-is = fresh 0 (2 * scenario) isShort (lit< tt) (let e : (4 * scenario + 0) % 4 ≡ 0 = omega arith in rw e) (omega arith)
+
+  pub short-upper-is : totalIn b scenario 1 ≡ sumWhere isShort (upperIn b scenario) subBalanceCount
+  unfolding upperIn sumsPlace valueOfTotal
+  short-upper-is = fresh 1 (2 * scenario + 1) isShort (lit< tt) (let e : (4 * scenario + 1) % 4 ≡ 1 = omega arith in rw e) (omega arith)
+
+  pub long-lower-is : totalIn b scenario 2 ≡ sumWhere isLong (lowerIn b scenario) subBalanceCount
+  unfolding lowerIn sumsPlace valueOfTotal
+  long-lower-is = fresh 2 (2 * scenario) isLong (lit< tt) (let e : (4 * scenario + 2) % 4 ≡ 2 = omega arith in rw e) (omega arith)
+
+  pub long-upper-is : totalIn b scenario 3 ≡ sumWhere isLong (upperIn b scenario) subBalanceCount
+  unfolding upperIn sumsPlace valueOfTotal
+  long-upper-is = fresh 3 (2 * scenario + 1) isLong (lit< tt) (let e : (4 * scenario + 3) % 4 ≡ 3 = omega arith in rw e) (omega arith)
+
+  bounds-length : (place s : ℕ) → length (boundsHeld k place (heldIn b place) s) ≡ 2
+  unfolding boundsHeld
+  bounds-length place s = refl
+
+  -- number r of a place's two values in the scenario
+  bound-is : (place r : ℕ) → place < 36 → r < 2 → getD (heldIn b place .values) (2 * scenario + r) 0 ≡ getD (boundsHeld k place (heldIn b place) scenario) r 0
+  unfolding valuesHeld
+  bound-is place r hp hr =
+      rw (stands .places place hp .values-are) (joined-getD 2 7 (boundsHeld k place (heldIn b place)) (bounds-length place) scenario r 0 h hr)
+
+  pub lower-is : (place : ℕ) → place < 36 → lowerIn b scenario place ≡ valueHeld down k scenario place (heldIn b place)
+  unfolding lowerIn boundsHeld
+  lower-is place hp =
+      let e : 2 * scenario ≡ 2 * scenario + 0 = omega arith in
+      ap (λ (i : ℕ). getD (heldIn b place .values) i 0) e ∙ bound-is place 0 hp (lit< tt)
+
+  pub upper-is : (place : ℕ) → place < 36 → upperIn b scenario place ≡ valueHeld up k scenario place (heldIn b place)
+  unfolding upperIn boundsHeld
+  upper-is place hp = bound-is place 1 hp (lit< tt)
+
+  -- sums of lower and upper values
+  lower-sum : (test : ℕ → Bool) → sumWhere test (lowerIn b scenario) 36 ≡ sumWhere test (λ (place : ℕ). valueHeld down k scenario place (heldIn b place)) 36
+  lower-sum test = sumWhere-ext test (lowerIn b scenario) (λ (place : ℕ). valueHeld down k scenario place (heldIn b place)) 36 lower-is
+
+  upper-sum : (test : ℕ → Bool) → sumWhere test (upperIn b scenario) 36 ≡ sumWhere test (λ (place : ℕ). valueHeld up k scenario place (heldIn b place)) 36
+  upper-sum test = sumWhere-ext test (upperIn b scenario) (λ (place : ℕ). valueHeld up k scenario place (heldIn b place)) 36 upper-is
+
+  width-is : (place : ℕ) → place < 36 → 250 * upperIn b scenario place ≤ 250 * lowerIn b scenario place + (balanceIn b place + 500)
+  unfolding balanceIn
+  width-is place hp = rw (lower-is place hp, upper-is place hp) (held-width k place (heldIn b place) (stands .places place hp .limits) scenario)
+
+  -- the short and the long total are all places
+  both : (f : ℕ → ℕ) → sumWhere isShort f 36 + sumWhere isLong f 36 ≡ sumWhere everywhere f 36
+  unfolding isLong
+  both f = sumWhere-split isShort f 36
+
+  all-width : b .balance ≡ sumWhere everywhere (balanceIn b) 36
+      → 250 * (totalIn b scenario 1 + totalIn b scenario 3) ≤ 250 * (totalIn b scenario 0 + totalIn b scenario 2) + (b .balance + 18000)
+  all-width balance =
+      omega (
+        arith,
+        balance,
+        short-lower-is,
+        short-upper-is,
+        long-lower-is,
+        long-upper-is,
+        both (lowerIn b scenario),
+        both (upperIn b scenario),
+        widths-add (lowerIn b scenario) (upperIn b scenario) (balanceIn b) 36 width-is,
+      )
+
+-- under an accepted filing
+module _ (s : List ℕ) (b : Book) (stands : Standing (contentsOf s) b) where
+  place-encloses : (scenario place : ℕ) → scenario < 7 → place < 36
+      → Encloses (lowerIn b scenario place) (exactIn s b scenario place) (upperIn b scenario place)
+  unfolding exactIn
+  place-encloses scenario place h hp =
+      rw (lower-is (contentsOf s) b stands scenario h place hp, upper-is (contentsOf s) b stands scenario h place hp)
+      (held-encloses (contentsOf s) place (heldIn b place) scenario)
+
+  sums-enclose : (test : ℕ → Bool) (scenario : ℕ) → scenario < 7
+      → Encloses (sumWhere test (lowerIn b scenario) 36) (exactTotalIn test s b scenario) (sumWhere test (upperIn b scenario) 36)
+  unfolding exactTotalIn exactIn
+  sums-enclose test scenario h =
+      rw (lower-sum (contentsOf s) b stands scenario h test, upper-sum (contentsOf s) b stands scenario h test)
+      (total-encloses test _ _ _ 36 (λ place. held-encloses (contentsOf s) place (heldIn b place) scenario))
+
+  balance-sum : b .balance ≡ sumWhere everywhere (balanceIn b) subBalanceCount
+  unfolding balanceIn
+  balance-sum = stands .balance-is
+
+  pub standing-kept : Kept s b
+  standing-kept =
+      record {
+        standing = stands;
+        balance-total = balance-sum;
+        short-lower = short-lower-is (contentsOf s) b stands;
+        short-upper = short-upper-is (contentsOf s) b stands;
+        long-lower = long-lower-is (contentsOf s) b stands;
+        long-upper = long-upper-is (contentsOf s) b stands;
+        value-encloses = place-encloses;
+        value-width = λ scenario place h hp. width-is (contentsOf s) b stands scenario h place hp;
+        short-encloses = λ scenario h.
+            rw (short-lower-is (contentsOf s) b stands scenario h, short-upper-is (contentsOf s) b stands scenario h) (sums-enclose isShort scenario h);
+        long-encloses = λ scenario h.
+            rw (long-lower-is (contentsOf s) b stands scenario h, long-upper-is (contentsOf s) b stands scenario h) (sums-enclose isLong scenario h);
+        total-width = λ scenario h. all-width (contentsOf s) b stands scenario h balance-sum;
+      }

@@ -1,0 +1,6 @@
+pub mod PlaceLaws
+pub mod StandingLaws
+pub mod KeptLaws
+pub mod ChangeLaws
+pub mod OpeningLaws
+pub mod ShareLaws

@@ -1,0 +1,53 @@
+-- Opening a book: the yields that it is opened with are within their limit, those of an accepted filing and of a refused one zeros; the book is the one
+-- that the bytes open, and kept. Assumes nothing.
+use Prim.Native.Nat.{ℕ, _+_, _*_, _≤_, zero-le}
+use mathlib.Core.Path.{_≡_, refl, sym, ap, _∙_}
+use mathlib.Core.Bool.{Bool, true, false, cond}
+use mathlib.Core.List.{List, []}
+use borrow.Author.Tests.{eqb-true}
+use lib.Dec.{eqb}
+use Rattle.lists.proofs.TableLaws.{table-le}
+use Rattle.schedule.specs.Limits.{monthsLimit, rateLimit}
+use Rattle.answers.specs.declared.Answer.{Answer}
+use Rattle.answers.specs.Verdict.{Verdict}
+use Rattle.answers.specs.Answers.{numberOf, verdictOf}
+use Rattle.records.specs.Bytes.{numberAt}
+use Rattle.filing.specs.declared.Contents.{Contents}
+use Rattle.filing.specs.Contents.{contentsOf}
+use Rattle.filing.specs.Readings.{emptyContents, readContents}
+use Rattle.filing.specs.Verdict.{filingVerdict}
+use Rattle.filing.proofs.ReadingLaws.{reading-accepted}
+use Rattle.pricing.specs.Rounding.{down, up}
+use Rattle.deposits.specs.Inner.Factors.{factorsBy, WithinRates}
+use Rattle.place_values.proofs.HeldLaws.{yields-within}
+use Rattle.books.specs.declared.Answered.{Answered}
+use Rattle.books.specs.Books.{emptyUnder, emptyBook, openedBook}
+use Rattle.books.specs.Promise.{OpenedOf}
+use Rattle.books.proofs.ChangeLaws.{opened-kept}
+
+-- no bytes spell 0
+no-bytes : (i : ℕ) → numberAt [] i 2 ≡ 0
+unfolding numberAt
+no-bytes i = refl
+
+empty-yields : WithinRates (emptyContents .yields)
+unfolding emptyContents contentsOf
+empty-yields = table-le 1 120 _ rateLimit (λ j l u. rw (no-bytes _) zero-le)
+
+pub opened-yields : (s : List ℕ) (a : Answer) (k : Contents) → verdictOf a ≡ filingVerdict s → k ≡ readContents s → WithinRates (k .yields)
+unfolding verdictOf readContents
+opened-yields s a k v r = by (eqb (filingVerdict s .number) 0) refl
+  where
+    by : (t : Bool) → eqb (filingVerdict s .number) 0 ≡ t → WithinRates (k .yields)
+    by true e = yields-within k (reading-accepted s a k v r (ap (λ (w : Verdict). w .number) v ∙ eqb-true _ 0 e) .1)
+    by false e = rw (r, e) empty-yields
+
+-- what was read, with its factors, is the book that the bytes open
+pub opened : (s : List ℕ) (r : Answered) {k : Contents} {lower upper : List ℕ} → verdictOf (r .answer) ≡ filingVerdict s → k ≡ readContents s
+    → lower ≡ factorsBy down (k .yields) monthsLimit → upper ≡ factorsBy up (k .yields) monthsLimit
+    → r .book ≡ emptyUnder (k .rates) (k .tiers) lower upper
+    → OpenedOf s r
+unfolding openedBook emptyBook
+opened s r v said below above is =
+    let book : r .book ≡ openedBook s = is ∙ rw (below, above, said) in
+    record { answer-is = v; book-is = book; kept = λ a. rw book (opened-kept s (sym v ∙ a)) }

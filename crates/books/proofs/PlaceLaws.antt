@@ -1,0 +1,110 @@
+-- Laws of one place of a book: nothing is within every limit and has the value 0, and a deposit that the place takes is within its limits, with its
+-- values under the filing. Assumes nothing.
+use Prim.Native.Nat.{ℕ, _≤_, _<_, zero-le}
+use mathlib.Core.Path.{_≡_, ap}
+use mathlib.Core.Bool.{Bool, true, cond, _&&_}
+use mathlib.Core.List.{List, [], _∷_}
+use native.Mathlib.Nat.{le-refl, le-trans}
+use borrow.Author.Tests.{leb-true, ltb-true}
+use lib.Dec.{leb, ltb, lit<}
+use Rattle.lists.specs.Tables.{tableFrom, joined}
+use Rattle.lists.proofs.TableLaws.{table-ext}
+use Rattle.lists.proofs.TestLaws.{either, entries-le}
+use Rattle.schedule.specs.declared.Position.{Position}
+use Rattle.schedule.specs.Cells.{withinRow, leastMonths, mostMonths}
+use Rattle.schedule.specs.Limits.{balanceLimit, couponLimit, penaltyLimit, monthsLimit}
+use Rattle.filing.specs.declared.Contents.{Contents}
+use Rattle.shares.specs.declared.SubBalance.{SubBalance}
+use Rattle.shares.specs.SubBalances.{subBalanceCount, positionOf, withPenalty}
+use Rattle.shares.specs.Places.{noPlace, noValues}
+use Rattle.pricing.specs.Scales.{valueScale}
+use Rattle.pricing.specs.Rounding.{down, up}
+use Rattle.pricing.specs.Run.{valueBy}
+use Rattle.pricing.proofs.RoundingLaws.{quotient-zero}
+use Rattle.deposits.specs.Inner.Prices.{DepositLimits}
+use Rattle.place_values.specs.PlaceTerms.{depositAt, termsHeld}
+use Rattle.place_values.specs.HeldValues.{valueHeld, boundsHeld, valuesHeld}
+use Rattle.place_values.proofs.HeldLaws.{held-are}
+use Rattle.books.specs.declared.Book.{Book}
+use Rattle.place_limits.specs.PlaceLimits.{penaltyWithin, fitsPlace}
+use Rattle.book_sheets.specs.Sheets.{valuesUnder}
+use Rattle.books.specs.Books.{valuedIn}
+use Rattle.books.specs.Changes.{unvalued}
+use Rattle.books.specs.Inner.Standing.{Under, Within}
+use Rattle.book_sheets.proofs.SheetLaws.{and-true, limits-usable, filing-limits}
+
+-- nothing has the value 0
+none-valued : (k : Contents) (place : ℕ) → noValues ≡ valuesHeld k place noPlace
+unfolding valuesHeld boundsHeld valueHeld valueBy tableFrom joined
+none-valued k place =
+    ap joined (table-ext 7 (λ (s : ℕ). 0 ∷ 0 ∷ []) (boundsHeld k place noPlace)
+    (λ s h. rw (quotient-zero down _ valueScale (lit< tt), quotient-zero up _ valueScale (lit< tt))))
+
+pub none-within : (k : Contents) (place : ℕ) → Within k place noPlace
+unfolding depositAt
+none-within k place =
+    record {
+      balance-le = zero-le;
+      limits = record { coupon-le = zero-le; penalty-le = zero-le; months-le = zero-le };
+      values-are = none-valued k place;
+    }
+
+-- the months of a row are at most 120
+most-le : (row : ℕ) → mostMonths row ≤ monthsLimit
+most-le = entries-le (0 ∷ 3 ∷ 12 ∷ 36 ∷ 120 ∷ []) 120 tt
+
+-- the six tests of a place that fits
+six-true : (a b c d e f : Bool) → (a && (b && (c && (d && (e && f))))) ≡ true
+    → (a ≡ true) × (b ≡ true) × (c ≡ true) × (d ≡ true) × (e ≡ true) × (f ≡ true)
+six-true a b c d e f h =
+    let h₁ = and-true a (b && (c && (d && (e && f)))) h in
+    let h₂ = and-true b (c && (d && (e && f))) (h₁ .1) in
+    let h₃ = and-true c (d && (e && f)) (h₂ .1) in
+    let h₄ = and-true d (e && f) (h₃ .1) in
+    let h₅ = and-true e f (h₄ .1) in
+    (h₁ .0, h₂ .0, h₃ .0, h₄ .0, h₅ .0, h₅ .1)
+
+module _ (place balance coupon months penalty : ℕ) (fits : fitsPlace place balance coupon months penalty ≡ true) where
+  tests : (ltb place subBalanceCount ≡ true) × (leb 1 balance ≡ true) × (leb balance balanceLimit ≡ true) × (leb coupon couponLimit ≡ true)
+      × (withinRow (positionOf place .row) months ≡ true) × (penaltyWithin place penalty ≡ true)
+  unfolding fitsPlace
+  tests = six-true (ltb place subBalanceCount) (leb 1 balance) (leb balance balanceLimit) (leb coupon couponLimit) (withinRow (positionOf place .row) months)
+      (penaltyWithin place penalty) fits
+
+  -- what fits is at a place of the thirty-six
+  pub fits-place : place < subBalanceCount
+  fits-place = ltb-true place subBalanceCount (tests .0)
+
+  months-le : months ≤ monthsLimit
+  unfolding withinRow
+  months-le =
+      let row = positionOf place .row in
+      le-trans (leb-true months (mostMonths row) (and-true (leb (leastMonths row) months) (leb months (mostMonths row)) (tests .4) .1)) (most-le row)
+
+  penalty-le : penalty ≤ penaltyLimit
+  unfolding penaltyWithin
+  penalty-le =
+      le-trans (leb-true penalty (cond (withPenalty place) penaltyLimit 0) (tests .5))
+      (either (λ (p : ℕ). p ≤ penaltyLimit) (withPenalty place) (le-refl penaltyLimit) zero-le)
+
+  pub fits-balance : balance ≤ balanceLimit
+  fits-balance = leb-true balance balanceLimit (tests .2)
+
+  -- and within the limits of a deposit
+  pub fits-limits : DepositLimits (depositAt place (unvalued balance coupon months penalty))
+  unfolding depositAt
+  fits-limits = record { coupon-le = leb-true coupon couponLimit (tests .3); penalty-le = penalty-le; months-le = months-le }
+
+  module _ (k : Contents) (b : Book) (u : Under k b) where
+    -- its values in the book are those under the filing
+    values-filed : valuesUnder (b .rates) (b .tiers) (b .lower) (b .upper) place (unvalued balance coupon months penalty)
+        ≡ valuesHeld k place (unvalued balance coupon months penalty)
+    unfolding valuesUnder
+    values-filed =
+        rw (u .rates-are, u .tiers-are, u .lower-is, u .upper-is)
+        (rw (limits-usable _ _ _ _ (filing-limits k (u .valid)))
+        (held-are k place (unvalued balance coupon months penalty) fits-limits monthsLimit (λ _. months-le)))
+
+    pub fits-within : Within k place (valuedIn b place (unvalued balance coupon months penalty))
+    unfolding valuedIn valuesHeld boundsHeld valueHeld termsHeld depositAt
+    fits-within = record { balance-le = fits-balance; limits = fits-limits; values-are = values-filed }

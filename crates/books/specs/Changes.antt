@@ -1,0 +1,51 @@
+-- The changes of a book (02:CR 7): the verdict on each and the book after it, and after any sequence of them. Definitions only.
+use Prim.Native.Nat.{ℕ}
+use mathlib.Core.Bool.{Bool, cond, not}
+use mathlib.Core.List.{List, [], _∷_}
+use lib.Dec.{ltb}
+use Rattle.answers.specs.Verdict.{Verdict, refusedIf}
+use Rattle.shares.specs.declared.SubBalance.{SubBalance}
+use Rattle.shares.specs.SubBalances.{subBalanceCount}
+use Rattle.shares.specs.Places.{noPlace, noValues}
+use Rattle.books.specs.declared.Book.{Book}
+use Rattle.place_limits.specs.PlaceLimits.{fitsPlace}
+use Rattle.books.specs.Books.{valuedIn, withPlace}
+
+-- a place is set to a balance (thousands of dollars), a coupon (thousandths of a percent a year), months and a penalty (hundredths of a month), in this
+-- order, or it is cleared
+pub data Change : Type 0 where
+  setPlace : ℕ → ℕ → ℕ → ℕ → ℕ → Change
+  clearPlace : ℕ → Change
+
+-- the place that is changed
+unfoldable pub changedPlace : Change → ℕ
+changedPlace (setPlace place balance coupon months penalty) = place
+changedPlace (clearPlace place) = place
+
+-- the place takes the change
+unfoldable pub fitsChange : Change → Bool
+fitsChange (setPlace place balance coupon months penalty) = fitsPlace place balance coupon months penalty
+fitsChange (clearPlace place) = ltb place subBalanceCount
+
+-- a deposit that is not valued
+abbrev pub unvalued : ℕ → ℕ → ℕ → ℕ → SubBalance
+unvalued balance coupon months penalty =
+    record { balance = balance; coupon = coupon; «remaining_months» = months; penalty = penalty; values = noValues }
+
+-- what the place holds after the change: the deposit with its values, or nothing
+unfoldable pub heldAfter : Book → Change → SubBalance
+heldAfter b (setPlace place balance coupon months penalty) = valuedIn b place (unvalued balance coupon months penalty)
+heldAfter b (clearPlace place) = noPlace
+
+-- 17, at the place given
+unfoldable pub changeVerdict : Change → Verdict
+changeVerdict c = refusedIf (not (fitsChange c)) 17 (changedPlace c)
+
+-- the book after a change; a refused one alters nothing
+unfoldable pub bookAfter : Book → Change → Book
+bookAfter b c = cond (fitsChange c) (withPlace b (changedPlace c) (heldAfter b c)) b
+
+-- the book after a sequence of changes, the first one first
+unfoldable pub bookAfterAll : Book → List Change → Book
+bookAfterAll b [] = b
+bookAfterAll b (c ∷ cs) = bookAfterAll (bookAfter b c) cs

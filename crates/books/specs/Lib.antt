@@ -1,0 +1,5 @@
+pub mod Books
+pub mod Changes
+pub mod Inner
+pub mod Promise
+pub mod Shares

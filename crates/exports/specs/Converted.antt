@@ -1,0 +1,33 @@
+-- What the certificates' call from C promises: the promise of `to_cells`, as plain numbers (02:CR 5). Definitions only.
+use Prim.Native.Nat.{ℕ}
+use mathlib.Core.Path.{_≡_}
+use mathlib.Core.Bool.{cond}
+use mathlib.Core.List.{List, [], _∷_}
+use lib.Dec.{eqb}
+use lib.ListN.{length, getD}
+use Rattle.lists.specs.Tables.{table, joined}
+use Rattle.calendar.specs.declared.Date.{Date}
+use Rattle.filled_cells.specs.declared.CellValue.{CellValue}
+use Rattle.filled_cells.specs.Cells.{inPlaces}
+use Rattle.certificates.specs.Verdict.{certificatesVerdict}
+use Rattle.certificates.specs.Filled.{filledCells}
+
+-- no cell
+abbrev pub noCell : CellValue
+noCell = record { cell = 0; value = 0 }
+
+-- the cell at a place as two numbers: its number and its value
+unfoldable pub pairAt : List CellValue → ℕ → List ℕ
+pairAt l i = getD l i noCell .cell ∷ getD l i noCell .value ∷ []
+
+-- cells in 28 places as numbers, two for each
+unfoldable pub numbersOf : List CellValue → List ℕ
+numbersOf l = joined (table 28 (pairAt l))
+
+-- s is the list of certificates, before and after are the cells' list at the call and at the return; number and place are 0 for acceptance
+pub record ConvertedForC (valuation : Date) (s before : List ℕ) (number place count : ℕ) (after : List ℕ) : Type 0 where
+  pub number-is : number ≡ certificatesVerdict valuation s .number
+  pub place-is : place ≡ certificatesVerdict valuation s .place
+  pub count-is : count ≡ length (filledCells valuation s)
+  -- number and value of each cell by ascending number, past the last one 0; a refusal leaves the list
+  pub list-is : after ≡ cond (eqb (certificatesVerdict valuation s .number) 0) (numbersOf (inPlaces (filledCells valuation s))) before

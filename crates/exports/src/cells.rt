@@ -1,0 +1,48 @@
+// The certificates' call.
+use calendar::Date;
+use certificates::to_cells;
+use filled_cells::CellValue;
+use lists::write;
+ghost use mathlib.Core.Path.{_≡_};
+ghost use Rattle.exports.specs.Converted.{numbersOf, ConvertedForC};
+
+// Turns certificates into cells as `certificates::to_cells` does: answers 0 for acceptance, else the refusal's number, with the refusal's place in `place`;
+// how many cells there are in `count`, and the number and value of each in `cells`.
+#[no_mangle]
+pub extern "C" fn spritapricot_cells(
+    year: u64,
+    month: u64,
+    day: u64,
+    certificates: &[u64],
+    cells: &mut [u64; 56],
+    count: &mut u64,
+    place: &mut u64,
+) -> u64
+    ensures { λ r. ⌜ ConvertedForC (record { year = year; month = month; day = day }) (now (certificates .entry)) (now (cells .entry)) r (now (place .exit)) (now (count .exit)) (now (cells .exit)) ⌝ }
+{
+    let valuation = Date { year, month, day };
+    let filled = to_cells(valuation, certificates);
+    let answer = filled.answer;
+    let number = answers::number(answer);
+    *place = answers::place(answer) as u64;
+    *count = filled.count as u64;
+    if number == 0 {
+        let listed = filled.cells;
+        *cells = cell_numbers(listed);
+    }
+    number
+}
+
+// The number and the value of each cell.
+fn cell_numbers(cells: [CellValue; 28]) -> [u64; 56]
+    ensures { λ r. ⌜ r ≡ numbersOf cells ⌝ }
+{
+    let mut numbers = [0u64; 56];
+    let mut i: usize = 0;
+    while i < 28 {
+        let c = cells[i];
+        write(&mut numbers, 2 * i, &[c.cell as u64, c.value]);
+        i += 1;
+    }
+    numbers
+}

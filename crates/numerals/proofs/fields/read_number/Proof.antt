@@ -1,0 +1,72 @@
+-- `read_number` meets its contract: at each return the tests that led there say what stands at the place. Assumes nothing.
+use Prim.Native.Nat.{_<_}
+use native.Mathlib.Omega.{arith}
+use mathlib.Core.Path.{_≡_, sym, ap, _∙_}
+use Rattle.numerals.specs.Numerals.{byteAt, numberEnd}
+use Rattle.numerals.specs.Inner.Fields.{wholeOf}
+use Rattle.numerals.proofs.NumeralLaws.{number-end-le}
+use Rattle.numerals.proofs.LineLaws.{field-none, field-large, field-other, field-read}
+use borrow.Author.Needs.{needs}
+use Rattle.numerals.proofs.fields.read_number.Statement.{statement}
+use Rattle.numerals.proofs.fields.read_number.Tie as tie
+
+number-end-requires : tie.Need-number-end-requires
+number-end-requires c κs = search needs
+
+returns : tie.Need-returns
+returns c = field-none _ _ _ (rw (c .before .number-end .ensures) at (c .if1 .taken))
+
+digits-value-requires : tie.Need-digits-value-requires
+digits-value-requires c κs = let some : c .before .before .before .args .at < numberEnd (c .before .before .before .args .text .now) (c .before .before .before .args .at) = rw (c .before .number-end .ensures) at (c .if1 .left) in
+    let end = number-end-le _ _ some in
+    (omega (arith, c .if1 .left), rw (c .before .number-end .ensures) end)
+
+-- digits stand there, and their value is what was read
+begun : (c : tie.Else1) → c .before .before .before .args .at < numberEnd (c .before .before .before .args .text .now) (c .before .before .before .args .at)
+begun c = rw (c .before .number-end .ensures) at (c .if1 .left)
+
+digits-are : (c : tie.After-digits-value)
+    → wholeOf (c .before .before .before .before .args .text .now) (c .before .before .before .before .args .at)
+    (numberEnd (c .before .before .before .before .args .text .now) (c .before .before .before .before .args .at))
+    ≡ c .digits-value .result
+digits-are c =
+    sym (c .digits-value .ensures ∙ ap (wholeOf (c .before .before .before .before .args .text .now) (c .before .before .before .before .args .at)) (c .before .before .number-end .ensures))
+
+enum-known-value : tie.Need-enum-known-value
+enum-known-value c = search needs
+
+enum-told : tie.Need-enum-told
+enum-told c = search needs
+
+returns-2 : tie.Need-returns-2
+returns-2 c = field-large _ _ _ (begun (c .before .before .before)) (digits-are (c .before .before) ∙ c .enum-told .given .1)
+
+byte-at-requires : tie.Need-byte-at-requires
+byte-at-requires c κs = search needs
+
+returns-3 : tie.Need-returns-3
+returns-3 c = field-other _ _ _ (λ e. c .if2 .taken (c .before .byte-at .ensures ∙ ap (byteAt (c .before .before .before .before .before .before .before .before .before .args .text .now)) (c .before .before .before .before .before .before .before .number-end .ensures) ∙ e))
+
+add-t9 : tie.Need-add-t9
+add-t9 c = omega (arith, number-end-le _ _ (begun (c .before .before .before .before .before .before)), c .before .before .before .before .before .before .before .number-end .ensures)
+
+returns-4 : tie.Need-returns-4
+returns-4 c = let end = c .before .before .before .before .before .before .before .number-end .ensures in
+    rw end
+    (field-read _ _ _ _ (begun (c .before .before .before .before .before .before)) (digits-are (c .before .before .before .before .before) ∙ c .before .before .before .value .given .1)
+    (sym (ap (byteAt (c .before .before .before .before .before .before .before .before .before .args .text .now)) end) ∙ sym (c .before .byte-at .ensures) ∙ c .if2 .left))
+
+pub read-number-spec : {M : Type 1} → statement M
+read-number-spec =
+    tie.close
+    (tie.spec
+    number-end-requires
+    returns
+    digits-value-requires
+    enum-known-value
+    enum-told
+    returns-2
+    byte-at-requires
+    returns-3
+    add-t9
+    returns-4)

@@ -1,0 +1,38 @@
+// What a place of the book takes.
+use schedule::positions::position;
+use schedule::positions::within_row;
+ghost use mathlib.Core.Path.{_≡_};
+ghost use Rattle.place_limits.specs.PlaceLimits.{fitsPlace, penaltyWithin};
+
+// A place from 0 to 35 takes a balance, a coupon, months of its row and a penalty.
+pub fn fits(place: usize, balance: u64, coupon: u64, months: u64, penalty: u64) -> bool
+    ensures { λ r. ⌜ r ≡ fitsPlace place balance coupon months penalty ⌝ }
+{
+    if 36 <= place {
+        return false;
+    }
+    if balance < 1 {
+        return false;
+    }
+    if 999_999_999 < balance {
+        return false;
+    }
+    if 15_000 < coupon {
+        return false;
+    }
+    if !within_row(position(place / 4).row, months) {
+        return false;
+    }
+    penalty_within(place, penalty)
+}
+
+// A place with penalty takes one up to the limit, a place without none.
+fn penalty_within(place: usize, penalty: u64) -> bool
+    ensures { λ r. ⌜ r ≡ penaltyWithin place penalty ⌝ }
+{
+    if place % 2 == 0 {
+        penalty <= 3_600
+    } else {
+        penalty == 0
+    }
+}

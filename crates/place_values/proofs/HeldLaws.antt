@@ -1,0 +1,71 @@
+-- The values of what a place holds under a filing: lower ≤ exact ≤ upper, their widths and their limit (01:58), and that the code's values are these.
+-- Assumes nothing.
+use Prim.Native.Nat.{ℕ, suc, _+_, _*_, _-_, _≤_, _<_}
+use mathlib.Core.Path.{_≡_}
+use native.Mathlib.Nat.{mul-le-mul}
+use native.Mathlib.Omega.{arith}
+use lib.Dec.{lit<}
+use Rattle.fraction.specs.Fraction.{Encloses}
+use Rattle.schedule.specs.Limits.{balanceLimit}
+use Rattle.schedule.specs.Shift.{pathRate}
+use Rattle.filing.specs.declared.Contents.{Contents}
+use Rattle.filing.specs.Contents.{cdYield}
+use Rattle.filing.specs.Valid.{Valid}
+use Rattle.shares.specs.declared.SubBalance.{SubBalance}
+use Rattle.shares.specs.SubBalances.{positionOf}
+use Rattle.totals.specs.RowTotals.{valueLimit}
+use Rattle.pricing.specs.Bounded.{Bounded}
+use Rattle.pricing.specs.Scales.{valueScale}
+use Rattle.pricing.specs.Rounding.{Rounding, down, up}
+use Rattle.pricing.specs.Run.{valueBy}
+use Rattle.pricing.proofs.EnclosureLaws.{value-encloses}
+use Rattle.pricing.proofs.WidthLaws.{value-width}
+use Rattle.pricing.proofs.RoundingLaws.{quotient-le}
+use Rattle.pricing.proofs.LimitLaws.{price-limit}
+use Rattle.deposits.specs.DepositTerms.{sheetYield}
+use Rattle.deposits.specs.Inner.Factors.{factorsBy, WithinRates}
+use Rattle.deposits.specs.Inner.Prices.{shiftedPath, DepositLimits}
+use Rattle.deposits.proofs.TermsLaws.{terms-of-bounded}
+use Rattle.deposits.proofs.ValueLaws.{values-are}
+use Rattle.place_values.specs.PlaceTerms.{depositAt, rateAt, filingTiers, termsHeld, monthYield}
+use Rattle.place_values.specs.HeldValues.{exactHeld, valueHeld, boundsHeld, valuesHeld}
+use Rattle.place_values.specs.Inner.PlaceRows.{listedHeld}
+
+-- the yields and the retail rates of a valid filing are within the limit
+module _ (k : Contents) (v : Valid k) where
+  pub yields-within : WithinRates (k .yields)
+  unfolding cdYield
+  yields-within i = let e : suc i - 1 ≡ i = omega arith in rw e at (v .yield-limit (suc i))
+
+  pub rates-within : WithinRates (k .rates)
+  unfolding pathRate
+  rates-within i = let e : 120 * (1 - 1) + (suc i - 1) ≡ i = omega arith in rw e at (v .rate-limit 1 (suc i))
+
+module _ (k : Contents) (place : ℕ) (held : SubBalance) where
+  pub held-encloses : (scenario : ℕ) → Encloses (valueHeld down k scenario place held) (exactHeld k scenario place held) (valueHeld up k scenario place held)
+  unfolding valueHeld exactHeld
+  held-encloses scenario = value-encloses (held .balance) (termsHeld k scenario place held) (monthYield k scenario)
+
+  module _ (limits : DepositLimits (depositAt place held)) where
+    terms-bounded : (scenario : ℕ) → Bounded (termsHeld k scenario place held)
+    unfolding termsHeld
+    terms-bounded scenario = terms-of-bounded _ _ _ (limits .coupon-le) (limits .months-le)
+
+    -- 250 × (upper - lower) ≤ balance + 500
+    pub held-width : (scenario : ℕ) → 250 * valueHeld up k scenario place held ≤ 250 * valueHeld down k scenario place held + (held .balance + 500)
+    unfolding valueHeld
+    held-width scenario = value-width (held .balance) (termsHeld k scenario place held) (monthYield k scenario) (terms-bounded scenario)
+
+    -- no value is above the limit of a value
+    pub held-le : held .balance ≤ balanceLimit → (ρ : Rounding) (scenario : ℕ) → valueHeld ρ k scenario place held ≤ valueLimit
+    unfolding valueHeld valueBy
+    held-le small ρ scenario =
+        quotient-le ρ _ valueScale valueLimit (lit< tt)
+        (omega (arith, mul-le-mul small (price-limit (termsHeld k scenario place held) (monthYield k scenario) (terms-bounded scenario) ρ)))
+
+    -- with factors that reach as far as its months do if it has a balance, the code's values are these
+    pub held-are : (longest : ℕ) → (0 < held .balance → held .«remaining_months» ≤ longest)
+        → listedHeld held place (k .rates) (filingTiers k) (factorsBy down (k .yields) longest) (factorsBy up (k .yields) longest) ≡ valuesHeld k place held
+    unfolding listedHeld valuesHeld boundsHeld valueHeld termsHeld rateAt monthYield cdYield shiftedPath sheetYield depositAt
+    held-are longest reach =
+        values-are (filingTiers k) (k .yields) longest (held .balance) (depositAt place held) (k .rates) (positionOf place .column) (limits .months-le) reach

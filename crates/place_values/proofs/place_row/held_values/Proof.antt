@@ -1,0 +1,35 @@
+-- `place_values::place_row::held_values` meets its contract. Assumes nothing.
+use Prim.Native.Nat.{_/_}
+use native.Mathlib.Omega.{arith}
+use borrow.Author.Needs.{needs}
+use Rattle.conditions.proofs.SumLaws.{column-range}
+use Rattle.shares.specs.SubBalances.{positionOf}
+use Rattle.place_values.specs.Inner.PlaceRows.{listedHeld}
+use Rattle.place_values.proofs.place_row.held_values.Statement.{statement}
+use Rattle.place_values.proofs.place_row.held_values.Tie as tie
+
+deposit-at-requires : tie.Need-deposit-at-requires
+deposit-at-requires c κs = search needs
+
+position-requires : tie.Need-position-requires
+position-requires c κs = search needs
+
+values-of-requires : tie.Need-values-of-requires
+values-of-requires c κs =
+    let start = c .before .before in
+    let range = column-range (start .args .place / 4) (omega arith) in (
+      (
+        start .pre .0 .1,
+        rw (c .before .deposit-at .ensures) (start .pre .0 .2),
+        rw (c .position .ensures) (record { within = start .pre .1 .0; first-le = range .0; last-le = range .1 }),
+        start .pre .1 .1,
+      ),
+      (start .pre .1 .2, start .pre .1 .3),
+    )
+
+returns : tie.Need-returns
+unfolding listedHeld positionOf
+returns c = rw (c .values-of .ensures, c .before .position .ensures, c .before .before .deposit-at .ensures)
+
+pub held-values-spec : {M : Type 1} → statement M
+held-values-spec = tie.close (tie.spec deposit-at-requires position-requires values-of-requires returns)
