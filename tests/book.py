@@ -86,23 +86,25 @@ def limits():
     yield "2^64 - 1 everywhere", book(HOUSE, struct.pack("<QQQQQQ", 0, *[LARGEST] * 5), TOTALS)
 
 
+def random_calls(r, count):
+    """Calls of which about half are refused, with a place and the totals now and then."""
+    for k in range(count):
+        place = r.choice((*range(36), 36))
+        row = POSITIONS[min(place // 4, 8)]
+        if r.random() < 0.2:
+            yield clear(place)
+        else:
+            months = r.choice((row.first, row.last, r.randint(row.first, row.last), row.last + 1))
+            penalty = r.choice((0, 90, 3_600)) if place % 2 == 0 else r.choice((0, 0, 0, 1))
+            yield put_all(place, r.choice((0, 1, r.randint(1, 999_999_999), 999_999_999)), r.choice((0, 5_251, 15_000, 15_001)), months, penalty)
+        if k % 12 == 0:
+            yield TOTALS
+            yield show(min(place, 35))
+
+
 def random_sequences():
-    """Calls of which about half are refused, with the totals now and then."""
     for seed, data in enumerate((HOUSE, OWN, MONTHLY)):
-        r = random.Random(seed)
-        calls = []
-        for k in range(120):
-            place = r.choice((*range(36), 36))
-            row = POSITIONS[min(place // 4, 8)]
-            if r.random() < 0.2:
-                calls.append(clear(place))
-            else:
-                months = r.choice((row.first, row.last, r.randint(row.first, row.last), row.last + 1))
-                penalty = r.choice((0, 90, 3_600)) if place % 2 == 0 else r.choice((0, 0, 0, 1))
-                calls.append(put_all(place, r.choice((0, 1, r.randint(1, 999_999_999), 999_999_999)), r.choice((0, 5_251, 15_000, 15_001)), months, penalty))
-            if k % 12 == 0:
-                calls += [TOTALS, show(min(place, 35))]
-        yield f"120 calls at random, {seed}", book(data, *calls, TOTALS)
+        yield f"120 calls at random, {seed}", book(data, *random_calls(random.Random(seed), 120), TOTALS)
 
 
 def by_hand():

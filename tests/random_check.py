@@ -1,5 +1,6 @@
 #!/usr/bin/env python3
-"""Random filings, sound, faulty and damaged, through the two test programs and the plain C versions: random_check.py [COUNT [SEED]].
+"""Random filings, sound, faulty and damaged, through the two test programs and the plain C versions, and random calls on the book of every fourth:
+random_check.py [COUNT [SEED]].
 
 Needs target/bin/second and target/bin/figures_test (`rt check`) and target/bench/check (`bench/run check`); what is missing is left out. Not run by
 the gate."""
@@ -11,7 +12,8 @@ from pathlib import Path
 
 sys.dont_write_bytecode = True
 
-from calls import VALUE_AND_SPLIT
+from book import TOTALS, book, random_calls
+from calls import BOOK, VALUE_AND_SPLIT
 from filings import entry
 from records import (
     COLUMNS, LIMITS, POSITIONS, UNUSED, amended, amendment_record, brokered_cell, cell, fine, path, penalty_balance_cell, penalty_cell, rates, record,
@@ -137,9 +139,9 @@ def random_filing(r):
     return data
 
 
-def printed(program, data):
-    """What a test program prints of each filing."""
-    corpus = b"".join(entry(VALUE_AND_SPLIT, filing) for filing in data)
+def printed(program, call, inputs):
+    """What a test program prints of each input."""
+    corpus = b"".join(entry(call, data) for data in inputs)
     text = subprocess.run([program], input=corpus, stdout=subprocess.PIPE, check=True).stdout.decode()
     return [part.split("\n", 1)[1] for part in text.split("entry ")[1:]]
 
@@ -169,20 +171,31 @@ def differ(name, filing):
     sys.exit(f"{name} differs on the filing in differs.filing")
 
 
-def check(count, seed):
-    r = random.Random(seed)
-    data = [random_filing(r) for _ in range(count)]
-    programs = [name for name in PROGRAMS if (TARGET / "bin" / name).exists()]
-    texts = [printed(TARGET / "bin" / name, data) for name in programs]
-    for filing, *parts in zip(data, *texts):
+def same(programs, call, inputs):
+    """What the test programs print of each input, which is the same."""
+    texts = [printed(TARGET / "bin" / name, call, inputs) for name in programs]
+    for data, *parts in zip(inputs, *texts):
         for name, part in zip(programs, parts):
             if part != parts[0]:
-                differ(name, filing)
-        if PLAIN.exists() and plain(filing) != numbers_in(parts[0]):
-            differ("plain C", filing)
-    answers = [part.split()[1] for part in texts[0]]
+                differ(name, data)
+    return texts[0]
+
+
+def check(count, seed):
+    r = random.Random(seed)
+    filings = [random_filing(r) for _ in range(count)]
+    programs = [name for name in PROGRAMS if (TARGET / "bin" / name).exists()]
+    texts = same(programs, VALUE_AND_SPLIT, filings)
+    if PLAIN.exists():
+        for filing, text in zip(filings, texts):
+            if plain(filing) != numbers_in(text):
+                differ("plain C", filing)
+    answers = [text.split()[1] for text in texts]
     counts = ", ".join(f"{number}: {answers.count(number)}" for number in sorted(set(answers), key=int))
     print(f"{count} filings, the same from {', '.join(programs)}{' and plain C' if PLAIN.exists() else ''}; answers by number {counts}")
+    books = [book(filing, *random_calls(r, r.randint(0, 60)), TOTALS) for filing in filings[::4]]
+    opened = sum(text.startswith("answer 0 0\n") for text in same(programs, BOOK, books))
+    print(f"{len(books)} books, the same from {', '.join(programs)}; {opened} opened")
 
 
 words = [int(word) for word in sys.argv[1:]]
