@@ -12,9 +12,9 @@ use faults::check_shape;
 use faults::refused_if;
 use records::CELLS;
 use records::FIRST_CELL;
+use records::KINDS;
 use records::items::Item;
 use records::items::record_item;
-use records::notes::Noted;
 use scan::Scanned;
 use scan::scan;
 ghost use mathlib.Core.Path.{_≡_};
@@ -23,48 +23,50 @@ ghost use Prim.Native.Nat.{_≤_, _<_};
 ghost use lib.ListN.{length};
 ghost use Rattle.answers.specs.Answers.{verdictOf};
 ghost use Rattle.records.specs.Records.{firstRecord};
-ghost use Rattle.records.specs.Inner.Notes.{cellCount, notedBefore};
+ghost use Rattle.records.specs.Inner.Notes.{cellCount, notedAs, notedBefore};
 ghost use Rattle.faults.specs.Faults.{amendmentRepeated};
 ghost use Rattle.faults.specs.RecordVerdicts.{recordVerdict, firstFaulty, recordsVerdict};
 ghost use Rattle.faults.specs.Inner.PlainVerdicts.{firstPlain};
 ghost use Rattle.amendments.specs.Inner.Repetitions.{repeats, repetitionsBelow};
 
-// The answer on the records, with what is noted of those before the first that is faulty but for 16, and the offset of the first faulty one.
-pub fn check_records(s: &[u8]) -> Scanned
+// The answer on the records, with the offset of the first faulty one. Those before the first that is faulty but for 16 are noted.
+pub fn check_records(
+    s: &[u8],
+    sheets: &mut [usize; KINDS],
+    cells: &mut [usize; CELLS],
+    counting: &mut [usize; CELLS],
+    falling: &mut [bool; CELLS],
+) -> Scanned
     ensures { λ r. ⌜ (verdictOf (r .answer) ≡ recordsVerdict (now (s .entry)))
-        × (r .noted ≡ notedBefore (now (s .entry)) (firstPlain (now (s .entry))))
+        × (notedAs (now (sheets .exit)) (now (cells .exit)) (now (counting .exit)) (now (falling .exit))
+        ≡ notedBefore (now (s .entry)) (firstPlain (now (s .entry))))
         × (r .end ≡ firstFaulty (now (s .entry))) ⌝ }
 {
-    let scanned = scan(s);
-    let noted = scanned.noted;
+    let scanned = scan(s, sheets, cells, counting, falling);
     let end = scanned.end;
-    let first = first_repetition(s, &noted.falling, end);
+    let first = first_repetition(s, falling, end);
     if first < end {
         return Scanned {
             answer: Answer::AmendmentRepeated(first),
-            noted,
             end: first,
         };
     }
     if s.len() <= end {
         return Scanned {
             answer: Answer::Accepted,
-            noted,
             end,
         };
     }
-    let answer = check_fully(s, end, noted);
-    Scanned { answer, noted, end }
+    let answer = check_fully(s, end, sheets, cells);
+    Scanned { answer, end }
 }
 
 // The answer on the record at an offset by all tests.
-fn check_fully(s: &[u8], at: usize, noted: Noted) -> Answer
-    requires { ⌜ (at < length (now s)) × (noted ≡ notedBefore (now s) at) ⌝ }
+fn check_fully(s: &[u8], at: usize, sheets: &[usize; KINDS], cells: &[usize; CELLS]) -> Answer
+    requires { ⌜ (at < length (now s)) × (now sheets ≡ notedBefore (now s) at .sheets) × (now cells ≡ notedBefore (now s) at .cells) ⌝ }
     ensures { λ r. ⌜ verdictOf r ≡ recordVerdict (now (s .entry)) at ⌝ }
 {
-    let sheets = noted.sheets;
-    let cells = noted.cells;
-    let shape = check_shape(s, at, &sheets, &cells);
+    let shape = check_shape(s, at, sheets, cells);
     let again = refused_if(amendment_repeated(s, at), Answer::AmendmentRepeated(at));
     let body = check_body(s, at);
     first_refusal(shape, first_refusal(again, body))

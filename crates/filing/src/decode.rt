@@ -2,6 +2,7 @@
 use crate::Contents;
 use crate::FiledTiers;
 use records::CELLS;
+use records::KINDS;
 use records::fields::amendment_state;
 use records::fields::amendment_value;
 use records::fields::holds_numbers;
@@ -16,7 +17,6 @@ use records::kinds::FINE_COUPON_KIND;
 use records::kinds::FLAT_RATES_KIND;
 use records::kinds::RATE_PATH_KIND;
 use records::kinds::TIERS_KIND;
-use records::notes::Noted;
 use schedule::tables::COUPON_CLASS;
 use schedule::tables::cell_class;
 ghost use mathlib.Core.Path.{_≡_};
@@ -33,19 +33,16 @@ ghost use Rattle.faults.specs.RecordVerdicts.{firstFaulty};
 ghost use Rattle.filing.specs.Contents.{filedValue, amountAt, sheetOffset, rateCount, tierNumber, tiersAt, contentsOf};
 
 // What a filing says whose records are sound, from where all of them stand.
-pub(crate) fn contents_of(s: &[u8], noted: Noted) -> Contents
-    requires { ⌜ (firstFaulty (now s) ≡ length (now s)) × (noted ≡ notedBefore (now s) (length (now s))) ⌝ }
+pub(crate) fn contents_of(s: &[u8], sheets: &[usize; KINDS], counting: &[usize; CELLS]) -> Contents
+    requires { ⌜ firstFaulty (now s) ≡ length (now s) ⌝ }
+    requires { ⌜ (now sheets ≡ notedBefore (now s) (length (now s)) .sheets) × (now counting ≡ notedBefore (now s) (length (now s)) .counting) ⌝ }
     ensures { λ r. ⌜ r ≡ contentsOf (now (s .entry)) ⌝ }
 {
-    let cells = cell_values(s, &noted.counting);
+    let cells = cell_values(s, counting);
     let mut yields = [0; 120];
-    fill_numbers(s, noted.sheets[2], &mut yields);
-    let rates = rate_numbers(
-        s,
-        noted.sheets[FLAT_RATES_KIND],
-        noted.sheets[RATE_PATH_KIND],
-    );
-    let tiers = tiers_at(s, noted.sheets[TIERS_KIND]);
+    fill_numbers(s, sheets[2], &mut yields);
+    let rates = rate_numbers(s, sheets[FLAT_RATES_KIND], sheets[RATE_PATH_KIND]);
+    let tiers = tiers_at(s, sheets[TIERS_KIND]);
     Contents {
         cells,
         yields,

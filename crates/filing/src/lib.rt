@@ -9,7 +9,8 @@ use amendments::check_records;
 use answers::Answer;
 use answers::number;
 use conditions::check_cells;
-use records::notes::Noted;
+use records::CELLS;
+use records::KINDS;
 ghost use mathlib.Core.Path.{_≡_};
 ghost use lib.ListN.{length};
 ghost use Rattle.answers.specs.Answers.{verdictOf};
@@ -29,26 +30,29 @@ pub fn read(filing: &[u8]) -> Reading
     ensures { λ r. ⌜ verdictOf (r .answer) ≡ filingVerdict (now (filing .entry)) ⌝ }
     ensures { λ r. ⌜ r .contents ≡ readContents (now (filing .entry)) ⌝ }
 {
-    let scanned = check_records(filing);
-    let records = scanned.answer;
+    let mut sheets = [0; KINDS];
+    let mut cells = [0; CELLS];
+    let mut counting = [0; CELLS];
+    let mut falling = [false; CELLS];
+    let checked = check_records(filing, &mut sheets, &mut cells, &mut counting, &mut falling);
+    let records = checked.answer;
     if number(records) != 0 {
         return refusal(records);
     }
-    let noted = scanned.noted;
-    let sheets = check_sheets(filing, &noted.sheets);
-    if number(sheets) != 0 {
-        return refusal(sheets);
+    let missing = check_sheets(filing, &sheets);
+    if number(missing) != 0 {
+        return refusal(missing);
     }
-    read_contents(filing, noted)
+    read_contents(filing, &sheets, &counting)
 }
 
 // Reads what a filing says whose records are sound and whose sheets are there.
-fn read_contents(filing: &[u8], noted: Noted) -> Reading
+fn read_contents(filing: &[u8], sheets: &[usize; KINDS], counting: &[usize; CELLS]) -> Reading
     requires { ⌜ (recordsVerdict (now filing) .number ≡ 0) × (sheetVerdict (now filing) .number ≡ 0) ⌝ }
-    requires { ⌜ noted ≡ notedBefore (now filing) (length (now filing)) ⌝ }
+    requires { ⌜ (now sheets ≡ notedBefore (now filing) (length (now filing)) .sheets) × (now counting ≡ notedBefore (now filing) (length (now filing)) .counting) ⌝ }
     ensures { λ r. ⌜ (verdictOf (r .answer) ≡ filingVerdict (now (filing .entry))) × (r .contents ≡ readContents (now (filing .entry))) ⌝ }
 {
-    let contents = contents_of(filing, noted);
+    let contents = contents_of(filing, sheets, counting);
     let answer = check_cells(&contents.cells);
     if number(answer) != 0 {
         return refusal(answer);

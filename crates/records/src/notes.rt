@@ -12,16 +12,8 @@ ghost use Rattle.records.specs.Items.{recordItem};
 ghost use Rattle.records.specs.Counting as counts;
 ghost use Rattle.records.specs.Inner.Notes as notes;
 
-// The offset of the first record of each kind of sheet, and of each cell from 601 on; of the record that counts for each cell: the input's length where there
-// is none. And for each cell whether an amendment of it ranks no higher than the record that counts before it.
-pub struct Noted {
-    pub sheets: [usize; KINDS],
-    pub cells: [usize; CELLS],
-    pub counting: [usize; CELLS],
-    pub falling: [bool; CELLS],
-}
-
-// The record at an offset is noted, in the arrays of `Noted`.
+// The record at an offset is noted. The arrays hold the offset of the first record of each kind of sheet, and of each cell from 601 on; of the record that counts for
+// each cell: the input's length where there is none. And for each cell whether an amendment of it ranks no higher than the record that counts before it.
 pub fn note(
     s: &[u8],
     at: usize,

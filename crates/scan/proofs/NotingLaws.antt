@@ -12,12 +12,11 @@ use lib.ListN.{length, set}
 use Rattle.lists.specs.Tables.{tableFrom}
 use Rattle.records.specs.declared.items.Item.{Item}
 use Rattle.records.specs.declared.items.Item.the-variants.{Cell, Sheet, Amendment, Nothing}
-use Rattle.records.specs.declared.notes.Noted.{Noted}
 use Rattle.records.specs.Records.{nextRecord, searchRecords, firstRecord}
 use Rattle.records.specs.Kinds.{kindCount}
 use Rattle.records.specs.Items.{sameItem, recordItem, firstWith}
 use Rattle.records.specs.Counting.{itemRank, countsFrom, countingBefore}
-use Rattle.records.specs.Inner.Notes.{firstCell, cellCount, offsetBefore, amendsCell, falls, fallsBefore, notedBefore, nothingNoted, noteCounting, noteFalling, noteItem}
+use Rattle.records.specs.Inner.Notes.{Noted, firstCell, cellCount, offsetBefore, amendsCell, falls, fallsBefore, notedBefore, nothingNoted, noteCounting, noteFalling, noteItem}
 use Rattle.records.proofs.ItemLaws.{record-of-cell, record-of-sheet, record-of-amendment}
 use Rattle.records.proofs.NoteLaws.{noted-counting, noted-falling}
 use Rattle.faults.specs.Faults.{standsBefore, repeated}

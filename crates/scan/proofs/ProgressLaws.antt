@@ -1,12 +1,12 @@
 -- The scan over the records: its state before each of them, what a record makes of it, and what it answers at the end.
 -- Assumes nothing.
-use Prim.Native.Nat.{ℕ, suc, _≤_, _<_, _-_}
+use Prim.Native.Nat.{ℕ, _≤_, _<_, _-_}
 use native.Mathlib.Nat.{le-refl, le-antisymm}
 use native.Mathlib.Omega.{arith}
 use mathlib.Core.Path.{_≡_, refl, sym, ap, _∙_}
-use mathlib.Core.Bool.{Bool, true, false, cond, not, _&&_, true≢false}
+use mathlib.Core.Bool.{Bool, true, false, cond, not}
 use mathlib.Core.List.{List}
-use borrow.Author.Tests.{ltb-true, ltb-false, lt-ltb, le-ltb, leb-true, leb-false, eqb-true, eqb-false, eq-eqb, ne-eqb, not-true}
+use borrow.Author.Tests.{ltb-true, ltb-false, lt-ltb, le-ltb, leb-true, leb-false, eqb-false, eq-eqb, ne-eqb, not-true}
 use lib.Dec.{leb, ltb, eqb}
 use lib.ListN.{length, set}
 use Rattle.answers.specs.declared.Answer.{Answer}
@@ -15,17 +15,16 @@ use Rattle.answers.specs.Verdict.{Verdict, accepted}
 use Rattle.answers.specs.Answers.{verdictOf}
 use Rattle.scan.specs.declared.Step.{Step}
 use Rattle.scan.specs.declared.Step.the-variants.{Record, End}
-use Rattle.records.specs.declared.notes.Noted.{Noted}
 use Rattle.records.specs.Records.{recordCell, nextRecord}
 use Rattle.records.specs.Items.{recordItem}
 use Rattle.faults.specs.RecordVerdicts.{firstRefused, verdictBy, firstFaulty, recordVerdict, recordsVerdict}
 use Rattle.faults.specs.Inner.PlainVerdicts.{plainVerdict, firstPlain, plainsVerdict, SoundCell}
 use Rattle.scan.specs.Inner.Steps.{stepAt}
-use Rattle.records.specs.Inner.Notes.{firstCell, notedAs, notedBefore, nothingNoted, noteCounting, noteItem}
+use Rattle.records.specs.Inner.Notes.{Noted, firstCell, notedAs, notedBefore, nothingNoted, noteCounting, noteItem}
 use Rattle.scan.specs.Inner.Scans.{Visited}
 use Rattle.faults.proofs.FaultLaws.{faultless, complete-ends}
 use Rattle.records.proofs.RecordLaws.{first-le, first-passes}
-use Rattle.scan.proofs.SearchLaws.{Reached, here, reached-next, next-lt, Ahead, ahead-start, ahead-here, ahead-next, ahead-done}
+use Rattle.scan.proofs.SearchLaws.{Reached, here, reached-next, Ahead, ahead-start, ahead-here, ahead-next, ahead-done}
 use Rattle.scan.proofs.NotingLaws.{noted-start, noted-next}
 
 -- what a step says of the bytes at its offset

@@ -11,7 +11,6 @@ use faults::sound_cell;
 use records::CELLS;
 use records::KINDS;
 use records::fields::record_cell;
-use records::notes::Noted;
 use records::notes::note;
 use records::notes::note_cell;
 use schedule::cell_limits::cell_limits;
@@ -32,57 +31,40 @@ pub enum Step {
     End,
 }
 
-// The answer on the records by all tests but 16, with what is noted of those before the first faulty one, and its offset: the input's length where none is.
+// The answer on the records by all tests but 16, and the offset of the first faulty one: the input's length where none is.
 pub struct Scanned {
     pub answer: Answer,
-    pub noted: Noted,
     pub end: usize,
 }
 
-// Reads the records up to the first faulty one, each once.
-pub fn scan(s: &[u8]) -> Scanned
+// Reads the records up to the first faulty one, each once, and notes those before it.
+pub fn scan(
+    s: &[u8],
+    sheets: &mut [usize; KINDS],
+    cells: &mut [usize; CELLS],
+    counting: &mut [usize; CELLS],
+    falling: &mut [bool; CELLS],
+) -> Scanned
     ensures { λ r. ⌜ (verdictOf (r .answer) ≡ plainsVerdict (now (s .entry)))
-        × (r .noted ≡ notedBefore (now (s .entry)) (firstPlain (now (s .entry))))
+        × (notedAs (now (sheets .exit)) (now (cells .exit)) (now (counting .exit)) (now (falling .exit))
+        ≡ notedBefore (now (s .entry)) (firstPlain (now (s .entry))))
         × (r .end ≡ firstPlain (now (s .entry))) ⌝ }
 {
-    let mut sheets = [s.len(); KINDS];
-    let mut cells = [s.len(); CELLS];
-    let mut counting = [s.len(); CELLS];
-    let mut falling = [false; CELLS];
+    *sheets = [s.len(); KINDS];
+    *cells = [s.len(); CELLS];
+    *counting = [s.len(); CELLS];
+    *falling = [false; CELLS];
     let limits = cell_limits();
     let mut at = 0;
     while at < s.len() {
-        let answer = visit(
-            s,
-            at,
-            &mut sheets,
-            &mut cells,
-            &mut counting,
-            &mut falling,
-            &limits,
-        );
+        let answer = visit(s, at, sheets, cells, counting, falling, &limits);
         if number(answer) != 0 {
-            return Scanned {
-                answer,
-                noted: Noted {
-                    sheets,
-                    cells,
-                    counting,
-                    falling,
-                },
-                end: at,
-            };
+            return Scanned { answer, end: at };
         }
         at = next_of(s, at);
     }
     Scanned {
         answer: Answer::Accepted,
-        noted: Noted {
-            sheets,
-            cells,
-            counting,
-            falling,
-        },
         end: at,
     }
 }

@@ -6,8 +6,7 @@ use mathlib.Core.Path.{_≡_, sym, ap, _∙_}
 use mathlib.Core.List.{List}
 use Rattle.answers.specs.Verdict.{accepted, refused}
 use Rattle.answers.specs.Answers.{verdictOf}
-use Rattle.records.specs.declared.notes.Noted.{Noted}
-use Rattle.records.specs.Inner.Notes.{cellCount, notedBefore}
+use Rattle.records.specs.Inner.Notes.{Noted, cellCount, notedBefore}
 use Rattle.faults.specs.RecordVerdicts.{recordVerdict}
 use Rattle.faults.specs.Inner.PlainVerdicts.{firstPlain}
 use Rattle.amendments.specs.Inner.Repetitions.{repetitionsBelow}
@@ -21,14 +20,14 @@ scan-requires c κs = search needs
 
 -- where the scan has ended, and the first repetition before that
 abbrev scan-of : tie.After-first-repetition → tie.After-scan
-scan-of c = c .before .before .before .before
+scan-of c = c .before .before
 
 abbrev bytes : tie.After-first-repetition → List ℕ
-bytes c = scan-of c .before .before .args .s .now
+bytes c = scan-of c .before .before .before .before .before .before .args .s .now
 
 first-repetition-requires : tie.Need-first-repetition-requires
 first-repetition-requires c κs =
-    let scanned = c .before .before .before .scan .ensures in
+    let scanned = c .before .scan .ensures in
     (rw (scanned .2) (plain-le _), ap (λ (n : Noted). n .falling) (scanned .1 ∙ ap (notedBefore _) (sym (scanned .2))))
 
 end-is : (c : tie.After-first-repetition) → scan-of c .scan .result .end ≡ firstPlain (bytes c)
@@ -65,15 +64,18 @@ returns-2 c =
 
 check-fully-requires : tie.Need-check-fully-requires
 check-fully-requires c κs =
-    let searched = c .before .before in
-    (c .if2 .left, scan-of searched .scan .ensures .1 ∙ ap (notedBefore _) (sym (end-is searched)))
+    let tested = c .before .before in
+    let searched = tested .before .before in
+    let noted = scan-of searched .scan .ensures .1 ∙ ap (notedBefore _) (sym (end-is searched)) in
+    (tested .if2 .left, ap (λ (n : Noted). n .sheets) noted, ap (λ (n : Noted). n .cells) noted)
 
 returns-3 : tie.Need-returns-3
 returns-3 c =
-    let searched = c .before .before .before in
+    let tested = c .before .before .before in
+    let searched = tested .before .before in
     let s = bytes searched in
-    let none = none-before (c .before .before) in (
-      c .check-fully .ensures ∙ ap (recordVerdict s) (end-is searched) ∙ sym (here-verdict s none (omega (arith, c .before .if2 .left, end-is searched))),
+    let none = none-before (tested .before) in (
+      c .check-fully .ensures ∙ ap (recordVerdict s) (end-is searched) ∙ sym (here-verdict s none (omega (arith, tested .if2 .left, end-is searched))),
       scan-of searched .scan .ensures .1,
       end-is searched ∙ sym (here-first s none),
     )

@@ -7,10 +7,10 @@ use borrow.Author.Needs.{needs}
 use lib.ListN.{length}
 use Rattle.answers.specs.Verdict.{Verdict}
 use Rattle.answers.specs.Answers.{verdictOf}
-use Rattle.records.specs.declared.notes.Noted.{Noted}
-use Rattle.records.specs.Inner.Notes.{notedBefore}
+use Rattle.records.specs.Inner.Notes.{Noted, notedBefore}
 use Rattle.faults.specs.RecordVerdicts.{recordsVerdict}
 use Rattle.amendments.proofs.VerdictLaws.{plain-passed}
+use Rattle.faults.specs.Inner.PlainVerdicts.{firstPlain}
 use Rattle.filing.specs.Verdict.{sheetVerdict}
 use Rattle.filing.proofs.ReadLaws.{records-refuse, sheets-refuse, refused-reading}
 use Rattle.filing.proofs.read.Statement.{statement}
@@ -18,10 +18,10 @@ use Rattle.filing.proofs.read.Tie as tie
 
 -- the filing's bytes, where the records and where the sheets are tested, and the state between
 abbrev bytes : tie.After-number → List ℕ
-bytes c = c .before .before .before .args .filing .now
+bytes c = c .before .before .before .before .before .before .before .args .filing .now
 
 abbrev passed : tie.After-number2 → tie.Else1
-passed c = c .before .before .before .before .before
+passed c = c .before .before .before
 
 abbrev sheet-bytes : tie.After-number2 → List ℕ
 sheet-bytes c = bytes (passed c .before)
@@ -51,11 +51,13 @@ returns c =
 none : (c : tie.Else1) → recordsVerdict (bytes (c .before)) .number ≡ 0
 none c = sym (records-number (c .before)) ∙ c .if1 .left
 
-noted : (c : tie.Else1) → c .before .before .check-records .result .noted ≡ notedBefore (bytes (c .before)) (length (bytes (c .before)))
-noted c = c .before .before .check-records .ensures .1 ∙ ap (notedBefore (bytes (c .before))) (plain-passed _ (none c))
+all-noted : (c : tie.Else1) → notedBefore (bytes (c .before)) (firstPlain (bytes (c .before))) ≡ notedBefore (bytes (c .before)) (length (bytes (c .before)))
+all-noted c = ap (notedBefore (bytes (c .before))) (plain-passed _ (none c))
 
 check-sheets-requires : tie.Need-check-sheets-requires
-check-sheets-requires c κs = ap (λ (n : Noted). n .sheets) (noted (c .before .before .before))
+check-sheets-requires c κs =
+    let passed = c .before in
+    ap (λ (n : Noted). n .sheets) (passed .before .before .check-records .ensures .1 ∙ all-noted passed)
 
 number-requires-2 : tie.Need-number-requires-2
 number-requires-2 c κs = search needs
@@ -77,7 +79,10 @@ returns-2 c =
 
 read-contents-requires : tie.Need-read-contents-requires
 read-contents-requires c κs =
-    ((none (passed (c .before)), sym (sheets-number (c .before)) ∙ c .if2 .left), noted (passed (c .before)))
+    let tested = c .before .before in
+    let before = passed (tested .before) in
+    let noted = before .before .before .check-records .ensures .1 ∙ all-noted before in
+    ((none before, sym (sheets-number (tested .before)) ∙ tested .if2 .left), (ap (λ (n : Noted). n .sheets) noted, ap (λ (n : Noted). n .counting) noted))
 
 returns-3 : tie.Need-returns-3
 returns-3 c = c .read-contents .ensures

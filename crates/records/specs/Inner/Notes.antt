@@ -8,11 +8,18 @@ use lib.Dec.{leb, ltb, eqb}
 use Rattle.lists.specs.Tables.{table, tableFrom}
 use Rattle.records.specs.declared.items.Item.{Item}
 use Rattle.records.specs.declared.items.Item.the-variants.{Cell, Sheet, Amendment, Nothing}
-use Rattle.records.specs.declared.notes.Noted.{Noted}
 use Rattle.records.specs.Records.{firstRecord}
 use Rattle.records.specs.Kinds.{kindCount}
 use Rattle.records.specs.Items.{recordItem, firstWith}
 use Rattle.records.specs.Counting.{rank, counting, countingBefore}
+
+-- What is noted: the offset of the first record of each kind of sheet, and of each cell from 601 on; of the record that counts for each cell: the input's
+-- length where there is none. And for each cell whether an amendment of it ranks no higher than the record that counts before it
+pub record Noted : Type 0 where
+  pub sheets : List ℕ
+  pub cells : List ℕ
+  pub counting : List ℕ
+  pub falling : List Bool
 
 -- the cells that are noted: so many from the first on
 abbrev pub firstCell : ℕ

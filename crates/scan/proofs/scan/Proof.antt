@@ -52,7 +52,7 @@ next-of-requires c κs = tested (c .before .before) .loop-test .taken
 loop-less : tie.Need-loop-less Inv-loop μ-loop
 loop-less c =
     let in-loop = tested (c .before .before .before) in
-    omega (arith, next-lt (in-loop .before .before .before .before .args .s .now) (in-loop .before .loop .at), c .next-of .ensures, in-loop .loop-test .taken)
+    omega (arith, next-lt (in-loop .before .before .before .before .before .before .before .before .args .s .now) (in-loop .before .loop .at), c .next-of .ensures, in-loop .loop-test .taken)
 
 loop-again : tie.Need-loop-again Inv-loop μ-loop
 unfolding verdictOf

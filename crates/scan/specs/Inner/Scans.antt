@@ -4,9 +4,8 @@ use mathlib.Core.Path.{_≡_}
 use mathlib.Core.List.{List}
 use Rattle.answers.specs.declared.Answer.{Answer}
 use Rattle.answers.specs.Answers.{verdictOf}
-use Rattle.records.specs.declared.notes.Noted.{Noted}
 use Rattle.records.specs.Items.{recordItem}
-use Rattle.records.specs.Inner.Notes.{notedBefore, noteItem}
+use Rattle.records.specs.Inner.Notes.{Noted, notedBefore, noteItem}
 use Rattle.faults.specs.Inner.PlainVerdicts.{plainVerdict}
 
 -- What the record at offset `at` is answered, and what is noted after it: a sound record is noted, and a faulty one is not

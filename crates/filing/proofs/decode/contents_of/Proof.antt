@@ -1,11 +1,11 @@
 -- `contents_of` meets its contract: each part is what its callee fills in.
 -- Assumes nothing.
 use Prim.Native.Nat.{ℕ, _<_}
+use mathlib.Core.List.{List}
 use mathlib.Core.Path.{_≡_, ap, _∙_}
 use lib.Dec.{lit<}
 use lib.ListN.{getD}
 use borrow.Author.Needs.{needs}
-use Rattle.records.specs.declared.notes.Noted.{Noted}
 use Rattle.records.specs.Kinds.{kindCount, flatRatesKind, tiersKind, ratePathKind}
 use Rattle.filing.specs.Contents.{sheetOffset, contentsOf}
 use Rattle.filing.proofs.ContentsLaws.{sheet-noted}
@@ -13,13 +13,11 @@ use Rattle.filing.proofs.decode.contents_of.Statement.{statement}
 use Rattle.filing.proofs.decode.contents_of.Tie as tie
 
 -- where a sheet stands
-sheet-is : (c : tie.Start) (kind : ℕ) → kind < kindCount → getD (c .args .t2 .sheets) kind 0 ≡ sheetOffset (c .args .s .now) kind
-sheet-is c kind h = ap (λ (noted : Noted). getD (noted .sheets) kind 0) (c .pre .1) ∙ sheet-noted _ kind h
+sheet-is : (c : tie.Start) (kind : ℕ) → kind < kindCount → getD (c .args .sheets .now) kind 0 ≡ sheetOffset (c .args .s .now) kind
+sheet-is c kind h = ap (λ (l : List ℕ). getD l kind 0) (c .pre .1 .0) ∙ sheet-noted _ kind h
 
 cell-values-requires : tie.Need-cell-values-requires
-cell-values-requires c κs =
-    let start = c .before .before .before in
-    (start .pre .0, ap (λ (noted : Noted). noted .counting) (start .pre .1))
+cell-values-requires c κs = (c .before .pre .0, c .before .pre .1 .1)
 
 element-copy-out-fill-numbers : tie.Need-element-copy-out-fill-numbers
 element-copy-out-fill-numbers c = search needs
@@ -38,7 +36,7 @@ element-copy-out-rate-numbers-2 c = search needs
 
 rate-numbers-requires : tie.Need-rate-numbers-requires
 rate-numbers-requires c κs =
-    let start = c .before .before .before .before .before .before .before .before .before .before in
+    let start = c .before .before .before .before .before .before .before .before in
     (sheet-is start flatRatesKind (lit< tt), sheet-is start ratePathKind (lit< tt))
 
 element-copy-out-tiers-at : tie.Need-element-copy-out-tiers-at
@@ -53,7 +51,7 @@ returns c =
     let rates = c .before .before in
     let yields = rates .before .before .before .before in
     let cells = yields .before .before .before in
-    let start = cells .before .before .before .before in
+    let start = cells .before .before in
     rw (
       cells .cell-values .ensures,
       yields .fill-numbers .ensures,

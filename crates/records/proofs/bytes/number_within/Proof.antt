@@ -2,8 +2,6 @@
 -- Assumes nothing.
 use borrow.Author.Needs.{needs}
 use native.Mathlib.Omega.{arith}
-use mathlib.Core.Path.{_≡_, sym, _∙_}
-use Rattle.records.specs.Bytes.{numberAt}
 use Rattle.records.proofs.ByteLaws.{number-halves}
 use Rattle.records.proofs.bytes.number_within.Statement.{statement}
 use Rattle.records.proofs.bytes.number_within.Tie as tie

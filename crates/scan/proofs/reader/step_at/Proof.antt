@@ -38,7 +38,7 @@ use Rattle.scan.specs.declared.reader.Reader.{Reader}
 use Rattle.scan.specs.declared.Step.{Step}
 use Rattle.scan.specs.Inner.Steps.{stepAt}
 use Rattle.scan.proofs.WalkLaws.{returned}
-use Rattle.scan.proofs.ReaderLaws.{TheReader, bytes-value, OwnBytes, OwnReader, token, bytes-twice, reader-typed}
+use Rattle.scan.proofs.ReaderLaws.{TheReader, bytes-value, OwnBytes, token, bytes-twice, reader-typed}
 use Rattle.scan.proofs.Step as S
 use Rattle.scan.proofs.Step.Laws as S′
 use Rattle.scan.proofs.reader.Reader.new as new
