@@ -38,7 +38,7 @@ pub fn check_records(s: &[u8]) -> Scanned
     let scanned = scan(s);
     let noted = scanned.noted;
     let end = scanned.end;
-    let first = first_repetition(s, noted, end);
+    let first = first_repetition(s, &noted.falling, end);
     if first < end {
         return Scanned {
             answer: Answer::AmendmentRepeated(first),
@@ -62,7 +62,9 @@ fn check_fully(s: &[u8], at: usize, noted: Noted) -> Answer
     requires { ⌜ (at < length (now s)) × (noted ≡ notedBefore (now s) at) ⌝ }
     ensures { λ r. ⌜ verdictOf r ≡ recordVerdict (now (s .entry)) at ⌝ }
 {
-    let shape = check_shape(s, at, noted);
+    let sheets = noted.sheets;
+    let cells = noted.cells;
+    let shape = check_shape(s, at, &sheets, &cells);
     let again = refused_if(amendment_repeated(s, at), Answer::AmendmentRepeated(at));
     let body = check_body(s, at);
     first_refusal(shape, first_refusal(again, body))
@@ -82,14 +84,14 @@ fn amendment_repeated(s: &[u8], at: usize) -> bool
 }
 
 // The first record before `end` that amends a cell with a number that an earlier one has: `end` where there is none.
-fn first_repetition(s: &[u8], noted: Noted, end: usize) -> usize
-    requires { ⌜ (end ≤ length (now s)) × (noted ≡ notedBefore (now s) end) ⌝ }
+fn first_repetition(s: &[u8], falling: &[bool; CELLS], end: usize) -> usize
+    requires { ⌜ (end ≤ length (now s)) × (now falling ≡ notedBefore (now s) end .falling) ⌝ }
     ensures { λ r. ⌜ r ≡ repetitionsBelow (now (s .entry)) cellCount end ⌝ }
 {
     let mut first = end;
     let mut i: usize = 0;
     while i < CELLS {
-        first = cell_repetition(s, FIRST_CELL + (i as u64), noted.falling[i], first);
+        first = cell_repetition(s, FIRST_CELL + (i as u64), falling[i], first);
         i += 1;
     }
     first

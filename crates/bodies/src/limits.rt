@@ -2,10 +2,11 @@
 use records::fields::amendment_number;
 use records::fields::amendment_state;
 use records::fields::amendment_value;
+use records::fields::holds_numbers;
+use records::fields::number_of;
 use records::fields::record_cell;
 use records::fields::record_kind;
 use records::fields::record_value;
-use records::fields::sheet_number;
 use records::kinds::AMENDMENT_KIND;
 use records::kinds::FINE_COUPON_KIND;
 use records::kinds::gives_cell;
@@ -65,10 +66,11 @@ fn unfit_amendment(s: &[u8], at: usize) -> bool
 fn number_over(s: &[u8], at: usize, limit: u16, n: usize) -> bool
     ensures { λ r. ⌜ r ≡ numberOver (now (s .entry)) at limit n ⌝ }
 {
+    let within = holds_numbers(s, at, n);
     let mut i = 0;
     while i < n {
         i += 1;
-        if limit < sheet_number(s, at, i) {
+        if limit < number_of(s, at, i, within) {
             return true;
         }
     }

@@ -1,46 +1,45 @@
 // The lines of standard input.
 use libc::STDIN_FILENO;
+ghost use Prim.Native.Nat.{_≤_};
+ghost use mathlib.Core.Path.{_≡_};
+ghost use lib.ListN.{length, take};
 
-// The room for a line: a byte more than the longest that can be read.
-pub const LINE_ROOM: usize = 129;
-
-// A line without its line feed: its first bytes, and how many it has, as many as the room where it is longer. At the input's end there is none.
-pub struct Line {
-    pub bytes: [u8; LINE_ROOM],
+// How many bytes of a line were read, without its line feed, and whether there was none before the input's end.
+pub struct Read {
     pub size: usize,
     pub is_end: bool,
 }
 
-// Reads the next line.
-pub fn next_line() -> Line {
-    let mut line = Line {
-        bytes: [0; LINE_ROOM],
-        size: 0,
-        is_end: true,
-    };
+// Reads the next line; of a longer one than the lent bytes only those are kept.
+pub fn next_line(line: &mut [u8]) -> Read
+    ensures { λ r. ⌜ (r .size ≤ length (now (line .exit))) × (r .size ≡ length (take (r .size) (now (line .exit)))) ⌝ }
+{
+    let mut size: usize = 0;
+    let mut is_end = true;
     for _ in 0..18446744073709551615u64 {
         let byte = next_byte();
         if 255 < byte {
             break;
         }
-        line.is_end = false;
+        is_end = false;
         if byte == 10 {
             break;
         }
-        line = with_byte(line, byte);
+        size = with_byte(line, size, byte);
     }
-    line
+    Read { size, is_end }
 }
 
-// The line with a byte more, where it has room.
-fn with_byte(line: Line, byte: u64) -> Line {
-    let mut longer = line;
-    let size = longer.size;
-    if size < LINE_ROOM {
-        longer.bytes[size] = (byte % 256) as u8;
-        longer.size = size + 1;
+// Stores a byte behind the others, where there is room, and counts them.
+fn with_byte(line: &mut [u8], size: usize, byte: u64) -> usize
+    requires { ⌜ size ≤ length (now line) ⌝ }
+    ensures { λ r. ⌜ r ≤ length (now (line .exit)) ⌝ }
+{
+    if line.len() <= size {
+        return size;
     }
-    longer
+    line[size] = (byte % 256) as u8;
+    size + 1
 }
 
 // The next byte, 256 at the input's end.

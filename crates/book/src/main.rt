@@ -1,60 +1,79 @@
-// A standing book on the command line. The one argument names the file with the filing; then each line of standard input is a command, and what it
-// answers is printed.
-mod commands;
+// A standing book on the command line. The one argument names the file with the filing; then each line of standard input is obeyed, and what is
+// answered to it is printed.
 mod lines;
-mod replies;
 
-use crate::commands::command_of;
 use crate::lines::next_line;
-use crate::replies::obey;
-use answers::number;
-use answers::place;
+use book_text::obey;
+use book_text::open_book;
 use books::Book;
-use output::refusal;
-use output::text;
-use standing_book::open;
+use libc::STDOUT_FILENO;
 
-// The most bytes of a filing.
-const FILING_LIMIT: usize = 65536;
-
+// One byte more than the 65,536 of a filing is read, so that a longer one shows.
 fn main() {
     let mut path = io::buffer();
     let length = os::arg(1, &mut path);
     if os::errno() != 0 {
-        text(b"no filing\n");
+        no_filing();
         return;
     }
     let file = os::open_read(&path[..length]);
     if file < 0 {
-        text(b"no filing\n");
+        no_filing();
         return;
     }
     let mut input = [0u8; 65537];
     let n = io::read_full(file, &mut input);
     libc::close(file);
-    if FILING_LIMIT < n {
-        text(b"too long\n");
-        return;
+    let mut text = [0u8; 644];
+    let opened = open_book(&input[..n], &mut text);
+    let size = opened.size;
+    io::write_all(STDOUT_FILENO, &text[..size]);
+    if opened.is_open {
+        obey_lines(opened.book);
     }
-    let opened = open(&input[..n]);
-    let answer = opened.answer;
-    if number(answer) != 0 {
-        refusal(number(answer), place(answer) as u64);
-        return;
-    }
-    text(b"opened\n");
-    obey_lines(opened.book);
+}
+
+fn no_filing() {
+    io::write_all(STDOUT_FILENO, b"no filing\n");
 }
 
 // Obeys each line of standard input, to its end.
 fn obey_lines(opened: Book) {
     let mut book = opened;
     for _ in 0..18446744073709551615u64 {
-        let line = next_line();
-        if line.is_end {
+        let turn = obey_next(book);
+        if turn.is_end {
             return;
         }
-        let bytes = line.bytes;
-        book = obey(book, command_of(&bytes, line.size));
+        book = turn.book;
     }
+}
+
+// The book after a line, and whether there was none.
+struct Turn {
+    book: Book,
+    is_end: bool,
+}
+
+// Obeys the next line. One byte more than the 1,024 of a line is read, so that a longer one shows.
+fn obey_next(book: Book) -> Turn {
+    let mut line = [0u8; 1025];
+    let read = next_line(&mut line);
+    if read.is_end {
+        return Turn { book, is_end: true };
+    }
+    let size = read.size;
+    Turn {
+        book: obey_line(book, &line[..size]),
+        is_end: false,
+    }
+}
+
+// Obeys a line and prints what is answered to it.
+fn obey_line(book: Book, line: &[u8]) -> Book {
+    let mut text = [0u8; 644];
+    let obeyed = obey(book, line, &mut text);
+    let size = obeyed.size;
+    io::write_all(STDOUT_FILENO, &text[..size]);
+    obeyed.book
 }

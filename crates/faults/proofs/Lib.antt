@@ -1,2 +1,3 @@
 pub mod RepetitionLaws
+pub mod CellLaws
 pub mod FaultLaws

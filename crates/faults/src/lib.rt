@@ -3,7 +3,10 @@ use answers::Answer;
 use answers::first_refusal;
 use bodies::limits::over_limit;
 use bodies::tiers::unsound_tiers;
+use records::CELLS;
 use records::FIRST_CELL;
+use records::KINDS;
+use records::fields::field_within;
 use records::fields::record_kind;
 use records::fields::record_length;
 use records::items::Item;
@@ -13,8 +16,8 @@ use records::kinds::FLAT_RATES_KIND;
 use records::kinds::RATE_PATH_KIND;
 use records::kinds::due_length;
 use records::kinds::names_cell;
-use records::notes::Noted;
 ghost use mathlib.Core.Path.{_≡_};
+ghost use mathlib.Core.Bool.{true};
 ghost use Prim.Native.Nat.{_≤_};
 ghost use lib.ListN.{length};
 ghost use Rattle.answers.specs.Verdict.{firstRefusal, refusedIf};
@@ -22,28 +25,67 @@ ghost use Rattle.answers.specs.Answers.{numberOf, placeOf, verdictOf};
 ghost use Rattle.records.specs.Inner.Notes.{notedBefore};
 ghost use Rattle.faults.specs.Faults as faults;
 ghost use Rattle.faults.specs.RecordVerdicts.{shapeVerdict, bodyVerdict};
-ghost use Rattle.faults.specs.Inner.PlainVerdicts.{plainVerdict};
+ghost use Rattle.faults.specs.Inner.PlainVerdicts.{plainVerdict, SoundCell, cellLimits};
 
 // The answer on the record at an offset by all tests but 16, given what is noted of the records before it.
-pub fn check_record(s: &[u8], at: usize, noted: Noted) -> Answer
-    requires { ⌜ (at ≤ length (now s)) × (noted ≡ notedBefore (now s) at) ⌝ }
+pub fn check_record(s: &[u8], at: usize, sheets: &[usize; KINDS], cells: &[usize; CELLS]) -> Answer
+    requires { ⌜ (at ≤ length (now s)) × (now sheets ≡ notedBefore (now s) at .sheets) × (now cells ≡ notedBefore (now s) at .cells) ⌝ }
     ensures { λ r. ⌜ verdictOf r ≡ plainVerdict (now (s .entry)) at ⌝ }
 {
-    first_refusal(check_shape(s, at, noted), check_body(s, at))
+    first_refusal(check_shape(s, at, sheets, cells), check_body(s, at))
+}
+
+// A record of kind 1 that has no fault: the most frequent one, tested at once by the limits of the cells.
+pub fn sound_cell(s: &[u8], at: usize, cells: &[usize; CELLS], limits: &[u64; CELLS]) -> bool
+    requires { ⌜ (now cells ≡ notedBefore (now s) at .cells) × (now limits ≡ cellLimits) ⌝ }
+    ensures { λ r. ⌜ (r ≡ true → SoundCell (now (s .entry)) at) ⌝ }
+{
+    if s.len() < 14 {
+        return false;
+    }
+    if s.len() - 14 < at {
+        return false;
+    }
+    if field_within(s, at, 0, 2) != 12 {
+        return false;
+    }
+    if field_within(s, at, 2, 2) != 1 {
+        return false;
+    }
+    let cell = field_within(s, at, 4, 2);
+    if cell < FIRST_CELL {
+        return false;
+    }
+    if FIRST_CELL + (CELLS as u64) <= cell {
+        return false;
+    }
+    let i = (cell - FIRST_CELL) as usize;
+    let limit = limits[i];
+    if limit == 0 {
+        return false;
+    }
+    if cells[i] < s.len() {
+        return false;
+    }
+    field_within(s, at, 6, 8) <= limit
 }
 
 // The tests before 16: 1 to 4 and 12.
-pub fn check_shape(s: &[u8], at: usize, noted: Noted) -> Answer
-    requires { ⌜ (at ≤ length (now s)) × (noted ≡ notedBefore (now s) at) ⌝ }
+pub fn check_shape(s: &[u8], at: usize, sheets: &[usize; KINDS], cells: &[usize; CELLS]) -> Answer
+    requires { ⌜ (at ≤ length (now s)) × (now sheets ≡ notedBefore (now s) at .sheets) × (now cells ≡ notedBefore (now s) at .cells) ⌝ }
     ensures { λ r. ⌜ verdictOf r ≡ shapeVerdict (now (s .entry)) at ⌝ }
 {
     let end = refused_if(incomplete(s, at), Answer::RecordIncomplete(at));
     let shape = or_refused(end, misshapen(s, at), Answer::RecordMisshapen(at));
     let listing = or_refused(shape, unlisted(s, at), Answer::CellUnlisted(at));
-    let repetition = or_refused(listing, repeated(s, at, noted), Answer::Repeated(at));
+    let repetition = or_refused(
+        listing,
+        repeated(s, at, sheets, cells),
+        Answer::Repeated(at),
+    );
     or_refused(
         repetition,
-        path_beside_flat(s, at, noted),
+        path_beside_flat(s, at, sheets),
         Answer::PathBesideFlat(at),
     )
 }
@@ -97,32 +139,32 @@ fn unlisted(s: &[u8], at: usize) -> bool
 }
 
 // 4: the cell, or the kind of sheet, stands in an earlier record.
-fn repeated(s: &[u8], at: usize, noted: Noted) -> bool
-    requires { ⌜ (at ≤ length (now s)) × (noted ≡ notedBefore (now s) at) ⌝ }
+fn repeated(s: &[u8], at: usize, sheets: &[usize; KINDS], cells: &[usize; CELLS]) -> bool
+    requires { ⌜ (at ≤ length (now s)) × (now sheets ≡ notedBefore (now s) at .sheets) × (now cells ≡ notedBefore (now s) at .cells) ⌝ }
     ensures { λ r. ⌜ r ≡ faults.repeated (now (s .entry)) at ⌝ }
 {
     match record_item(s, at) {
         Item::Cell(cell) => {
             let i = (cell - FIRST_CELL) as usize;
-            noted.cells[i] < s.len()
+            cells[i] < s.len()
         }
-        Item::Sheet(kind) => noted.sheets[kind] < s.len(),
+        Item::Sheet(kind) => sheets[kind] < s.len(),
         Item::Amendment(_, _) => false,
         Item::Nothing => false,
     }
 }
 
 // 12: retail rates by month beside flat ones.
-fn path_beside_flat(s: &[u8], at: usize, noted: Noted) -> bool
-    requires { ⌜ (at ≤ length (now s)) × (noted ≡ notedBefore (now s) at) ⌝ }
+fn path_beside_flat(s: &[u8], at: usize, sheets: &[usize; KINDS]) -> bool
+    requires { ⌜ (at ≤ length (now s)) × (now sheets ≡ notedBefore (now s) at .sheets) ⌝ }
     ensures { λ r. ⌜ r ≡ faults.pathBesideFlat (now (s .entry)) at ⌝ }
 {
     let kind = record_kind(s, at);
     if kind == FLAT_RATES_KIND {
-        return noted.sheets[RATE_PATH_KIND] < s.len();
+        return sheets[RATE_PATH_KIND] < s.len();
     }
     if kind == RATE_PATH_KIND {
-        return noted.sheets[FLAT_RATES_KIND] < s.len();
+        return sheets[FLAT_RATES_KIND] < s.len();
     }
     false
 }

@@ -13,12 +13,11 @@ use Rattle.schedule.specs.Limits.{couponClass, cellClass, monthsLimit, tierLimi
 use Rattle.records.specs.declared.items.Item.{Item}
 use Rattle.records.specs.declared.items.Item.the-variants.{Cell, Sheet, Amendment, Nothing}
 use Rattle.records.specs.Records.{recordKind, recordCell, amendmentState, sheetNumber, tierCount, firstRecord}
-use Rattle.records.specs.Kinds.{fineCouponKind, amendmentKind, tiersKind, ratePathKind, flatRatesKind, givesCell, sheetOf, sheetKinds, sheetKind, sheetLength, dueLength}
+use Rattle.records.specs.Kinds.{fineCouponKind, amendmentKind, tiersKind, ratePathKind, flatRatesKind}
 use Rattle.records.specs.Items.{sameItem, recordItem, firstWith}
 use Rattle.records.specs.Counting.{itemRank, rank, countingBefore}
-use Rattle.records.proofs.ByteLaws.{number-past}
 use Rattle.records.proofs.RecordLaws.{first-le, first-passes}
-use Rattle.records.proofs.ItemLaws.{same-item, record-of-amendment}
+use Rattle.records.proofs.ItemLaws.{same-item, item-past, record-of-amendment}
 use Rattle.faults.specs.Faults.{standsBefore}
 use Rattle.faults.specs.RecordVerdicts.{firstRefused, recordVerdict}
 use Rattle.faults.proofs.FaultLaws.{record-plain, faultless}
@@ -29,11 +28,6 @@ use Rattle.scan.proofs.FirstLaws.{first-found, first-earlier, first-reached}
 use Rattle.scan.proofs.CountingLaws.{counting-most, counting-holds}
 use Rattle.filing.specs.Contents.{filedValue, amountAt, cellOffset, cellValue, sheetOffset, rateCount, rateNumber, tierNumber, tiersAt, contentsOf}
 use Rattle.filing.specs.Survivors.{withdraws, survives, Surviving}
-
--- nothing stands at the end, so it is of no cell
-nothing-past : (s : List ℕ) (at : ℕ) → length s ≤ at → recordItem s at ≡ Nothing
-unfolding recordItem givesCell dueLength sheetLength sheetKind sheetKinds sheetOf
-nothing-past s at h = simp (number-past s (at + 2) 2 (omega arith))
 
 module _ (t : List ℕ) (sound : firstRefused t (recordVerdict t) ≡ length t)
     (unamended : firstRecord t (λ (at : ℕ). eqb (recordKind t at) amendmentKind) (length t) ≡ length t) (n : ℕ) where
@@ -113,7 +107,7 @@ module _ (t : List ℕ) (sound : firstRefused t (recordVerdict t) ≡ length t)
       by : (b : Bool) → ltb counted (length t) ≡ b → counted < length t
       by true e = ltb-true counted (length t) e
       by false e =
-          let none : rank t n counted ≡ 0 = ap (itemRank n) (nothing-past t counted (ltb-false counted (length t) e)) in
+          let none : rank t n counted ≡ 0 = ap (itemRank n) (item-past t counted (ltb-false counted (length t) e)) in
           absurd (omega (arith, ranked l, none, counting-most t n (length t) first (first-reached t ofCell (length t) l) l))
 
   -- without amendments the record that counts for a cell is the cell's own

@@ -4,6 +4,8 @@ use crate::FiledTiers;
 use records::CELLS;
 use records::fields::amendment_state;
 use records::fields::amendment_value;
+use records::fields::holds_numbers;
+use records::fields::number_of;
 use records::fields::record_cell;
 use records::fields::record_kind;
 use records::fields::record_value;
@@ -18,15 +20,17 @@ use records::notes::Noted;
 use schedule::tables::COUPON_CLASS;
 use schedule::tables::cell_class;
 ghost use mathlib.Core.Path.{_≡_};
-ghost use Prim.Native.Nat.{_≤_, _<_};
-ghost use lib.ListN.{length};
+ghost use mathlib.Core.Bool.{cond};
+ghost use Prim.Native.Nat.{_+_, _/_, _≤_, _<_};
+ghost use lib.Dec.{ltb};
+ghost use lib.ListN.{length, getD};
 ghost use Rattle.lists.specs.Tables.{table, tableFrom};
-ghost use Rattle.schedule.specs.Limits.{cellClass, heldLimit, tierLimit};
+ghost use Rattle.schedule.specs.Limits.{cellClass, heldLimit, monthsLimit, tierLimit};
 ghost use Rattle.records.specs.Records.{recordCell, sheetNumber};
 ghost use Rattle.records.specs.Kinds.{flatRatesKind, ratePathKind};
 ghost use Rattle.records.specs.Inner.Notes.{notedBefore};
 ghost use Rattle.faults.specs.RecordVerdicts.{firstFaulty};
-ghost use Rattle.filing.specs.Contents.{filedValue, amountAt, sheetOffset, rateCount, rateNumber, tierNumber, tiersAt, contentsOf};
+ghost use Rattle.filing.specs.Contents.{filedValue, amountAt, sheetOffset, rateCount, tierNumber, tiersAt, contentsOf};
 
 // What a filing says whose records are sound, from where all of them stand.
 pub(crate) fn contents_of(s: &[u8], noted: Noted) -> Contents
@@ -69,6 +73,9 @@ fn amount_at(s: &[u8], at: usize) -> u64
     requires { ⌜ amountAt (now s) at ≤ heldLimit (cellClass (recordCell (now s) at)) ⌝ }
     ensures { λ r. ⌜ r ≡ amountAt (now (s .entry)) at ⌝ }
 {
+    if s.len() <= at {
+        return 0;
+    }
     let value = filed_value(s, at);
     if record_kind(s, at) == FINE_COUPON_KIND {
         return value;
@@ -96,9 +103,10 @@ fn filed_value(s: &[u8], at: usize) -> u64
 fn fill_numbers(s: &[u8], at: usize, numbers: &mut [u16])
     ensures { λ r. ⌜ now (numbers .exit) ≡ tableFrom 1 (length (now (numbers .entry))) (sheetNumber (now (s .entry)) at) ⌝ }
 {
+    let within = holds_numbers(s, at, numbers.len());
     let mut i = 0;
     while i < numbers.len() {
-        numbers[i] = sheet_number(s, at, i + 1);
+        numbers[i] = number_of(s, at, i + 1, within);
         i += 1;
     }
 }
@@ -108,25 +116,44 @@ fn rate_numbers(s: &[u8], flat: usize, path: usize) -> [u16; 360]
     requires { ⌜ (flat ≡ sheetOffset (now s) flatRatesKind) × (path ≡ sheetOffset (now s) ratePathKind) ⌝ }
     ensures { λ r. ⌜ r ≡ contentsOf (now (s .entry)) .rates ⌝ }
 {
-    let mut rates = [0; 360];
-    let mut i = 0;
-    while i < 360 {
-        rates[i] = rate_number(s, flat, path, i);
-        i += 1;
+    if path < s.len() {
+        path_rates(s, path)
+    } else {
+        flat_rates(s, flat)
     }
+}
+
+// The retail rates of a sheet by month.
+fn path_rates(s: &[u8], path: usize) -> [u16; 360]
+    ensures { λ r. ⌜ r ≡ tableFrom 1 rateCount (sheetNumber (now (s .entry)) path) ⌝ }
+{
+    let mut rates = [0; 360];
+    fill_numbers(s, path, &mut rates);
     rates
 }
 
-// The i-th retail rate, from 0: without rates by month, the flat one of its column.
-fn rate_number(s: &[u8], flat: usize, path: usize, i: usize) -> u16
-    requires { ⌜ (flat ≡ sheetOffset (now s) flatRatesKind) × (path ≡ sheetOffset (now s) ratePathKind) ⌝ }
-    requires { ⌜ i < rateCount ⌝ }
-    ensures { λ r. ⌜ r ≡ rateNumber (now (s .entry)) i ⌝ }
+// The retail rates of a sheet of flat ones: each in the 120 months of its column.
+fn flat_rates(s: &[u8], flat: usize) -> [u16; 360]
+    ensures { λ r. ⌜ r ≡ table rateCount (λ i. sheetNumber (now (s .entry)) flat (i / monthsLimit + 1)) ⌝ }
 {
-    if path < s.len() {
-        sheet_number(s, path, i + 1)
-    } else {
-        sheet_number(s, flat, i / 120 + 1)
+    let first = sheet_number(s, flat, 1);
+    let second = sheet_number(s, flat, 2);
+    let third = sheet_number(s, flat, 3);
+    let mut rates = [first; 360];
+    fill_from(&mut rates, 120, second);
+    fill_from(&mut rates, 240, third);
+    rates
+}
+
+// Fills in a rate from a place on.
+fn fill_from(rates: &mut [u16; 360], from: usize, rate: u16)
+    requires { ⌜ (from ≤ rateCount) × (length (now rates) ≡ rateCount) ⌝ }
+    ensures { λ _. ⌜ now (rates .exit) ≡ table rateCount (λ i. cond (ltb i from) (getD (now (rates .entry)) i 0) rate) ⌝ }
+{
+    let mut i = from;
+    while i < 360 {
+        rates[i] = rate;
+        i += 1;
     }
 }
 

@@ -1,12 +1,13 @@
 -- A list that is filled place by place from the front becomes the table of what is written. Assumes nothing.
-use Prim.Native.Nat.{ℕ, _+_, _<_}
+use Prim.Native.Nat.{ℕ, _+_, _≤_, _<_}
 use mathlib.Core.Path.{_≡_, sym, _∙_}
 use mathlib.Core.Logic.{⊎-elim}
 use mathlib.Core.List.{List}
 use native.Mathlib.Nat.{not-suc-le-zero, le-of-suc-le-suc, eq-or-lt-of-le, ne-of-lt}
 use native.Mathlib.Numerals.{add-one}
-use lib.ListN.{length, getD, set, replicate, length-set, length-replicate}
-use lib.Seq.{getD-set-same, getD-set-other, ext-getD}
+use native.Mathlib.Omega.{arith}
+use lib.ListN.{length, getD, set, take, replicate, length-set, length-replicate}
+use lib.Seq.{getD-set-same, getD-set-other, ext-getD, getD-take, length-take-le, take-all}
 use Rattle.lists.specs.Tables.{table}
 use Rattle.lists.proofs.TableLaws.{table-length, table-getD}
 
@@ -31,8 +32,15 @@ module _ {ℓ} {A : Type ℓ} where
       here : (j : ℕ) → j ≡ i → getD (set l i a) j d ≡ f j
       here j q = rw q (getD-set-same l i a d (rw (filled .long) h) ∙ e)
 
+  -- the places that are filled
+  pub fill-first : (f : ℕ → A) (d : A) (n i : ℕ) (l : List A) → i ≤ n → Filled f d n i l → take i l ≡ table i f
+  fill-first f d n i l h filled =
+      ext-getD d (take i l) (table i f) (long ∙ sym (table-length 0 i f))
+      (λ j g. let b : j < i = rw long at g in getD-take i l j d b ∙ filled .holds j b ∙ sym (table-getD i f j d b))
+    where
+      long : length (take i l) ≡ i
+      long = length-take-le i l (rw (filled .long) h)
+
   -- all places
   pub fill-all : (f : ℕ → A) (d : A) (n : ℕ) (l : List A) → Filled f d n n l → l ≡ table n f
-  fill-all f d n l filled =
-      ext-getD d l (table n f) (filled .long ∙ sym (table-length 0 n f))
-      (λ i h. let g : i < n = rw (filled .long) at h in filled .holds i g ∙ sym (table-getD n f i d g))
+  fill-all f d n l filled = sym (take-all n l (omega (arith, filled .long))) ∙ fill-first f d n n l (omega arith) filled

@@ -5,8 +5,8 @@ use mathlib.Core.List.{List, [], _∷_, _++_, append-assoc, append-nil}
 use native.Mathlib.Nat.{not-suc-le-zero, le-of-suc-le-suc, add-zero, zero-add, add-suc, suc-add, mul-zero, mul-suc}
 use native.Mathlib.Numerals.{add-one}
 use native.Mathlib.Omega.{arith}
-use lib.ListN.{length, getD, take, set, length-append, List·getD-append}
-use lib.Seq.{getD-append-add, take-suc-set}
+use lib.ListN.{length, getD, length-append, List·getD-append}
+use lib.Seq.{getD-append-add}
 use Rattle.lists.specs.Tables.{tableFrom, table, joined}
 
 module _ {ℓ} {A : Type ℓ} where
@@ -32,12 +32,6 @@ module _ {ℓ} {A : Type ℓ} where
   unfolding tableFrom
   tableFrom-suc s zero f = rw add-zero
   tableFrom-suc s (suc n) f = ap (λ (l : List A). f s ∷ l) (tableFrom-suc (suc s) n f ∙ rw (suc-add, ← add-suc))
-
-  -- a list whose first n elements are a table, with the next entry stored at n
-  pub table-stored : (f : ℕ → A) (l : List A) (n more : ℕ) (v : A) → take n l ≡ table n f → n < length l → more ≡ n + 1 → v ≡ f n
-      → take more (set l n v) ≡ table more f
-  table-stored f l n more v h hn e hv =
-      rw (e, add-one, take-suc-set l n v hn, h, tableFrom-suc 0 n f, zero-add, hv)
 
   tableFrom-ext : (s n : ℕ) (f g : ℕ → A) → ((i : ℕ) → i < s + n → f i ≡ g i) → tableFrom s n f ≡ tableFrom s n g
   unfolding tableFrom

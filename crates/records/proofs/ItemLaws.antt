@@ -7,7 +7,7 @@ use mathlib.Core.Bool.{Bool, true, false, cond, _&&_, true≢false}
 use mathlib.Core.List.{List}
 use borrow.Author.Tests.{ltb-true, ltb-false, eqb-true, eqb-false, eq-eqb, ne-eqb}
 use lib.Dec.{ltb, eqb}
-use lib.ListN.{List·getD-eq-default}
+use lib.ListN.{length, List·getD-eq-default}
 use Rattle.schedule.specs.Limits.{couponClass, cellClass}
 use Rattle.schedule.proofs.ClassLaws.{class-listed}
 use Rattle.records.specs.declared.items.Item.{Item}
@@ -16,6 +16,7 @@ use Rattle.records.specs.Records.{recordKind, recordCell, amendmentNumbe
 use Rattle.records.specs.Kinds.{kindCount, cellKind, fineCouponKind, amendmentKind, givesCell, sheetOf, sheetKinds, sheetKind, sheetLength, tiersKind, dueLength}
 use Rattle.records.specs.Items.{sameItem, recordClass, recordItem, firstWith}
 use Rattle.records.specs.Inner.Notes.{firstCell, cellCount}
+use Rattle.records.proofs.ByteLaws.{number-past}
 use Rattle.records.proofs.RecordLaws.{first-passes}
 
 both : (a b : Bool) → (a && b) ≡ true → (a ≡ true) × (b ≡ true)
@@ -54,6 +55,11 @@ pub with-passes : (s : List ℕ) (item : Item) (end : ℕ) → firstWith s item 
 unfolding firstWith
 with-passes s item end h =
     same-item (recordItem s (firstWith s item end)) item (first-passes s (λ (at : ℕ). sameItem (recordItem s at) item) end h)
+
+-- no record stands past the end
+pub item-past : (s : List ℕ) (at : ℕ) → length s ≤ at → recordItem s at ≡ Nothing
+unfolding recordItem givesCell sheetKinds sheetKind sheetOf sheetLength dueLength
+item-past s at h = simp (number-past s (at + 2) 2 (omega arith))
 
 -- a kind that is not known has no length
 unknown-due : (s : List ℕ) (at : ℕ) → kindCount ≤ recordKind s at → dueLength s at ≡ 0

@@ -1,23 +1,41 @@
--- What is noted of the records before one: where an item is noted, and what is noted once all of them are read.
+-- The rank of a record, and what is noted of the records before one: where an item is noted, and what is noted once all of them are read.
 -- Assumes nothing.
 use Prim.Native.Nat.{ℕ, _+_, _-_, _≤_, _<_}
 use native.Mathlib.Omega.{arith}
 use mathlib.Core.Path.{_≡_, refl, ap, _∙_}
-use mathlib.Core.Bool.{Bool, true, false, cond}
+use mathlib.Core.Bool.{Bool, true, false, cond, _||_}
 use mathlib.Core.List.{List}
-use borrow.Author.Tests.{ltb-false}
+use borrow.Author.Tests.{ltb-false, eq-eqb}
 use lib.Dec.{ltb}
-use lib.ListN.{length, getD}
+use lib.ListN.{length, getD, set}
 use Rattle.lists.proofs.TableLaws.{tableFrom-getD, table-getD}
 use Rattle.records.specs.declared.items.Item.{Item}
-use Rattle.records.specs.declared.items.Item.the-variants.{Cell, Sheet}
+use Rattle.records.specs.declared.items.Item.the-variants.{Cell, Sheet, Amendment}
 use Rattle.records.specs.Kinds.{kindCount}
 use Rattle.records.specs.Items.{sameItem, recordItem, firstWith}
-use Rattle.records.specs.Counting.{countingBefore}
-use Rattle.records.specs.Inner.Notes.{firstCell, cellCount, offsetBefore, fallsBefore, notedBefore}
+use Rattle.records.specs.Counting.{itemRank, rank, counting, countingBefore}
+use Rattle.records.specs.Inner.Notes.{firstCell, cellCount, offsetBefore, outranked, fallsBefore, notedBefore, notedAs, noteCounting, noteFalling, noteItem}
 use Rattle.records.proofs.RecordLaws.{first-le}
 
 module _ (s : List ℕ) where
+  -- the rank of a record for its own cell
+  pub rank-of-cell : (at cell : ℕ) → recordItem s at ≡ Cell cell → rank s cell at ≡ 1
+  unfolding itemRank
+  rank-of-cell at cell e = rw e (simp (eq-eqb cell cell refl))
+
+  pub rank-of-amendment : (at cell number : ℕ) → recordItem s at ≡ Amendment cell number → rank s cell at ≡ number + 1
+  unfolding itemRank
+  rank-of-amendment at cell number e = rw e (simp (eq-eqb cell cell refl))
+
+  -- an amendment is noted, by which record counts then and whether it ranks no higher
+  pub note-amendment : (sheets cells numbers : List ℕ) (falling : List Bool) {next : ℕ} {falls : Bool} (at cell number : ℕ) → recordItem s at ≡ Amendment cell number
+      → next ≡ counting s cell (getD numbers (cell - firstCell) 0) at
+      → falls ≡ outranked s cell (getD numbers (cell - firstCell) 0) at
+      → notedAs sheets cells (set numbers (cell - firstCell) next) (set falling (cell - firstCell) (getD falling (cell - firstCell) false || falls))
+      ≡ noteItem s (notedAs sheets cells numbers falling) (recordItem s at) at
+  unfolding noteItem noteCounting noteFalling
+  note-amendment sheets cells numbers falling at cell number e p q = rw (e, p, q)
+
   -- what is noted of a listed cell and of a kind of sheet
   pub noted-cell : (at cell : ℕ) → firstCell ≤ cell → cell < firstCell + cellCount
       → getD (notedBefore s at .cells) (cell - firstCell) 0 ≡ offsetBefore s at (Cell cell)

@@ -5,6 +5,9 @@ use crate::KINDS;
 use crate::items::Item;
 use crate::items::record_item;
 ghost use mathlib.Core.Path.{_≡_};
+ghost use Prim.Native.Nat.{_-_};
+ghost use lib.ListN.{set};
+ghost use Rattle.records.specs.declared.items.Item.the-variants.{Cell};
 ghost use Rattle.records.specs.Items.{recordItem};
 ghost use Rattle.records.specs.Counting as counts;
 ghost use Rattle.records.specs.Inner.Notes as notes;
@@ -18,52 +21,73 @@ pub struct Noted {
     pub falling: [bool; CELLS],
 }
 
-// The record at an offset is noted.
-pub fn note(s: &[u8], at: usize, noted: Noted) -> Noted
-    ensures { λ r. ⌜ r ≡ notes.noteItem (now (s .entry)) noted (recordItem (now (s .entry)) at) at ⌝ }
+// The record at an offset is noted, in the arrays of `Noted`.
+pub fn note(
+    s: &[u8],
+    at: usize,
+    sheets: &mut [usize; KINDS],
+    cells: &mut [usize; CELLS],
+    counting: &mut [usize; CELLS],
+    falling: &mut [bool; CELLS],
+)
+    ensures { λ _. ⌜ notes.notedAs (now (sheets .exit)) (now (cells .exit)) (now (counting .exit)) (now (falling .exit))
+        ≡ notes.noteItem (now (s .entry)) (notes.notedAs (now (sheets .entry)) (now (cells .entry)) (now (counting .entry)) (now (falling .entry)))
+        (recordItem (now (s .entry)) at) at ⌝ }
 {
-    let mut after = noted;
     match record_item(s, at) {
         Item::Cell(cell) => {
-            let i = (cell - FIRST_CELL) as usize;
-            after.cells[i] = at;
-            after.counting[i] = counting(s, cell, noted.counting[i], at);
+            note_cell(s, at, cell, cells, counting);
         }
         Item::Sheet(kind) => {
-            after.sheets[kind] = at;
+            sheets[kind] = at;
         }
-        Item::Amendment(cell, _) => {
+        Item::Amendment(cell, number) => {
             let i = (cell - FIRST_CELL) as usize;
-            after.counting[i] = counting(s, cell, noted.counting[i], at);
-            after.falling[i] = noted.falling[i] | outranked(s, cell, noted.counting[i], at);
+            let before = counting[i];
+            let own = number as u64 + 1;
+            counting[i] = counting_of(s, cell, own, before, at);
+            falling[i] = falling[i] | (own <= rank(s, cell, before));
         }
         Item::Nothing => {}
     }
-    after
 }
 
-// Which of two records counts for a cell: the later one where it ranks higher.
-fn counting(s: &[u8], cell: u64, before: usize, at: usize) -> usize
+// A record of a cell is noted.
+pub fn note_cell(
+    s: &[u8],
+    at: usize,
+    cell: u64,
+    cells: &mut [usize; CELLS],
+    counting: &mut [usize; CELLS],
+)
+    requires { ⌜ recordItem (now s) at ≡ Cell cell ⌝ }
+    ensures { λ _. ⌜ (now (cells .exit) ≡ set (now (cells .entry)) (cell - notes.firstCell) at)
+        × (now (counting .exit) ≡ notes.noteCounting (now (s .entry)) (now (counting .entry)) cell at) ⌝ }
+{
+    let i = (cell - FIRST_CELL) as usize;
+    cells[i] = at;
+    counting[i] = counting_of(s, cell, 1, counting[i], at);
+}
+
+// Which of two records counts for a cell: the later one, of rank `own`, where it ranks higher.
+fn counting_of(s: &[u8], cell: u64, own: u64, before: usize, at: usize) -> usize
+    requires { ⌜ own ≡ counts.rank (now s) cell at ⌝ }
     ensures { λ r. ⌜ r ≡ counts.counting (now (s .entry)) cell before at ⌝ }
 {
-    if rank(s, cell, before) < rank(s, cell, at) {
+    if rank(s, cell, before) < own {
         at
     } else {
         before
     }
 }
 
-// The later of two records ranks no higher for a cell.
-fn outranked(s: &[u8], cell: u64, before: usize, at: usize) -> bool
-    ensures { λ r. ⌜ r ≡ notes.outranked (now (s .entry)) cell before at ⌝ }
-{
-    rank(s, cell, at) <= rank(s, cell, before)
-}
-
-// The rank of a record for a cell: one more than its number, 0 where it is not of the cell.
+// The rank of a record for a cell: one more than its number, 0 where it is not of the cell or no record stands there.
 fn rank(s: &[u8], cell: u64, at: usize) -> u64
     ensures { λ r. ⌜ r ≡ counts.rank (now (s .entry)) cell at ⌝ }
 {
+    if s.len() <= at {
+        return 0;
+    }
     match record_item(s, at) {
         Item::Cell(n) => { if n == cell { 1 } else { 0 } }
         Item::Amendment(n, number) => { if n == cell { (number as u64) + 1 } else { 0 } }

@@ -3,12 +3,12 @@
 use Prim.Native.Nat.{ℕ, suc, _≤_, _<_, _-_}
 use native.Mathlib.Nat.{le-refl, le-antisymm}
 use native.Mathlib.Omega.{arith}
-use mathlib.Core.Path.{_≡_, refl, sym, _∙_}
+use mathlib.Core.Path.{_≡_, refl, sym, ap, _∙_}
 use mathlib.Core.Bool.{Bool, true, false, cond, not, _&&_, true≢false}
 use mathlib.Core.List.{List}
 use borrow.Author.Tests.{ltb-true, ltb-false, lt-ltb, le-ltb, leb-true, leb-false, eqb-true, eqb-false, eq-eqb, ne-eqb, not-true}
 use lib.Dec.{leb, ltb, eqb}
-use lib.ListN.{length}
+use lib.ListN.{length, set}
 use Rattle.answers.specs.declared.Answer.{Answer}
 use Rattle.answers.specs.declared.Answer.the-variants.{Accepted}
 use Rattle.answers.specs.Verdict.{Verdict, accepted}
@@ -16,14 +16,13 @@ use Rattle.answers.specs.Answers.{verdictOf}
 use Rattle.scan.specs.declared.Step.{Step}
 use Rattle.scan.specs.declared.Step.the-variants.{Record, End}
 use Rattle.records.specs.declared.notes.Noted.{Noted}
-use Rattle.scan.specs.declared.Progress.{Progress}
-use Rattle.records.specs.Records.{nextRecord}
+use Rattle.records.specs.Records.{recordCell, nextRecord}
 use Rattle.records.specs.Items.{recordItem}
 use Rattle.faults.specs.RecordVerdicts.{firstRefused, verdictBy, firstFaulty, recordVerdict, recordsVerdict}
-use Rattle.faults.specs.Inner.PlainVerdicts.{plainVerdict, firstPlain, plainsVerdict}
+use Rattle.faults.specs.Inner.PlainVerdicts.{plainVerdict, firstPlain, plainsVerdict, SoundCell}
 use Rattle.scan.specs.Inner.Steps.{stepAt}
-use Rattle.records.specs.Inner.Notes.{notedBefore, nothingNoted, noteItem}
-use Rattle.scan.specs.Inner.Scans.{scanStart, soundAt, Visited}
+use Rattle.records.specs.Inner.Notes.{firstCell, notedAs, notedBefore, nothingNoted, noteCounting, noteItem}
+use Rattle.scan.specs.Inner.Scans.{Visited}
 use Rattle.faults.proofs.FaultLaws.{faultless, complete-ends}
 use Rattle.records.proofs.RecordLaws.{first-le, first-passes}
 use Rattle.scan.proofs.SearchLaws.{Reached, here, reached-next, next-lt, Ahead, ahead-start, ahead-here, ahead-next, ahead-done}
@@ -104,86 +103,40 @@ module _ (s : List ℕ) (noted : Noted) (at : ℕ) (state : Scanning s noted at)
         end-is = e ∙ sym found;
       }
 
--- a scan that ends at an offset, and one that goes on
-abbrev pub ends : Answer → Noted → ℕ → Progress
-ends answer noted at = record { scanned = record { answer = answer; noted = noted; end = at }; at = at; going = false }
+  -- the record at hand is visited: a faulty one ends the scan, and after a sound one it goes on
+  module _ (within : at < length s) (answer : Answer) (after : Noted) (visited : Visited s at answer after) where
+    pub visited-ends : (verdictOf answer .number ≡ 0 → ⊥) → Scanned s after at (verdictOf answer)
+    visited-ends h =
+        let faulty : plainVerdict s at .number ≡ 0 → ⊥ = λ e. h (ap (λ (v : Verdict). v .number) (visited .verdict-is) ∙ e) in
+        rw (visited .verdict-is, visited .faulty-left faulty, ← state .noted-is) (scanning-faulty within faulty)
 
-abbrev pub goes-on : Answer → Noted → ℕ → Progress
-goes-on answer noted at = record { scanned = record { answer = answer; noted = noted; end = at }; at = at; going = true }
+    pub visited-next : verdictOf answer .number ≡ 0 → Scanning s after (nextRecord s at)
+    visited-next h =
+        let sound = sym (ap (λ (v : Verdict). v .number) (visited .verdict-is)) ∙ h in
+        rw (visited .sound-noted sound, ← state .noted-is) (scanning-next within sound)
 
-module _ (s : List ℕ) (noted : Noted) (at : ℕ) where
-  -- nothing stands at the offset
-  pub visited-end : length s ≤ at → Visited s noted at (ends Accepted noted at)
-  unfolding soundAt verdictOf accepted
-  visited-end h =
-      let past = le-ltb at (length s) h in
-      record { going-is = simp past; at-is = simp past; noted-is = simp past; end-is = refl; verdict-is = simp past }
+module _ (s : List ℕ) (at : ℕ) where
+  -- a record of a cell without a fault is noted
+  pub visited-cell : (sheets cells counting cells′ counting′ : List ℕ) (falling : List Bool) (cell : ℕ) → SoundCell s at → cell ≡ recordCell s at
+      → notedAs sheets cells counting falling ≡ notedBefore s at
+      → cells′ ≡ set cells (cell - firstCell) at
+      → counting′ ≡ noteCounting s counting cell at
+      → Visited s at Accepted (notedAs sheets cells′ counting′ falling)
+  unfolding verdictOf accepted noteItem
+  visited-cell sheets cells counting cells′ counting′ falling cell h e before p q =
+      record {
+        verdict-is = sym (h .sound);
+        sound-noted = λ z. rw (p, q, e, ← before, h .cell-is);
+        faulty-left = λ f. absurd (f (ap (λ (v : Verdict). v .number) (h .sound)));
+      }
 
-  module _ (within : at < length s) (a : Answer) (verdict : verdictOf a ≡ plainVerdict s at) where
-    -- the record has a fault
-    pub visited-faulty : (plainVerdict s at .number ≡ 0 → ⊥) → Visited s noted at (ends a noted at)
-    unfolding soundAt
-    visited-faulty h =
-        let here = lt-ltb at (length s) within in
-        let fault = ne-eqb (plainVerdict s at .number) 0 h in
-        record { going-is = simp (here, fault); at-is = simp (here, fault); noted-is = simp (here, fault); end-is = refl; verdict-is = simp here verdict }
+  module _ (answer : Answer) (noted : Noted) (verdict : verdictOf answer ≡ plainVerdict s at) (before : noted ≡ notedBefore s at) where
+    -- a record without a fault is noted, and one with a fault is not
+    pub visited-sound : (after : Noted) → plainVerdict s at .number ≡ 0 → after ≡ noteItem s noted (recordItem s at) at → Visited s at answer after
+    visited-sound after h e = record { verdict-is = verdict; sound-noted = λ z. rw (e, before); faulty-left = λ f. absurd (f h) }
 
-    -- the record has none
-    pub visited-sound : plainVerdict s at .number ≡ 0 → (after : Noted) (next : ℕ) → after ≡ noteItem s noted (recordItem s at) at → next ≡ nextRecord s at
-        → Visited s noted at (goes-on a after next)
-    unfolding soundAt
-    visited-sound h after next p n =
-        let here = lt-ltb at (length s) within in
-        let none = eq-eqb (plainVerdict s at .number) 0 h in
-        record { going-is = simp (here, none); at-is = simp (here, none) n; noted-is = simp (here, none) p; end-is = refl; verdict-is = simp here verdict }
-
--- the state of the scan, while it goes on and when it has ended
-pub record ScanAt (s : List ℕ) (k : Progress) : Type 0 where
-  pub reading : k .going ≡ true → Scanning s (k .scanned .noted) (k .at)
-  pub ended : k .going ≡ false → Scanned s (k .scanned .noted) (k .scanned .end) (verdictOf (k .scanned .answer))
-
--- how much is left to read: a number that each record lowers
-pub scanLeft : List ℕ → Progress → ℕ
-scanLeft s k = cond (k .going) (suc (length s - k .at)) 0
-
-pub scan-at-start : (s : List ℕ) → ScanAt s (scanStart (length s))
-scan-at-start s = record { reading = λ e. scanning-start s; ended = λ e. absurd (true≢false e) }
-
-module _ (s : List ℕ) (k k′ : Progress) (goes : k .going ≡ true) (state : ScanAt s k) where
-  -- what the visited record makes of the state, by whether it stands within the bytes and whether it has no fault
-  by-record : (within sound : Bool)
-      → ltb (k .at) (length s) ≡ within
-      → eqb (plainVerdict s (k .at) .number) 0 ≡ sound
-      → k′ .going ≡ (within && sound)
-      → k′ .at ≡ cond (within && sound) (nextRecord s (k .at)) (k .at)
-      → k′ .scanned .noted ≡ cond (within && sound) (noteItem s (k .scanned .noted) (recordItem s (k .at)) (k .at)) (k .scanned .noted)
-      → k′ .scanned .end ≡ k′ .at
-      → verdictOf (k′ .scanned .answer) ≡ cond within (plainVerdict s (k .at)) accepted
-      → ScanAt s k′ × (scanLeft s k′ < scanLeft s k)
-  unfolding scanLeft
-  by-record true true w f g a n o v =
-      let l = ltb-true (k .at) (length s) w in
-      let next = scanning-next s (k .scanned .noted) (k .at) (state .reading goes) l (eqb-true (plainVerdict s (k .at) .number) 0 f) in (
-        record { reading = λ e. rw (a, n) next; ended = λ e. absurd (true≢false (sym g ∙ e)) },
-        rw (g, goes, a) (omega (arith, next-lt s (k .at), next .within)),
-      )
-  by-record true false w f g a n o v =
-      let end = scanning-faulty s (k .scanned .noted) (k .at) (state .reading goes) (ltb-true (k .at) (length s) w)
-      (eqb-false (plainVerdict s (k .at) .number) 0 f) in (
-        record { reading = λ e. absurd (true≢false (sym e ∙ g)); ended = λ e. rw (n, o ∙ a, v) end },
-        rw (g, goes) (omega arith),
-      )
-  by-record false sound w f g a n o v =
-      let end = scanning-done s (k .scanned .noted) (k .at) (state .reading goes) (ltb-false (k .at) (length s) w) in (
-        record { reading = λ e. absurd (true≢false (sym e ∙ g)); ended = λ e. rw (n, o ∙ a, v) end },
-        rw (g, goes) (omega arith),
-      )
-
-  -- one record more, and less to read
-  pub scan-at-next : Visited s (k .scanned .noted) (k .at) k′ → ScanAt s k′ × (scanLeft s k′ < scanLeft s k)
-  unfolding soundAt
-  scan-at-next h =
-      by-record (ltb (k .at) (length s)) (eqb (plainVerdict s (k .at) .number) 0) refl refl (h .going-is) (h .at-is) (h .noted-is) (h .end-is) (h .verdict-is)
+    pub visited-faulty : (plainVerdict s at .number ≡ 0 → ⊥) → Visited s at answer noted
+    visited-faulty h = record { verdict-is = verdict; sound-noted = λ z. absurd (h z); faulty-left = λ f. before }
 
 -- no refusal of the records: none of them is faulty
 module _ (s : List ℕ) (verdict : ℕ → Verdict) where

@@ -1,5 +1,4 @@
--- What the walks by hand share: the step after a call, where what the callee has returned is had with what its contract says of it, and the
--- machine value of a struct.
+-- What the walks by hand share: the step after a call, where what the callee has returned is had with what its contract says of it.
 -- Assumes nothing.
 use mathlib.Core.Path.{_≡_, ap, subst}
 use mathlib.Core.List.{List, [], _∷_}
@@ -45,11 +44,3 @@ returned {𝓤 = 𝓤} {H} {A} {W = W} go soaks T c κs a g tokens φ u post say
     use1 W (later (some (λ (r : Res (T .signature) κs). (tokens ⊛ ‵ (Result T κs .own r (u ∷ []))) ⊛ raw (ensured 𝓤 H A T c κs a g r)))) post $ await go soaks $
     pick go (λ r. split go $ move go (1 ∷ []) $ use1 W (raw (fact 𝓤 (φ r))) (clause-said 𝓤 H A T c κs a g r (φ r) (says r)) $
     heard go (φ r) (λ e. split go $ move go (1 ∷ []) $ peeks go (Result T κs) (Is (Result T κs)) (shows 𝓤 H A (Result T κs)) r (u ∷ []) (λ is. k r e is)))
-
--- the machine value of a struct is the one that its fields spell
-module _ (T : Declared) (L : LL.Laws T) (d : T .D) (u : Val) (is : Is (row T) d (u ∷ [])) where
-  pub value-is : u ≡ LL.val T L d
-  value-is = ap only (LL.tells T L d (u ∷ []) is)
-
-  pub is-value : Is (row T) d (LL.val T L d ∷ [])
-  is-value = subst (λ (x : Val). Is (row T) d (x ∷ [])) value-is is

@@ -3,21 +3,26 @@
 pub mod reader;
 mod steps;
 
-use crate::reader::Reader;
+use crate::reader::step_at;
 use answers::Answer;
 use answers::number;
 use faults::check_record;
+use faults::sound_cell;
 use records::CELLS;
 use records::KINDS;
+use records::fields::record_cell;
 use records::notes::Noted;
 use records::notes::note;
+use records::notes::note_cell;
+use schedule::cell_limits::cell_limits;
 ghost use mathlib.Core.Path.{_≡_};
-ghost use mathlib.Core.Bool.{false};
+ghost use Prim.Native.Nat.{_<_};
+ghost use lib.ListN.{length};
 ghost use Rattle.answers.specs.Answers.{verdictOf};
-ghost use Rattle.records.specs.Inner.Notes.{notedBefore};
-ghost use Rattle.scan.specs.Inner.Scans.{scanStart, Visited};
-ghost use Rattle.scan.specs.Inner.Steps.{stepAt};
-ghost use Rattle.faults.specs.Inner.PlainVerdicts.{firstPlain, plainsVerdict};
+ghost use Rattle.records.specs.Records.{nextRecord};
+ghost use Rattle.records.specs.Inner.Notes.{notedAs, notedBefore};
+ghost use Rattle.scan.specs.Inner.Scans.{Visited};
+ghost use Rattle.faults.specs.Inner.PlainVerdicts.{firstPlain, plainsVerdict, cellLimits};
 
 // What stands at an offset of a filing.
 pub enum Step {
@@ -34,86 +39,85 @@ pub struct Scanned {
     pub end: usize,
 }
 
-// A scan on its way: what the records before `at` have given, and whether there is one to read at `at`.
-pub struct Progress {
-    pub scanned: Scanned,
-    pub at: usize,
-    pub going: bool,
-}
-
-// Reads the records up to the first faulty one, each once: a reader moves over them.
+// Reads the records up to the first faulty one, each once.
 pub fn scan(s: &[u8]) -> Scanned
     ensures { λ r. ⌜ (verdictOf (r .answer) ≡ plainsVerdict (now (s .entry)))
         × (r .noted ≡ notedBefore (now (s .entry)) (firstPlain (now (s .entry))))
         × (r .end ≡ firstPlain (now (s .entry))) ⌝ }
 {
-    let mut reader = Reader::new(s);
-    let mut progress = start(s.len());
-    while progress.going {
-        let step = reader.step();
-        progress = visit(s, step, progress);
-        reader = reader.moved(progress.at);
+    let mut sheets = [s.len(); KINDS];
+    let mut cells = [s.len(); CELLS];
+    let mut counting = [s.len(); CELLS];
+    let mut falling = [false; CELLS];
+    let limits = cell_limits();
+    let mut at = 0;
+    while at < s.len() {
+        let answer = visit(
+            s,
+            at,
+            &mut sheets,
+            &mut cells,
+            &mut counting,
+            &mut falling,
+            &limits,
+        );
+        if number(answer) != 0 {
+            return Scanned {
+                answer,
+                noted: Noted {
+                    sheets,
+                    cells,
+                    counting,
+                    falling,
+                },
+                end: at,
+            };
+        }
+        at = next_of(s, at);
     }
-    progress.scanned
-}
-
-// Before the first record.
-fn start(size: usize) -> Progress
-    ensures { λ r. ⌜ r ≡ scanStart size ⌝ }
-{
-    Progress {
-        scanned: Scanned {
-            answer: Answer::Accepted,
-            noted: Noted {
-                sheets: [size; KINDS],
-                cells: [size; CELLS],
-                counting: [size; CELLS],
-                falling: [false; CELLS],
-            },
-            end: 0,
+    Scanned {
+        answer: Answer::Accepted,
+        noted: Noted {
+            sheets,
+            cells,
+            counting,
+            falling,
         },
-        at: 0,
-        going: true,
-    }
-}
-
-// One record more: what stands at the offset reached, after the records before it.
-fn visit(s: &[u8], step: Step, progress: Progress) -> Progress
-    requires { ⌜ (progress .scanned .noted ≡ notedBefore (now s) (progress .at)) × (step ≡ stepAt (now s) (progress .at)) ⌝ }
-    ensures { λ r. ⌜ Visited (now (s .entry)) (progress .scanned .noted) (progress .at) r ⌝ }
-{
-    let at = progress.at;
-    let noted = progress.scanned.noted;
-    let Step::Record(next) = step else {
-        return stopped(Answer::Accepted, noted, at);
-    };
-    let answer = check_record(s, at, noted);
-    if number(answer) != 0 {
-        return stopped(answer, noted, at);
-    }
-    let after = note(s, at, noted);
-    Progress {
-        scanned: Scanned {
-            answer,
-            noted: after,
-            end: next,
-        },
-        at: next,
-        going: true,
+        end: at,
     }
 }
 
-// The scan ends at an offset.
-fn stopped(answer: Answer, noted: Noted, at: usize) -> Progress
-    ensures { λ r. ⌜ r ≡ record { scanned = record { answer = answer; noted = noted; end = at }; at = at; going = false } ⌝ }
+// The answer on the record at an offset, given what is noted of those before it. A sound record is noted.
+fn visit(
+    s: &[u8],
+    at: usize,
+    sheets: &mut [usize; KINDS],
+    cells: &mut [usize; CELLS],
+    counting: &mut [usize; CELLS],
+    falling: &mut [bool; CELLS],
+    limits: &[u64; CELLS],
+) -> Answer
+    requires { ⌜ (at < length (now s)) × (notedAs (now sheets) (now cells) (now counting) (now falling) ≡ notedBefore (now s) at) × (now limits ≡ cellLimits) ⌝ }
+    ensures { λ r. ⌜ Visited (now (s .entry)) at r (notedAs (now (sheets .exit)) (now (cells .exit)) (now (counting .exit)) (now (falling .exit))) ⌝ }
 {
-    Progress {
-        scanned: Scanned {
-            answer,
-            noted,
-            end: at,
-        },
-        at,
-        going: false,
+    if sound_cell(s, at, cells, limits) {
+        note_cell(s, at, record_cell(s, at), cells, counting);
+        return Answer::Accepted;
+    }
+    let answer = check_record(s, at, sheets, cells);
+    if number(answer) == 0 {
+        note(s, at, sheets, cells, counting, falling);
+    }
+    answer
+}
+
+// The offset of the record after one.
+fn next_of(s: &[u8], at: usize) -> usize
+    requires { ⌜ at < length (now s) ⌝ }
+    ensures { λ r. ⌜ r ≡ nextRecord (now (s .entry)) at ⌝ }
+{
+    match step_at(s, at) {
+        Step::Record(next) => next,
+        Step::End => at,
     }
 }

@@ -35,3 +35,10 @@ impl<'a> Reader<'a> {
         }
     }
 }
+
+// What stands at an offset: a reader of the bytes is moved there, and says it.
+pub fn step_at(s: &[u8], at: usize) -> Step
+    ensures { λ t. ⌜ t ≡ stepAt (now (s .entry)) at ⌝ }
+{
+    Reader::new(s).moved(at).step()
+}

@@ -1,4 +1,5 @@
 // Schedule CMR: its cells, their classes and limits, and the rate scenarios.
+pub mod cell_limits;
 pub mod positions;
 pub mod scenarios;
 pub mod tables;

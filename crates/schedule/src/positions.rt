@@ -2,88 +2,37 @@
 use crate::Position;
 use crate::tables::entry_at;
 ghost use mathlib.Core.Path.{_≡_};
+ghost use Rattle.schedule.specs.Cells as specs;
 ghost use Rattle.schedule.specs.Cells.{positionAt, withinRow};
-
-// The nine positions: row, column, and the cells of balance, coupon and remaining months.
-const POSITIONS: [Position; 9] = [
-    Position {
-        row: 1,
-        column: 1,
-        balance: 601,
-        coupon: 605,
-        months: 608,
-    },
-    Position {
-        row: 1,
-        column: 2,
-        balance: 602,
-        coupon: 606,
-        months: 609,
-    },
-    Position {
-        row: 1,
-        column: 3,
-        balance: 603,
-        coupon: 607,
-        months: 610,
-    },
-    Position {
-        row: 2,
-        column: 1,
-        balance: 615,
-        coupon: 619,
-        months: 622,
-    },
-    Position {
-        row: 2,
-        column: 2,
-        balance: 616,
-        coupon: 620,
-        months: 623,
-    },
-    Position {
-        row: 2,
-        column: 3,
-        balance: 617,
-        coupon: 621,
-        months: 624,
-    },
-    Position {
-        row: 3,
-        column: 2,
-        balance: 631,
-        coupon: 634,
-        months: 636,
-    },
-    Position {
-        row: 3,
-        column: 3,
-        balance: 632,
-        coupon: 635,
-        months: 637,
-    },
-    Position {
-        row: 4,
-        column: 3,
-        balance: 641,
-        coupon: 643,
-        months: 644,
-    },
-];
 
 // The position at a place of the table; all 0 past the ninth.
 pub fn position(i: usize) -> Position
     ensures { λ r. ⌜ r ≡ positionAt i ⌝ }
 {
-    if i < 9 {
-        return POSITIONS[i];
+    match i {
+        0 => position_of(1, 1, 601, 605, 608),
+        1 => position_of(1, 2, 602, 606, 609),
+        2 => position_of(1, 3, 603, 607, 610),
+        3 => position_of(2, 1, 615, 619, 622),
+        4 => position_of(2, 2, 616, 620, 623),
+        5 => position_of(2, 3, 617, 621, 624),
+        6 => position_of(3, 2, 631, 634, 636),
+        7 => position_of(3, 3, 632, 635, 637),
+        8 => position_of(4, 3, 641, 643, 644),
+        _ => position_of(0, 0, 0, 0, 0),
     }
+}
+
+// A position: its row, its column, and the cells of balance, coupon and remaining months.
+fn position_of(row: usize, column: usize, balance: usize, coupon: usize, months: usize) -> Position
+    ensures { λ r. ⌜ r ≡ specs.position row column balance coupon months ⌝ }
+{
     Position {
-        row: 0,
-        column: 0,
-        balance: 0,
-        coupon: 0,
-        months: 0,
+        row,
+        column,
+        balance,
+        coupon,
+        months,
     }
 }
 

@@ -11,7 +11,8 @@ use lib.ListN.{length, getD, set, take, drop, replicate, length-set, length-map,
 use lib.Seq.{drop-set-lt, drop-drop, getD-drop}
 use lib.IntN.{ℤ}
 use Rattle.lists.specs.Tables.{tableFrom, table}
-use Rattle.lists.proofs.TableLaws.{table-length, table-getD, table-ext, table-le, table-stored}
+use Rattle.lists.proofs.TableLaws.{table-length, table-getD, table-ext, table-le}
+use Rattle.lists.proofs.FillLaws.{Filled, fill-none, fill-more, fill-first}
 use Rattle.lists.proofs.TestLaws.{everyEntry, entries-le}
 use Rattle.withdrawal.specs.declared.WithdrawalTiers.{WithdrawalTiers}
 use Rattle.withdrawal.specs.Survival.{survival, fullSurvival}
@@ -26,26 +27,23 @@ use Rattle.withdrawal.proofs.SurvivalLaws.{survival-le}
 
 -- an array of which the first i places hold f 0, f 1, .., f (i - 1) and the others 0
 pub record Stored (f : ℕ → ℕ) (i : ℕ) (l : List ℕ) : Type 0 where
-  pub long : length l ≡ tierLimit
-  pub first : take i l ≡ table i f
+  pub filled : Filled f 0 tierLimit i l
   pub rest : drop i l ≡ drop i (replicate tierLimit 0)
 
 module _ (f : ℕ → ℕ) where
   pub stored-none : Stored f 0 (replicate tierLimit 0)
-  unfolding tableFrom
-  stored-none = record { long = refl; first = refl; rest = refl }
+  stored-none = record { filled = fill-none f 0 0 tierLimit; rest = refl }
 
   pub stored-more : (i : ℕ) (l : List ℕ) (a : ℕ) → i < tierLimit → a ≡ f i → Stored f i l → Stored f (i + 1) (set l i a)
   stored-more i l a h e s =
       record {
-        long = length-set l i a ∙ s .long;
-        first = table-stored f l i (i + 1) a (s .first) (rw (s .long) h) refl e;
+        filled = fill-more f 0 tierLimit i l a h e (s .filled);
         rest = drop-set-lt (i + 1) l i a (omega arith) ∙ (rw (drop-drop, drop-drop) at (ap (drop 1) (s .rest)));
       }
 
-  pub stored-all : (n : ℕ) (l : List ℕ) → Stored f n l → l ≡ inPlaces (table n f)
+  pub stored-all : (n : ℕ) (l : List ℕ) → n ≤ tierLimit → Stored f n l → l ≡ inPlaces (table n f)
   unfolding inPlaces
-  stored-all n l s = sym (take-append-drop n l) ∙ rw (s .first, s .rest, table-length 0 n f)
+  stored-all n l h s = sym (take-append-drop n l) ∙ rw (fill-first f 0 tierLimit n l h (s .filled), s .rest, table-length 0 n f)
 
 -- what is read at a place of the list, or something else past its end
 in-places-at : (xs : List ℕ) (i n otherwise : ℕ) → length xs ≡ n → cond (ltb i n) (getD (inPlaces xs) i 0) otherwise ≡ cond (ltb i n) (getD xs i 0) otherwise

@@ -1,13 +1,17 @@
 -- `check_fully` meets its contract: the tests before 16, then 16, then those after it.
 -- Assumes nothing.
-use mathlib.Core.Path.{_∙_}
+use native.Mathlib.Nat.{le-of-lt}
+use mathlib.Core.Path.{ap, _∙_}
+use Rattle.records.specs.declared.notes.Noted.{Noted}
 use Rattle.faults.specs.RecordVerdicts.{recordVerdict}
 use borrow.Author.Needs.{needs}
 use Rattle.amendments.proofs.check_fully.Statement.{statement}
 use Rattle.amendments.proofs.check_fully.Tie as tie
 
 check-shape-requires : tie.Need-check-shape-requires
-check-shape-requires c κs = search needs
+check-shape-requires c κs =
+    let pre = c .before .before .before .before .before .pre in
+    (le-of-lt (pre .0), ap (λ (n : Noted). n .sheets) (pre .1), ap (λ (n : Noted). n .cells) (pre .1))
 
 amendment-repeated-requires : tie.Need-amendment-repeated-requires
 amendment-repeated-requires c κs = search needs

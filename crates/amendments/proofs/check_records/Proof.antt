@@ -6,6 +6,7 @@ use mathlib.Core.Path.{_≡_, sym, ap, _∙_}
 use mathlib.Core.List.{List}
 use Rattle.answers.specs.Verdict.{accepted, refused}
 use Rattle.answers.specs.Answers.{verdictOf}
+use Rattle.records.specs.declared.notes.Noted.{Noted}
 use Rattle.records.specs.Inner.Notes.{cellCount, notedBefore}
 use Rattle.faults.specs.RecordVerdicts.{recordVerdict}
 use Rattle.faults.specs.Inner.PlainVerdicts.{firstPlain}
@@ -19,16 +20,19 @@ scan-requires : tie.Need-scan-requires
 scan-requires c κs = search needs
 
 -- where the scan has ended, and the first repetition before that
+abbrev scan-of : tie.After-first-repetition → tie.After-scan
+scan-of c = c .before .before .before .before
+
 abbrev bytes : tie.After-first-repetition → List ℕ
-bytes c = c .before .before .before .before .args .s .now
+bytes c = scan-of c .before .before .args .s .now
 
 first-repetition-requires : tie.Need-first-repetition-requires
 first-repetition-requires c κs =
-    let scanned = c .before .scan .ensures in
-    (rw (scanned .2) (plain-le _), scanned .1 ∙ ap (notedBefore _) (sym (scanned .2)))
+    let scanned = c .before .before .before .scan .ensures in
+    (rw (scanned .2) (plain-le _), ap (λ (n : Noted). n .falling) (scanned .1 ∙ ap (notedBefore _) (sym (scanned .2))))
 
-end-is : (c : tie.After-first-repetition) → c .before .before .scan .result .end ≡ firstPlain (bytes c)
-end-is c = c .before .before .scan .ensures .2
+end-is : (c : tie.After-first-repetition) → scan-of c .scan .result .end ≡ firstPlain (bytes c)
+end-is c = scan-of c .scan .ensures .2
 
 first-is : (c : tie.After-first-repetition) → c .first-repetition .result ≡ found (bytes c)
 first-is c = c .first-repetition .ensures ∙ ap (repetitionsBelow (bytes c) cellCount) (end-is c)
@@ -44,7 +48,7 @@ returns c =
     let s = bytes searched in
     let l : found s < firstPlain s = omega (arith, c .if1 .taken, first-is searched, end-is searched) in (
       ap (refused 16) (first-is searched) ∙ sym (again-verdict s l),
-      searched .before .before .scan .ensures .1,
+      scan-of searched .scan .ensures .1,
       first-is searched ∙ sym (faulty-first s),
     )
 
@@ -55,14 +59,14 @@ returns-2 c =
     let s = bytes searched in
     let none = none-before (c .before) in (
       sym (none-verdict s none (omega (arith, c .if2 .taken, end-is searched))),
-      searched .before .before .scan .ensures .1,
+      scan-of searched .scan .ensures .1,
       end-is searched ∙ sym (here-first s none),
     )
 
 check-fully-requires : tie.Need-check-fully-requires
 check-fully-requires c κs =
     let searched = c .before .before in
-    (c .if2 .left, searched .before .before .scan .ensures .1 ∙ ap (notedBefore _) (sym (end-is searched)))
+    (c .if2 .left, scan-of searched .scan .ensures .1 ∙ ap (notedBefore _) (sym (end-is searched)))
 
 returns-3 : tie.Need-returns-3
 returns-3 c =
@@ -70,7 +74,7 @@ returns-3 c =
     let s = bytes searched in
     let none = none-before (c .before .before) in (
       c .check-fully .ensures ∙ ap (recordVerdict s) (end-is searched) ∙ sym (here-verdict s none (omega (arith, c .before .if2 .left, end-is searched))),
-      searched .before .before .scan .ensures .1,
+      scan-of searched .scan .ensures .1,
       end-is searched ∙ sym (here-first s none),
     )
 

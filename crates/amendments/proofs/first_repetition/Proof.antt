@@ -4,9 +4,9 @@ use Prim.Native.Nat.{_+_, _-_, _≤_}
 use native.Mathlib.Numerals.{add-one}
 use native.Mathlib.Omega.{arith}
 use mathlib.Core.Path.{_≡_, refl, sym, ap, _∙_}
-use mathlib.Core.Bool.{false}
+use mathlib.Core.Bool.{Bool, false}
+use mathlib.Core.List.{List}
 use lib.ListN.{getD}
-use Rattle.records.specs.declared.notes.Noted.{Noted}
 use Rattle.records.specs.Inner.Notes.{firstCell, cellCount}
 use Rattle.records.proofs.NoteLaws.{noted-falling}
 use Rattle.amendments.specs.Inner.Repetitions.{repetitionsBelow}
@@ -15,10 +15,10 @@ use Rattle.amendments.proofs.first_repetition.Statement.{statement}
 use Rattle.amendments.proofs.first_repetition.Tie as tie
 
 abbrev Inv-loop : tie.InvT-loop
-Inv-loop s end noted first₀ i₀ first i = (i ≤ cellCount) × (first ≡ repetitionsBelow s i end)
+Inv-loop s falling end first₀ i₀ first i = (i ≤ cellCount) × (first ≡ repetitionsBelow s i end)
 
 abbrev μ-loop : tie.MeasureT-loop
-μ-loop s end noted first₀ i₀ first i = cellCount - i
+μ-loop s falling end first₀ i₀ first i = cellCount - i
 
 loop-holds : tie.Need-loop-holds Inv-loop μ-loop
 unfolding repetitionsBelow
@@ -39,7 +39,7 @@ cell-repetition-requires c κs =
     let i = loop .i in
     let first-le : loop .first ≤ end = rw (loop .inv .1) (repetitions-le s i end) in
     let place : firstCell + i - firstCell ≡ i = omega arith in
-    let falling = ap (λ (noted : Noted). getD (noted .falling) i false) (start .pre .1) in
+    let falling = ap (λ (l : List Bool). getD l i false) (start .pre .1) in
     let is = rw place at (noted-falling s end (firstCell + i) (omega arith) (omega arith)) in
     (omega (arith, first-le, start .pre .0), λ rises. rising-single s (firstCell + i) end (loop .first) (sym is ∙ sym falling ∙ rises) first-le)
 

@@ -1,4 +1,4 @@
--- `book::obey_lines` is safe and ends: the loop counts its turns. Assumes nothing.
+-- `obey_lines` is safe and ends: the loop counts its turns. Assumes nothing.
 use borrow.Author.Needs.{needs}
 use Prim.Native.Nat.{_-_}
 use Rattle.book.proofs.obey_lines.Statement.{statement}
@@ -12,4 +12,4 @@ abbrev μ-loop : tie.MeasureT-loop
 
 pub obey-lines-spec : {M : Type 1} → statement M
 obey-lines-spec =
-    tie.close (tie.spec Inv-loop μ-loop (λ c. tt) (λ c κs. tt) (λ c. tt) (λ c κs. tt) (λ c κs. tt) (λ c. search needs) (λ c. search needs) (λ c. tt) (λ c. tt))
+    tie.close (tie.spec Inv-loop μ-loop (λ c. tt) (λ c κs. tt) (λ c. tt) (λ c. search needs) (λ c. search needs) (λ c. tt) (λ c. tt))

@@ -51,7 +51,7 @@ returns : tie.Need-returns
 returns c =
     let at-item = c .before .before .before .before in
     let start = at-item .before .before in
-    rw (start .pre .1) (cell-repeated _ _ _ (start .pre .0) (sym (at-item .record-item .ensures) ∙ c .before .before .cell .given .1))
+    rw (start .pre .2) (cell-repeated _ _ _ (start .pre .0) (sym (at-item .record-item .ensures) ∙ c .before .before .cell .given .1))
 
 returns-2 : tie.Need-returns-2
 returns-2 c =

@@ -52,6 +52,10 @@ notedBefore s at =
       falling = tableFrom firstCell cellCount (λ (cell : ℕ). fallsBefore s cell at);
     }
 
+-- what is noted, by its four arrays
+abbrev pub notedAs : List ℕ → List ℕ → List ℕ → List Bool → Noted
+notedAs sheets cells counting falling = record { sheets = sheets; cells = cells; counting = counting; falling = falling }
+
 -- nothing is noted of an input of `size` bytes
 abbrev pub nothingNoted : ℕ → Noted
 nothingNoted size =

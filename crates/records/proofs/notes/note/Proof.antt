@@ -1,10 +1,16 @@
 -- `note` meets its contract: a record's cell or kind is one of those that are noted.
 -- Assumes nothing.
+use Prim.Native.Nat.{ℕ, _+_, _-_}
 use native.Mathlib.Omega.{arith}
-use mathlib.Core.Path.{sym, _∙_}
+use mathlib.Core.List.{List}
+use lib.Dec.{leb}
+use lib.ListN.{getD}
+use mathlib.Core.Path.{_≡_, sym, ap, _∙_}
 use borrow.Author.Needs.{needs}
-use Rattle.records.specs.Inner.Notes.{noteItem, noteCounting, noteFalling}
-use Rattle.records.proofs.ItemLaws.{OfCell, OfSheet, OfAmendment, record-of-cell, record-of-sheet, record-of-amendment}
+use Rattle.records.specs.Counting.{rank}
+use Rattle.records.specs.Inner.Notes.{outranked, noteItem}
+use Rattle.records.proofs.ItemLaws.{OfSheet, OfAmendment, record-of-sheet, record-of-amendment}
+use Rattle.records.proofs.NoteLaws.{rank-of-amendment, note-amendment}
 use Rattle.records.proofs.notes.note.Statement.{statement}
 use Rattle.records.proofs.notes.note.Tie as tie
 
@@ -14,11 +20,15 @@ record-item-requires c κs = search needs
 enum-known-cell : tie.Need-enum-known-cell
 enum-known-cell c = search needs
 
--- the record is of a cell, of a sheet, or of an amendment
-of-cell : (c : tie.After-cell)
-    → OfCell (c .before .before .before .before .args .s .now) (c .before .before .before .before .args .at) (c .cell .given .0 .0)
-of-cell c = record-of-cell _ _ _ (sym (c .before .before .record-item .ensures) ∙ c .cell .given .1)
+note-cell-requires : tie.Need-note-cell-requires
+note-cell-requires c κs =
+    let at-cell = c .before .before .before in
+    sym (at-cell .before .before .record-item .ensures) ∙ at-cell .cell .given .1
 
+enum-known-kind : tie.Need-enum-known-kind
+enum-known-kind c = search needs
+
+-- the record is of a sheet, or of an amendment
 of-sheet : (c : tie.After-kind)
     → OfSheet (c .before .before .before .before .args .s .now) (c .before .before .before .before .args .at) (c .kind .given .0 .0)
 of-sheet c = record-of-sheet _ _ _ (sym (c .before .before .record-item .ensures) ∙ c .kind .given .1)
@@ -27,98 +37,96 @@ of-amendment : (c : tie.After-cell2)
     → OfAmendment (c .before .before .before .before .args .s .now) (c .before .before .before .before .args .at) (c .cell2 .given .0 .0) (c .cell2 .given .0 .1 .0)
 of-amendment c = record-of-amendment _ _ _ _ (sym (c .before .before .record-item .ensures) ∙ c .cell2 .given .1)
 
-sub-i : tie.Need-sub-i
-sub-i c = of-cell (c .before) .from-first
+mul-sheets : tie.Need-mul-sheets
+mul-sheets c = omega (arith, of-sheet (c .before) .known)
 
-mul-after : tie.Need-mul-after
-mul-after c = omega (arith, of-cell (c .before) .to-last)
-
-element-write-after : tie.Need-element-write-after
-element-write-after c = omega (arith, of-cell (c .before) .to-last)
-
-mul-counting : tie.Need-mul-counting
-mul-counting c = omega (arith, of-cell (c .before) .to-last)
-
-element-copy-out-counting : tie.Need-element-copy-out-counting
-element-copy-out-counting c = omega (arith, of-cell (c .before) .to-last)
-
-counting-requires : tie.Need-counting-requires
-counting-requires c κs = search needs
-
-mul-after-2 : tie.Need-mul-after-2
-mul-after-2 c = omega (arith, of-cell (c .before .before .before) .to-last)
-
-element-write-after-2 : tie.Need-element-write-after-2
-element-write-after-2 c = omega (arith, of-cell (c .before .before .before) .to-last)
-
-enum-known-kind : tie.Need-enum-known-kind
-enum-known-kind c = search needs
-
-mul-after-3 : tie.Need-mul-after-3
-mul-after-3 c = omega (arith, of-sheet (c .before) .known)
-
-element-write-after-3 : tie.Need-element-write-after-3
-element-write-after-3 c = of-sheet (c .before) .known
+element-write-sheets : tie.Need-element-write-sheets
+element-write-sheets c = of-sheet (c .before) .known
 
 enum-known-cell-2 : tie.Need-enum-known-cell-2
 enum-known-cell-2 c = search needs
 
-sub-i-2 : tie.Need-sub-i-2
-sub-i-2 c = of-amendment (c .before) .from-first
+sub-i : tie.Need-sub-i
+sub-i c = of-amendment (c .before) .from-first
 
-mul-counting-2 : tie.Need-mul-counting-2
-mul-counting-2 c = omega (arith, of-amendment (c .before) .to-last)
+mul-before : tie.Need-mul-before
+mul-before c = omega (arith, of-amendment (c .before) .to-last)
 
-element-copy-out-counting-2 : tie.Need-element-copy-out-counting-2
-element-copy-out-counting-2 c = omega (arith, of-amendment (c .before) .to-last)
+element-copy-out-before : tie.Need-element-copy-out-before
+element-copy-out-before c = omega (arith, of-amendment (c .before) .to-last)
 
-counting-requires-2 : tie.Need-counting-requires-2
-counting-requires-2 c κs = search needs
+cast-own : tie.Need-cast-own
+cast-own c = search needs
 
-mul-after-4 : tie.Need-mul-after-4
-mul-after-4 c = omega (arith, of-amendment (c .before .before .before) .to-last)
+add-own : tie.Need-add-own
+add-own c = search needs
 
-element-write-after-4 : tie.Need-element-write-after-4
-element-write-after-4 c = omega (arith, of-amendment (c .before .before .before) .to-last)
+counting-of-requires : tie.Need-counting-of-requires
+counting-of-requires c κs =
+    let at-cell = c .before .before in
+    sym (rank-of-amendment _ _ _ _ (sym (at-cell .before .before .record-item .ensures) ∙ at-cell .cell2 .given .1))
 
-element-copy-out-after : tie.Need-element-copy-out-after
-element-copy-out-after c = omega (arith, of-amendment (c .before .before .before) .to-last)
+mul-counting : tie.Need-mul-counting
+mul-counting c = omega (arith, of-amendment (c .before .before .before) .to-last)
 
-mul-outranked : tie.Need-mul-outranked
-mul-outranked c = omega (arith, of-amendment (c .before .before .before .before) .to-last)
+element-write-counting : tie.Need-element-write-counting
+element-write-counting c = omega (arith, of-amendment (c .before .before .before) .to-last)
 
-element-copy-out-outranked : tie.Need-element-copy-out-outranked
-element-copy-out-outranked c = omega (arith, of-amendment (c .before .before .before .before) .to-last)
+element-copy-out-falling : tie.Need-element-copy-out-falling
+element-copy-out-falling c = omega (arith, of-amendment (c .before .before .before) .to-last)
 
-outranked-requires : tie.Need-outranked-requires
-outranked-requires c κs = search needs
+rank-requires : tie.Need-rank-requires
+rank-requires c κs = search needs
 
-element-write-after-5 : tie.Need-element-write-after-5
-element-write-after-5 c = omega (arith, of-amendment (c .before .before .before .before .before .before) .to-last)
+element-write-falling : tie.Need-element-write-falling
+element-write-falling c = omega (arith, of-amendment (c .before .before .before .before .before) .to-last)
 
 enum-told : tie.Need-enum-told
 enum-told c = search needs
 
 returns : tie.Need-returns
-unfolding noteItem noteCounting
+unfolding noteItem
 returns c =
-    let at-cell = c .before .before .before in
-    rw (← at-cell .before .before .record-item .ensures, at-cell .cell .given .1, c .counting .ensures)
+    let at-cell = c .before .before .before .before in
+    rw (← at-cell .before .before .record-item .ensures, at-cell .cell .given .1, c .note-cell .ensures .0, c .note-cell .ensures .1)
 
 returns-2 : tie.Need-returns-2
 unfolding noteItem
 returns-2 c = rw (← c .before .before .before .record-item .ensures, c .before .kind .given .1)
 
+-- the place of the amendment, and what the function was passed
+abbrev at-amendment : tie.After-rank → tie.After-cell2
+at-amendment c = c .before .before .before .before .before
+
+abbrev start-of : tie.After-rank → tie.Start
+start-of c = at-amendment c .before .before .before .before
+
+abbrev bytes : tie.After-rank → List ℕ
+bytes c = start-of c .args .s .now
+
+abbrev offset : tie.After-rank → ℕ
+offset c = start-of c .args .at
+
+abbrev noted : tie.After-rank → List ℕ
+noted c = start-of c .args .counting .now
+
+-- an amendment that ranks no higher than the record before it
+falls-is : (c : tie.After-rank)
+    → leb (at-amendment c .cell2 .given .0 .1 .0 + 1) (c .rank .result)
+    ≡ outranked (bytes c) (at-amendment c .cell2 .given .0 .0) (getD (noted c) (at-amendment c .cell2 .given .0 .0 - 601) 0) (offset c)
+unfolding outranked
+falls-is c =
+    let at-cell = at-amendment c in
+    let cell = at-cell .cell2 .given .0 .0 in
+    let number = at-cell .cell2 .given .0 .1 .0 in
+    let own = sym (rank-of-amendment _ _ _ _ (sym (at-cell .before .before .record-item .ensures) ∙ at-cell .cell2 .given .1)) in
+    ap (leb (number + 1)) (c .rank .ensures) ∙ ap (λ (n : ℕ). leb n (rank (bytes c) cell (getD (noted c) (cell - 601) 0))) own
+
 returns-3 : tie.Need-returns-3
-unfolding noteItem noteCounting noteFalling
 returns-3 c =
-    let at-cell = c .before .before .before .before .before .before in
-    rw (
-      ← at-cell .before .before .record-item .ensures,
-      at-cell .cell2 .given .1,
-      c .before .before .before .counting2 .ensures,
-      c .outranked .ensures,
-    )
+    let at-cell = at-amendment c in
+    let a = start-of c .args in
+    note-amendment _ (a .sheets .now) (a .cells .now) (a .counting .now) (a .falling .now) _ _ _ (sym (at-cell .before .before .record-item .ensures) ∙ at-cell .cell2 .given .1) (c .before .before .counting-of .ensures) (falls-is c)
 
 returns-4 : tie.Need-returns-4
 unfolding noteItem
@@ -130,29 +138,22 @@ note-spec =
     (tie.spec
     record-item-requires
     enum-known-cell
-    sub-i
-    mul-after
-    element-write-after
-    mul-counting
-    element-copy-out-counting
-    counting-requires
-    mul-after-2
-    element-write-after-2
+    note-cell-requires
     enum-known-kind
-    mul-after-3
-    element-write-after-3
+    mul-sheets
+    element-write-sheets
     enum-known-cell-2
-    sub-i-2
-    mul-counting-2
-    element-copy-out-counting-2
-    counting-requires-2
-    mul-after-4
-    element-write-after-4
-    element-copy-out-after
-    mul-outranked
-    element-copy-out-outranked
-    outranked-requires
-    element-write-after-5
+    sub-i
+    mul-before
+    element-copy-out-before
+    cast-own
+    add-own
+    counting-of-requires
+    mul-counting
+    element-write-counting
+    element-copy-out-falling
+    rank-requires
+    element-write-falling
     enum-told
     returns
     returns-2

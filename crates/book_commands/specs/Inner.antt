@@ -1,0 +1,2 @@
+-- Definitions for the contracts of inner functions.
+pub mod Said

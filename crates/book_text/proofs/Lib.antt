@@ -1,0 +1,3 @@
+pub mod ReplyLaws
+pub mod ObeyLaws
+pub mod OpenLaws

@@ -1,0 +1,56 @@
+-- `open_book` meets its contract. Assumes nothing.
+use native.Mathlib.Omega.{arith}
+use mathlib.Core.Path.{refl}
+use Rattle.text.specs.Lines.{tooLong}
+use Rattle.book_text.specs.Replies.{openedLine}
+use Rattle.book_text.proofs.OpenLaws.{opened-long, opened-short}
+use borrow.Author.Needs.{needs}
+use Rattle.book_text.proofs.open_book.Statement.{statement}
+use Rattle.book_text.proofs.open_book.Tie as tie
+
+open-requires : tie.Need-open-requires
+open-requires c κs = search needs
+
+slice-aggregate-append : tie.Need-slice-aggregate-append
+slice-aggregate-append c = search needs
+
+append-requires : tie.Need-append-requires
+append-requires c κs = search needs
+
+returns : tie.Need-returns
+unfolding tooLong
+returns c =
+    let t = c .before .before .before in
+    let o = t .before .before in
+    opened-long _ (o .open .result) (o .open .ensures) _ _ _ refl (t .if1 .taken) refl (omega arith) (c .append .ensures)
+
+slice-aggregate-append-answer : tie.Need-slice-aggregate-append-answer
+slice-aggregate-append-answer c = search needs
+
+append-answer-requires : tie.Need-append-answer-requires
+append-answer-requires c κs = search needs
+
+number-requires : tie.Need-number-requires
+number-requires c κs = search needs
+
+returns-2 : tie.Need-returns-2
+unfolding openedLine
+returns-2 c =
+    let l = c .before in
+    let t = l .before .before .before in
+    let o = t .before .before in
+    opened-short _ (o .open .result) (o .open .ensures) _ _ _ refl (c .number .result) (t .if1 .left) (c .number .ensures) refl
+    (l .append-answer .ensures .0) (omega (arith, l .append-answer .ensures .1))
+
+pub open-book-spec : {M : Type 1} → statement M
+open-book-spec =
+    tie.close
+    (tie.spec
+    open-requires
+    slice-aggregate-append
+    append-requires
+    returns
+    slice-aggregate-append-answer
+    append-answer-requires
+    number-requires
+    returns-2)

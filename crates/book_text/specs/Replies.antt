@@ -1,0 +1,84 @@
+-- What a book prints at its opening and to each command, as ASCII bytes, and the book after a command (02:CR 7). Balances in thousands of dollars,
+-- coupons in thousandths of a percent a year, penalties in hundredths of a month, values and totals in dollars. Definitions only.
+use Prim.Native.Nat.{ℕ}
+use mathlib.Core.Path.{_≡_}
+use mathlib.Core.Bool.{Bool, true, cond, _&&_}
+use mathlib.Core.List.{List, [], _∷_, _++_}
+use lib.Dec.{eqb, leb, ltb}
+use lib.ListN.{length}
+use Rattle.answers.specs.Verdict.{Verdict}
+use Rattle.filing.specs.Verdict.{filingVerdict}
+use Rattle.shares.specs.declared.SubBalance.{SubBalance}
+use Rattle.shares.specs.SubBalances.{subBalanceCount}
+use Rattle.books.specs.declared.Book.{Book}
+use Rattle.books.specs.Books.{openedBook, heldIn}
+use Rattle.books.specs.Changes.{setPlace, clearPlace, changeVerdict, bookAfter}
+use Rattle.books.specs.Promise.{Kept}
+use Rattle.text.specs.Decimal.{decimal}
+use Rattle.text.specs.Lines.{restOfLine, refusalLine, unreadableWord, tooLong}
+use Rattle.text.specs.Appended.{InFront}
+use Rattle.listing_text.specs.TotalLines.{linesIn}
+use Rattle.listing_text.specs.Listing.{filingLimit}
+use Rattle.book_commands.specs.declared.Command.{Command}
+use Rattle.book_commands.specs.declared.Command.the-variants.{Set, Clear, Place, Totals, Unreadable}
+use Rattle.book_text.specs.declared.Opened.{Opened}
+use Rattle.book_text.specs.declared.Obeyed.{Obeyed}
+
+-- the lines `opened` and `ok`
+unfoldable pub openedLine : List ℕ
+openedLine = 111 ∷ 112 ∷ 101 ∷ 110 ∷ 101 ∷ 100 ∷ 10 ∷ []
+
+unfoldable pub okLine : List ℕ
+okLine = 111 ∷ 107 ∷ 10 ∷ []
+
+-- a line where nothing is refused, else the line of the refusal
+unfoldable pub answerLine : List ℕ → Verdict → List ℕ
+answerLine line v = cond (eqb (v .number) 0) line (refusalLine (v .number) (v .place))
+
+-- the opening of a book from a filing's bytes: its line, and whether the book is open
+unfoldable pub openingText : List ℕ → List ℕ
+openingText s = cond (ltb filingLimit (length s)) tooLong (answerLine openedLine (filingVerdict s))
+
+unfoldable pub opens : List ℕ → Bool
+opens s = leb (length s) filingLimit && eqb (filingVerdict s .number) 0
+
+-- what a place holds: balance, coupon, months, penalty and the fourteen values
+unfoldable pub heldLine : SubBalance → List ℕ
+heldLine held = decimal (held .balance) ++ restOfLine (held .coupon ∷ held .«remaining_months» ∷ held .penalty ∷ held .values)
+
+-- the place asked for; 17 above 35
+unfoldable pub placeText : Book → ℕ → List ℕ
+placeText b place = cond (ltb place subBalanceCount) (heldLine (heldIn b place)) (refusalLine 17 place)
+
+-- the balance total, and the lines of the seven scenarios
+unfoldable pub totalsText : Book → List ℕ
+totalsText b = (decimal (b .balance) ++ (10 ∷ [])) ++ linesIn (b .totals) 0
+
+-- what is printed to a command
+unfoldable pub replyTo : Book → Command → List ℕ
+replyTo b (Set place balance coupon months penalty) = answerLine okLine (changeVerdict (setPlace place balance coupon months penalty))
+replyTo b (Clear place) = answerLine okLine (changeVerdict (clearPlace place))
+replyTo b (Place place) = placeText b place
+replyTo b Totals = totalsText b
+replyTo b Unreadable = unreadableWord ++ (10 ∷ [])
+
+-- the book after a command
+unfoldable pub bookAfterCommand : Book → Command → Book
+bookAfterCommand b (Set place balance coupon months penalty) = bookAfter b (setPlace place balance coupon months penalty)
+bookAfterCommand b (Clear place) = bookAfter b (clearPlace place)
+bookAfterCommand b (Place place) = b
+bookAfterCommand b Totals = b
+bookAfterCommand b Unreadable = b
+
+-- what the call promises that opens a book: before and after are the lent bytes at the call and at the return
+pub record OpenedAs (s before after : List ℕ) (r : Opened) : Type 0 where
+  pub text-is : InFront (openingText s) before after (r .size)
+  pub open-is : r .«is_open» ≡ opens s
+  pub book-is : r .book ≡ openedBook s
+  pub kept : r .«is_open» ≡ true → Kept s (r .book)
+
+-- what the call promises that obeys a command
+pub record ObeyedAs (b : Book) (c : Command) (before after : List ℕ) (r : Obeyed) : Type 0 where
+  pub text-is : InFront (replyTo b c) before after (r .size)
+  pub book-is : r .book ≡ bookAfterCommand b c
+  pub kept : (s : List ℕ) → Kept s b → Kept s (r .book)

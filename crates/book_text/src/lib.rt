@@ -1,0 +1,56 @@
+// The text of a standing book: what is printed at its opening, and to each line that it obeys.
+mod replies;
+
+use crate::replies::append_answer;
+use crate::replies::reply;
+use answers::number;
+use book_commands::command_of;
+use books::Book;
+use standing_book::open;
+use text::append;
+ghost use Rattle.book_commands.specs.Commands.{commandOf};
+ghost use Rattle.book_text.specs.Replies.{OpenedAs, ObeyedAs};
+
+// Opens a book under a filing, puts what is printed of it at the front of the bytes and counts it.
+pub fn open_book(filing: &[u8], out: &mut [u8; 644]) -> Opened
+    ensures { λ r. ⌜ OpenedAs (now (filing .entry)) (now (out .entry)) (now (out .exit)) r ⌝ }
+{
+    let opened = open(filing);
+    let book = opened.book;
+    let answer = opened.answer;
+    if 65536 < filing.len() {
+        let size = append(out, 0, b"too long\n");
+        return Opened {
+            is_open: false,
+            book,
+            size,
+        };
+    }
+    let size = append_answer(out, answer, b"opened\n");
+    Opened {
+        is_open: number(answer) == 0,
+        book,
+        size,
+    }
+}
+
+// Obeys a line, given without its line feed; puts what is printed to it at the front of the bytes and counts it.
+pub fn obey(book: Book, line: &[u8], out: &mut [u8; 644]) -> Obeyed
+    ensures { λ r. ⌜ ObeyedAs book (commandOf (now (line .entry))) (now (out .entry)) (now (out .exit)) r ⌝ }
+{
+    let command = command_of(line);
+    reply(book, command, out)
+}
+
+// The book under a filing, whether it is open, and how many bytes are printed.
+pub struct Opened {
+    pub is_open: bool,
+    pub book: Book,
+    pub size: usize,
+}
+
+// The book after a command, and how many bytes are printed.
+pub struct Obeyed {
+    pub book: Book,
+    pub size: usize,
+}
