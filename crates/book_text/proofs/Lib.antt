@@ -1,3 +1,4 @@
 pub mod ReplyLaws
 pub mod ObeyLaws
 pub mod OpenLaws
+pub mod TextCases

@@ -8,31 +8,23 @@ pub fn text(s: &[u8]) {
 }
 
 // A number in decimal.
-pub fn number_of(n: u64) {
+fn number(n: u64) {
     io::print_decimal(STDOUT_FILENO, n);
 }
 
 // A space and a number.
 pub fn next_number(n: u64) {
     text(b" ");
-    number_of(n);
-}
-
-// A refusal: its number and its place.
-pub fn refusal(refused: u64, place: u64) {
-    text(b"refused");
-    next_number(refused);
-    next_number(place);
-    text(b"\n");
+    number(n);
 }
 
 // The shift of a scenario, 0 to 6, in hundredths of a percent.
 fn shift(scenario: u64) {
     if scenario < 3 {
         text(b"-");
-        number_of(100 * (3 - scenario));
+        number(100 * (3 - scenario));
     } else if scenario < 7 {
-        number_of(100 * (scenario - 3));
+        number(100 * (scenario - 3));
     }
 }
 

@@ -27,23 +27,25 @@ use Rattle.withdrawal.proofs.SurvivalLaws.{survival-le}
 
 -- an array of which the first i places hold f 0, f 1, .., f (i - 1) and the others 0
 pub record Stored (f : ℕ → ℕ) (i : ℕ) (l : List ℕ) : Type 0 where
+  pub within : i ≤ tierLimit
   pub filled : Filled f 0 tierLimit i l
   pub rest : drop i l ≡ drop i (replicate tierLimit 0)
 
 module _ (f : ℕ → ℕ) where
   pub stored-none : Stored f 0 (replicate tierLimit 0)
-  stored-none = record { filled = fill-none f 0 0 tierLimit; rest = refl }
+  stored-none = record { within = omega arith; filled = fill-none f 0 0 tierLimit; rest = refl }
 
   pub stored-more : (i : ℕ) (l : List ℕ) (a : ℕ) → i < tierLimit → a ≡ f i → Stored f i l → Stored f (i + 1) (set l i a)
   stored-more i l a h e s =
       record {
+        within = omega arith;
         filled = fill-more f 0 tierLimit i l a h e (s .filled);
         rest = drop-set-lt (i + 1) l i a (omega arith) ∙ (rw (drop-drop, drop-drop) at (ap (drop 1) (s .rest)));
       }
 
-  pub stored-all : (n : ℕ) (l : List ℕ) → n ≤ tierLimit → Stored f n l → l ≡ inPlaces (table n f)
+  pub stored-all : (n : ℕ) (l : List ℕ) → Stored f n l → l ≡ inPlaces (table n f)
   unfolding inPlaces
-  stored-all n l h s = sym (take-append-drop n l) ∙ rw (fill-first f 0 tierLimit n l h (s .filled), s .rest, table-length 0 n f)
+  stored-all n l s = sym (take-append-drop n l) ∙ rw (fill-first f 0 tierLimit n l (s .within) (s .filled), s .rest, table-length 0 n f)
 
 -- what is read at a place of the list, or something else past its end
 in-places-at : (xs : List ℕ) (i n otherwise : ℕ) → length xs ≡ n → cond (ltb i n) (getD (inPlaces xs) i 0) otherwise ≡ cond (ltb i n) (getD xs i 0) otherwise

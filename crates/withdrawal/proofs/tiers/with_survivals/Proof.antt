@@ -59,7 +59,7 @@ unfolding withSurvivals
 returns c =
     let at = c .before .before .before in
     let e : at .loop .i ≡ at .before .before .args .count = omega arith in
-    rw (stored-all _ _ _ (search needs) (at .loop .inv .1), c .survival2 .ensures, e)
+    rw (stored-all _ _ _ (at .loop .inv .1), c .survival2 .ensures, e)
 
 pub with-survivals-spec : {M : Type 1} → statement M
 with-survivals-spec =
