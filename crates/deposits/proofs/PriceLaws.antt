@@ -15,13 +15,13 @@ use Rattle.pricing.specs.declared.Run.{Run}
 use Rattle.pricing.specs.Scales.{par, couponGrowth, amountLimit}
 use Rattle.pricing.specs.Terms.{Terms}
 use Rattle.pricing.specs.Rounding.{Rounding}
-use Rattle.pricing.specs.Run.{balanceBy, discountedBy}
+use Rattle.pricing.specs.Run.{discountedBy}
 use Rattle.pricing.specs.Inner.Month.{runBy, nextRun, Small}
 use Rattle.pricing.proofs.LimitLaws.{discounted-limit}
 use Rattle.pricing.proofs.RunLaws.{run-suc, run-small}
 use Rattle.deposits.specs.declared.Deposit.{Deposit}
 use Rattle.deposits.specs.DepositTerms.{servicingCost, termsOf}
-use Rattle.deposits.specs.Inner.Prices.{listed, listedPrice, listedPrices, listedRuns, DepositLimits, AtMostPar}
+use Rattle.deposits.specs.Inner.Prices.{listed, listedPrice, listedPrices, DepositLimits, AtMostPar}
 use Rattle.deposits.proofs.TermsLaws.{terms-of-bounded}
 
 listed-suc : (factors : List ℕ) (scenario t : ℕ) → listed factors scenario (suc t) ≡ getD factors (7 * t + scenario) 0
@@ -39,12 +39,6 @@ unfolding listedPrice termsOf
 listed-price-limit ρ tiers d rate factors scenario l p =
     discounted-limit (termsOf tiers d rate) (listed factors scenario) (listed-le factors scenario p) (terms-of-bounded tiers d rate (l .coupon-le) (l .months-le))
     (d .months) (le-refl (d .months)) ρ
-
--- the runs before any month
-pub runs-zero : (tiers : TierTable) (d : Deposit) (rate : ℕ → ℕ) (lower upper : List ℕ) (scenario : ℕ)
-    → record { lower = record { balance = par; price = 0 }; upper = record { balance = par; price = 0 } } ≡ listedRuns tiers d rate lower upper scenario 0
-unfolding listedRuns runBy balanceBy discountedBy
-runs-zero tiers d rate lower upper scenario = refl
 
 -- month t + 1 of a deposit: g is the growth of its coupon, s its servicing cost, q its survival, f its discount factor
 module _ (ρ : Rounding) (tiers : TierTable) (d : Deposit) (rate : ℕ → ℕ) (factors : List ℕ) (scenario t : ℕ) {g s q f : ℕ} {run : Run}

@@ -24,12 +24,8 @@ part-some s zero m hx hm = absurd (omega arith)
 part-some s (suc x) zero hx hm = absurd (omega arith)
 part-some s (suc x) (suc m) hx hm = let e : suc m - 1 ≡ m = omega arith in rw e
 
--- of nothing, or by nothing
-pub part-none : (s m : ℕ) → partBy up s 0 m ≡ 0
-unfolding partBy
-part-none s m = refl
-
-pub part-by-none : (s x : ℕ) → partBy up s x 0 ≡ 0
+-- by nothing
+part-by-none : (s x : ℕ) → partBy up s x 0 ≡ 0
 unfolding partBy
 part-by-none s zero = refl
 part-by-none s (suc x) = refl

@@ -8,10 +8,8 @@ use Rattle.withdrawal.specs.Tiers.{TierTable}
 use Rattle.pricing.specs.Scales.{par}
 use Rattle.pricing.specs.Rounding.{Rounding, down, up}
 use Rattle.pricing.specs.Run.{discountedBy}
-use Rattle.pricing.specs.Inner.Month.{runBy}
 use Rattle.deposits.specs.declared.Deposit.{Deposit}
 use Rattle.deposits.specs.declared.Bounds.{Bounds}
-use Rattle.deposits.specs.declared.Runs.{Runs}
 use Rattle.deposits.specs.DepositTerms.{termsOf}
 
 -- the discount factor of a month, from 1 on, in a scenario, from a list with seven for each month
@@ -26,14 +24,6 @@ listedPrice ρ tiers d rate factors scenario = discountedBy ρ (termsOf tiers d 
 unfoldable pub listedPrices : TierTable → Deposit → (ℕ → ℕ) → List ℕ → List ℕ → ℕ → Bounds
 listedPrices tiers d rate lower upper scenario =
     record { lower = listedPrice down tiers d rate lower scenario; upper = listedPrice up tiers d rate upper scenario }
-
--- the lower run by lower factors and the upper run by upper factors after t months
-unfoldable pub listedRuns : TierTable → Deposit → (ℕ → ℕ) → List ℕ → List ℕ → ℕ → ℕ → Runs
-listedRuns tiers d rate lower upper scenario t =
-    record {
-      lower = runBy down (termsOf tiers d rate) (listed lower scenario) t;
-      upper = runBy up (termsOf tiers d rate) (listed upper scenario) t;
-    }
 
 -- the shifted retail rates of a column's months, from rates column by column, hundredths of a percent a year
 unfoldable pub shiftedPath : ℕ → List ℕ → ℕ → ℕ → ℕ

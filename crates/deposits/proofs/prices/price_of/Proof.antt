@@ -48,6 +48,19 @@ early-months-requires c κs =
       (walkableOf down start (start .args .lower .now) (factors .0), walkableOf up start (start .args .upper .now) (factors .1)),
     )
 
+-- the runs after all months but the last
+lower-is : (c : tie.After-early-months) → 0 < c .before .before .args .d .months
+    → let a = c .before .before .args in
+    c .early-months .result .lower
+    ≡ runBy down (termsOf (tierTable (a .tiers)) (a .d) (rateOf (c .before .before))) (listed (a .lower .now) (a .scenario)) (a .d .months - 1)
+lower-is c some = let start = c .before .before in c .early-months .ensures .0 ∙ walkedOf down start (start .args .lower .now) (start .pre .1 .1 .0) some
+
+upper-is : (c : tie.After-early-months) → 0 < c .before .before .args .d .months
+    → let a = c .before .before .args in
+    c .early-months .result .upper
+    ≡ runBy up (termsOf (tierTable (a .tiers)) (a .d) (rateOf (c .before .before))) (listed (a .upper .now) (a .scenario)) (a .d .months - 1)
+upper-is c some = let start = c .before .before in c .early-months .ensures .1 ∙ walkedOf up start (start .args .upper .now) (start .pre .1 .1 .1) some
+
 coupon-growth-requires : tie.Need-coupon-growth-requires
 coupon-growth-requires c κs = search needs
 
@@ -77,7 +90,7 @@ next-month-requires c κs =
     let a = start .args in
     let some : 0 < a .d .months = omega (arith, runs .before .if1 .left) in
     month-small down (tierTable (a .tiers)) (a .d) (rateOf start) (a .lower .now) (a .scenario) (a .d .months - 1) (servicing .before .coupon-growth .ensures)
-    (servicing .servicing-cost .ensures) (last-survival _ (a .d) (rateOf start) some) refl (runs .early-months .ensures .0 ∙ walkedOf down start (a .lower .now) (start .pre .1 .1 .0) some)
+    (servicing .servicing-cost .ensures) (last-survival _ (a .d) (rateOf start) some) refl (lower-is runs some)
     (start .pre .0 .0) (start .pre .1 .1 .0) (omega arith)
 
 mul-next-month-2 : tie.Need-mul-next-month-2
@@ -94,7 +107,7 @@ next-month-requires-2 c κs =
     let a = start .args in
     let some : 0 < a .d .months = omega (arith, runs .before .if1 .left) in
     month-small up (tierTable (a .tiers)) (a .d) (rateOf start) (a .upper .now) (a .scenario) (a .d .months - 1) (servicing .before .coupon-growth .ensures)
-    (servicing .servicing-cost .ensures) (last-survival _ (a .d) (rateOf start) some) refl (runs .early-months .ensures .1 ∙ walkedOf up start (a .upper .now) (start .pre .1 .1 .1) some)
+    (servicing .servicing-cost .ensures) (last-survival _ (a .d) (rateOf start) some) refl (upper-is runs some)
     (start .pre .0 .0) (start .pre .1 .1 .1) (omega arith)
 
 returns-2 : tie.Need-returns-2
@@ -109,10 +122,10 @@ returns-2 c =
     let whole : suc (a .d .months - 1) ≡ a .d .months = omega arith in
     let low = c .before .before .next-month .ensures ∙
     last-on down (tierTable (a .tiers)) (a .d) (rateOf start) (a .lower .now) (a .scenario) (a .d .months - 1) growth (servicing .servicing-cost .ensures)
-    (last-survival _ (a .d) (rateOf start) some) refl (runs .early-months .ensures .0 ∙ walkedOf down start (a .lower .now) (start .pre .1 .1 .0) some) whole in
+    (last-survival _ (a .d) (rateOf start) some) refl (lower-is runs some) whole in
     let high = c .next-month2 .ensures ∙
     last-on up (tierTable (a .tiers)) (a .d) (rateOf start) (a .upper .now) (a .scenario) (a .d .months - 1) growth (servicing .servicing-cost .ensures)
-    (last-survival _ (a .d) (rateOf start) some) refl (runs .early-months .ensures .1 ∙ walkedOf up start (a .upper .now) (start .pre .1 .1 .1) some) whole in
+    (last-survival _ (a .d) (rateOf start) some) refl (upper-is runs some) whole in
     rw (
       low,
       high,
