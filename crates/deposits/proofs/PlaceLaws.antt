@@ -21,12 +21,8 @@ use Rattle.pricing.specs.Scales.{couponGrowth}
 use Rattle.deposits.specs.declared.Deposit.{Deposit}
 use Rattle.deposits.specs.DepositTerms.{servicingCost}
 use Rattle.deposits.specs.Inner.Prices.{shiftedPath, DepositLimits}
-use Rattle.deposits.specs.Inner.Places.{placeAt, Placed, multipliersAt, Multiplied}
-
--- the rate of month t + 1
-pub path-suc : (rates : List ℕ) (column t : ℕ) → pathRate rates column (suc t) ≡ getD rates (120 * (column - 1) + t) 0
-unfolding pathRate
-path-suc rates column t = let e : suc t - 1 ≡ t = omega arith in rw e
+use Rattle.deposits.specs.Inner.Places.{Placed}
+use Rattle.early_months.specs.Places.{placeAt, multipliersAt}
 
 -- a month before the last, counted from 0, in a scenario
 module _ (t : WithdrawalTiers) (d : Deposit) (rates : List ℕ) (column : ℕ) (places : List (List ℕ)) (scenario month : ℕ) (u : Usable t)
@@ -46,7 +42,8 @@ module _ (t : WithdrawalTiers) (d : Deposit) (rates : List ℕ) (column : ℕ) (
 
   -- its multipliers are those of the month's survival
   pub multipliers-here : DepositLimits d
-      → multipliersAt t d (placeAt places month scenario)
+      → multipliersAt (d .brokered) (couponGrowth * d .coupon) (servicingCost (accountOf (d .brokered))) (t .count) (t .survivals) (t .retained)
+      (placeAt places month scenario)
       ≡ multipliersOf (couponGrowth * d .coupon) (servicingCost (accountOf (d .brokered)))
       (monthSurvival (tierTable t) (accountOf (d .brokered)) (d .coupon) (d .penalty) (shiftedPath scenario rates column (suc month)) (d .months) (suc month))
   unfolding multipliersAt

@@ -21,7 +21,8 @@ use Rattle.pricing.specs.Inner.Month.{runBy, Small}
 use Rattle.deposits.specs.declared.Deposit.{Deposit}
 use Rattle.deposits.specs.DepositTerms.{servicingCost, termsOf}
 use Rattle.deposits.specs.Inner.Prices.{listed, shiftedPath, DepositLimits, AtMostPar}
-use Rattle.deposits.specs.Inner.Places.{placeAt, Placed, heldAt, Multiplied, walkedBy, Walkable}
+use Rattle.deposits.specs.Inner.Places.{Placed, Multiplied}
+use Rattle.early_months.specs.Places.{placeAt, heldAt, walkedBy, Walkable}
 use Rattle.deposits.proofs.TermsLaws.{servicing-pos}
 use Rattle.deposits.proofs.PlaceLaws.{place-within, place-at-le, multipliers-here}
 use Rattle.deposits.proofs.PriceLaws.{early-on, month-small}

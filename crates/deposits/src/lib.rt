@@ -1,10 +1,7 @@
 // One deposit in each scenario: the discount factors, its lower and upper prices and values.
 pub mod factors;
-mod places;
 mod prices;
 pub mod values;
-
-use pricing::Run;
 
 // A deposit as its cash flows see it: coupon in thousandths of a percent a year, penalty in hundredths of a month, remaining months.
 pub struct Deposit {
@@ -16,12 +13,6 @@ pub struct Deposit {
 
 // Retail rates in hundredths of a percent a year: of months 1 to 120 of column 1, then of column 2, then of column 3.
 pub type RatePaths = [u16; 360];
-
-// The lower and the upper run.
-pub struct Runs {
-    pub lower: Run,
-    pub upper: Run,
-}
 
 // A lower and an upper figure.
 pub struct Bounds {

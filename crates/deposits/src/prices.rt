@@ -2,26 +2,25 @@
 use crate::Bounds;
 use crate::Deposit;
 use crate::RatePaths;
-use crate::Runs;
 use crate::factors::FactorTable;
-use crate::places::Places;
-use crate::places::coupon_growth;
-use crate::places::servicing_cost;
-use month_steps::MonthMultipliers;
-use month_steps::steps::next_lower;
-use month_steps::steps::next_upper;
+use early_months::Places;
+use early_months::walk::early_months;
 use pricing::PAR;
-use pricing::Run;
 use pricing::months::next_month;
 use withdrawal::WithdrawalTiers;
 ghost use mathlib.Core.Path.{_≡_};
-ghost use Prim.Native.Nat.{_-_, _<_, _≤_};
-ghost use Rattle.schedule.specs.Limits.{monthsLimit, tierLimit};
+ghost use Prim.Native.Nat.{_*_, _<_, _≤_};
+ghost use Rattle.schedule.specs.Limits.{couponLimit};
 ghost use Rattle.schedule.specs.Shift.{scenarioCount};
 ghost use Rattle.withdrawal.specs.Inner.TierArrays.{tierTable, Usable};
-ghost use Rattle.pricing.specs.Rounding.{down, up};
-ghost use Rattle.deposits.specs.Inner.Places.{placeAt, Placed, heldAt, Multiplied, walkedBy, Walkable};
+ghost use Rattle.withdrawal.specs.MonthSurvival.{accountOf};
+ghost use Rattle.pricing.specs.Scales.{couponGrowth};
+ghost use Rattle.deposits.specs.DepositTerms.{servicingCost};
+ghost use Rattle.deposits.specs.Inner.Places.{Placed, Multiplied};
 ghost use Rattle.deposits.specs.Inner.Prices.{listedPrices, shiftedPath, ColumnRates, DepositLimits, AtMostPar};
+
+// The growth of a coupon of one thousandth of a percent a year, in units of 1 / (3 x 10^9) of the balance (01:56; 02:CR 4).
+const COUPON_GROWTH: u64 = 2_500;
 
 // Lower and upper price in a scenario in billionths, at the retail rates of a column, 1 to 3, which are not shifted. In the last month nothing is withdrawn
 // early, and the balance is paid.
@@ -70,77 +69,17 @@ pub(crate) fn price_of<'a>(
     }
 }
 
-// The lower and the upper run after all months but the last.
-fn early_months<'a>(
-    months: u64,
-    places: &Places,
-    paid: &'a [u64; 17],
-    left: &'a [u64; 17],
-    carried: &'a [u64; 17],
-    whole: &'a [bool; 17],
-    lower: &FactorTable,
-    upper: &FactorTable,
-    scenario: usize,
-) -> Runs
-    requires { ⌜ (0 < months) × (months ≤ monthsLimit) × (scenario < scenarioCount) × AtMostPar (now lower) × AtMostPar (now upper) ⌝ }
-    requires { ⌜ Walkable down (now paid) (now left) (now carried) (now whole) (now places) (now lower) scenario months ⌝ }
-    requires { ⌜ Walkable up (now paid) (now left) (now carried) (now whole) (now places) (now upper) scenario months ⌝ }
-    ensures { λ r. ⌜ r .lower ≡ walkedBy down (now (paid .entry)) (now (left .entry)) (now (carried .entry)) (now (whole .entry)) (now (places .entry)) (now (lower .entry)) scenario (months - 1) ⌝ }
-    ensures { λ r. ⌜ r .upper ≡ walkedBy up (now (paid .entry)) (now (left .entry)) (now (carried .entry)) (now (whole .entry)) (now (places .entry)) (now (upper .entry)) scenario (months - 1) ⌝ }
+// The growth of a coupon.
+pub(crate) fn coupon_growth(coupon: u64) -> u64
+    requires { ⌜ coupon ≤ couponLimit ⌝ }
+    ensures { λ r. ⌜ r ≡ couponGrowth * coupon ⌝ }
 {
-    let early = months - 1;
-    let mut low = Run {
-        balance: PAR,
-        price: 0,
-    };
-    let mut high = Run {
-        balance: PAR,
-        price: 0,
-    };
-    let mut t: u64 = 0;
-    while t < early {
-        let place = place_at(places, t as usize, scenario);
-        let m = multipliers_at(paid, left, carried, whole, place);
-        let i = 7 * t as usize + scenario;
-        low = next_lower(low, m, lower[i]);
-        high = next_upper(high, m, upper[i]);
-        t += 1;
-    }
-    Runs {
-        lower: low,
-        upper: high,
-    }
+    COUPON_GROWTH * coupon
 }
 
-// The multipliers of a place.
-fn multipliers_at<'a>(
-    paid: &'a [u64; 17],
-    left: &'a [u64; 17],
-    carried: &'a [u64; 17],
-    whole: &'a [bool; 17],
-    place: usize,
-) -> MonthMultipliers
-    requires { ⌜ place ≤ tierLimit ⌝ }
-    ensures { λ r. ⌜ r ≡ heldAt (now (paid .entry)) (now (left .entry)) (now (carried .entry)) (now (whole .entry)) place ⌝ }
+// The month's servicing cost in billionths of the balance.
+pub(crate) fn servicing_cost(brokered: bool) -> u64
+    ensures { λ r. ⌜ r ≡ servicingCost (accountOf brokered) ⌝ }
 {
-    MonthMultipliers {
-        paid: paid[place],
-        left: left[place],
-        carried: carried[place],
-        whole: whole[place],
-    }
-}
-
-// The place of a month, counted from 0, in a scenario.
-fn place_at(places: &Places, month: usize, scenario: usize) -> usize
-    requires { ⌜ (month < monthsLimit) × (scenario < scenarioCount) ⌝ }
-    ensures { λ r. ⌜ r ≡ placeAt (now (places .entry)) month scenario ⌝ }
-{
-    wide(places[month][6 - scenario])
-}
-
-fn wide(place: u8) -> usize
-    ensures { λ r. ⌜ r ≡ place ⌝ }
-{
-    place as usize
+    if brokered { 19000 } else { 175000 }
 }

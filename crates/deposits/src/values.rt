@@ -2,10 +2,12 @@
 use crate::Deposit;
 use crate::RatePaths;
 use crate::factors::FactorTable;
-use crate::places::Places;
-use crate::places::early_places;
-use crate::places::place_multipliers;
+use crate::prices::coupon_growth;
 use crate::prices::price_of;
+use crate::prices::servicing_cost;
+use early_months::Places;
+use early_months::places::early_places;
+use early_months::places::place_multipliers;
 use lists::write;
 use pricing::months::value_of;
 use schedule::scenarios::Scenario;
@@ -38,8 +40,24 @@ pub fn values_of(
     if balance == 0 {
         return values;
     }
-    let places = early_places(d, rates, column, tiers);
-    let multipliers = place_multipliers(d, tiers);
+    let places = early_places(
+        d.brokered,
+        d.coupon,
+        d.penalty,
+        d.months,
+        rates,
+        column,
+        tiers.count,
+        &tiers.edges,
+    );
+    let multipliers = place_multipliers(
+        d.brokered,
+        coupon_growth(d.coupon),
+        servicing_cost(d.brokered),
+        tiers.count,
+        &tiers.survivals,
+        tiers.retained,
+    );
     let mut scenario: usize = 0;
     while (scenario as u64) < Scenario::COUNT {
         let two = value_bounds(

@@ -7,7 +7,7 @@ use Rattle.withdrawal.specs.Inner.TierArrays.{tierTable}
 use Rattle.pricing.specs.Rounding.{Rounding, down, up, roundingOf}
 use Rattle.pricing.specs.Inner.Month.{runBy}
 use Rattle.deposits.specs.DepositTerms.{termsOf}
-use Rattle.deposits.specs.Inner.Places.{walkedBy, Walkable}
+use Rattle.early_months.specs.Places.{walkedBy, Walkable}
 use Rattle.deposits.specs.Inner.Prices.{listed, listedPrices, shiftedPath, AtMostPar}
 use Rattle.deposits.proofs.PriceLaws.{month-small, last-on, no-price, last-survival, last-price}
 use Rattle.deposits.proofs.WalkLaws.{walked-is, walkable}

@@ -2,33 +2,56 @@
 use Prim.Native.Nat.{ℕ, _+_, _*_, _-_, _≤_, _<_}
 use mathlib.Core.List.{[]}
 use mathlib.Core.Path.{_≡_, _∙_}
+use native.Mathlib.Nat.{mul-le-mul-left}
 use native.Mathlib.Omega.{arith}
 use lib.ListN.{replicate}
 use Rattle.lists.specs.Tables.{tableFrom, table, joined}
 use Rattle.lists.proofs.RunLaws.{Overwritten, overwritten-none, overwritten-row, overwritten-all}
+use Rattle.withdrawal.specs.MonthSurvival.{accountOf}
 use Rattle.withdrawal.specs.Inner.TierArrays.{tierTable}
+use Rattle.month_places.proofs.PlaceLaws.{place-survival-le}
 use Rattle.deposits.specs.Inner.Prices.{shiftedPath}
 use Rattle.deposits.specs.Inner.Values.{valueBounds, listedValues}
+use Rattle.deposits.proofs.TermsLaws.{servicing-le}
 use Rattle.deposits.proofs.ValueLaws.{bounds-length, no-values}
 use Rattle.deposits.proofs.values.values_of.Statement.{statement}
 use Rattle.deposits.proofs.values.values_of.Tie as tie
 
 abbrev Inv-loop : tie.InvT-loop
-Inv-loop balance d rates column tiers lower upper values₀ places multipliers scenario₀ values scenario =
+Inv-loop balance d rates column lower upper tiers values₀ places multipliers scenario₀ values scenario =
     (scenario ≤ 7) × Overwritten (joined (table scenario (λ (s : ℕ). valueBounds (tierTable tiers) balance d (shiftedPath s rates column) lower upper s))) (2 * scenario)
     (replicate 14 0) values
 
 abbrev μ-loop : tie.MeasureT-loop
-μ-loop balance d rates column tiers lower upper values₀ places multipliers scenario₀ values scenario = 7 - scenario
+μ-loop balance d rates column lower upper tiers values₀ places multipliers scenario₀ values scenario = 7 - scenario
 
 returns : tie.Need-returns Inv-loop μ-loop
 returns c = rw (c .if1 .taken) (no-values _ _ _ _ _ _)
 
 early-places-requires : tie.Need-early-places-requires Inv-loop μ-loop
-early-places-requires c κs = let limits = c .before .pre .0 in (limits .1, limits .2, limits .3)
+early-places-requires c κs =
+    let limits = c .before .before .before .pre .0 in (
+      (limits .1 .coupon-le, limits .1 .penalty-le, limits .1 .months-le, record { count-le = limits .3 .count-le; edge-le = limits .3 .edge-le }),
+      (limits .2 .within, limits .2 .first-le, limits .2 .last-le),
+    )
+
+coupon-growth-requires : tie.Need-coupon-growth-requires Inv-loop μ-loop
+coupon-growth-requires c κs = c .before .before .before .before .pre .0 .1 .coupon-le
+
+servicing-cost-requires : tie.Need-servicing-cost-requires Inv-loop μ-loop
+servicing-cost-requires c κs = tt
 
 place-multipliers-requires : tie.Need-place-multipliers-requires Inv-loop μ-loop
-place-multipliers-requires c κs = let limits = c .before .before .pre .0 in (limits .1, limits .3)
+place-multipliers-requires c κs =
+    let servicing = c .before .before in
+    let growth = servicing .before in
+    let start = growth .before .before .before .before .before in
+    let limits = start .pre .0 in (
+      rw (growth .coupon-growth .ensures) (mul-le-mul-left _ (limits .1 .coupon-le)),
+      rw (servicing .servicing-cost .ensures) (servicing-le (accountOf (start .args .d .brokered))),
+      limits .3 .count-le,
+      λ i. place-survival-le (start .args .d .brokered) (start .args .t5) i (limits .3),
+    )
 
 loop-holds : tie.Need-loop-holds Inv-loop μ-loop
 unfolding tableFrom joined
@@ -38,9 +61,14 @@ value-bounds-requires : tie.Need-value-bounds-requires Inv-loop μ-loop
 value-bounds-requires c κs =
     let test = c .before .before .before .before .before .before in
     let multipliers = test .before .before in
-    let start = multipliers .before .before .before in
-    let limits = start .pre .0 in
-    ((limits .0, limits .1, limits .2, limits .3, omega (arith, test .loop-test .taken)), ((multipliers .before .early-places .ensures, multipliers .place-multipliers .ensures), start .pre .1))
+    let servicing = multipliers .before .before .before in
+    let growth = servicing .before in
+    let early = growth .before in
+    let start = early .before .before .before .before in
+    let limits = start .pre .0 in (
+      (limits .0, limits .1, limits .2, limits .3, omega (arith, test .loop-test .taken)),
+      ((early .early-places .ensures, rw (← (growth .coupon-growth .ensures), ← (servicing .servicing-cost .ensures)) (multipliers .place-multipliers .ensures)), start .pre .1),
+    )
 
 slice-aggregate-write : tie.Need-slice-aggregate-write Inv-loop μ-loop
 slice-aggregate-write c = omega arith
@@ -66,11 +94,11 @@ loop-again c =
     let test = bounds .before .before .before .before .before .before .before in
     let at = test .before in
     let more : at .loop .scenario < 7 = omega (arith, test .loop-test .taken) in
-    let a = at .before .before .before .before .args in
+    let a = at .before .before .before .before .before .before .before .before .before .before .args in
     let state = at .loop in (
       omega (arith, more),
       rw (c .before .write .ensures)
-          (overwritten-row [] (λ (s : ℕ). valueBounds (tierTable (a .tiers)) (a .balance) (a .d) (shiftedPath s (a .rates .now) (a .column)) (a .lower .now) (a .upper .now) s) 2
+          (overwritten-row [] (λ (s : ℕ). valueBounds (tierTable (a .t5)) (a .balance) (a .d) (shiftedPath s (a .rates .now) (a .column)) (a .lower .now) (a .upper .now) s) 2
           (λ s. bounds-length _ _ _ _ _ _ s) (state .scenario) (2 * state .scenario) (2 * (state .scenario + 1)) (replicate 14 0) (state .values)
           (bounds .value-bounds .result) (state .inv .1) (bounds .value-bounds .ensures) (omega (arith, more)) (omega (arith, more))),
     )
@@ -89,6 +117,8 @@ values-of-spec =
     μ-loop
     returns
     early-places-requires
+    coupon-growth-requires
+    servicing-cost-requires
     place-multipliers-requires
     loop-holds
     value-bounds-requires

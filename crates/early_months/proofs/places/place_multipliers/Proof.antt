@@ -1,34 +1,25 @@
--- `deposits::places::place_multipliers` meets its contract: the places before i have their multipliers. Assumes nothing.
+-- `early_months::places::place_multipliers` meets its contract: the places before i have their multipliers. Assumes nothing.
 use Prim.Native.Nat.{ℕ, _+_, _-_, _≤_, _<_}
 use mathlib.Core.Path.{_≡_, ap, _∙_}
 use mathlib.Core.Bool.{Bool, false}
-use native.Mathlib.Nat.{mul-le-mul-left}
 use native.Mathlib.Omega.{arith}
-use Rattle.withdrawal.specs.MonthSurvival.{accountOf}
 use Rattle.month_places.proofs.FilledLaws.{FilledBy, filled-none, filled-more}
-use Rattle.month_places.proofs.PlaceLaws.{last-le, place-survival-le}
+use Rattle.month_places.proofs.PlaceLaws.{last-le}
 use Rattle.month_steps.specs.declared.MonthMultipliers.{MonthMultipliers}
-use Rattle.deposits.specs.Inner.Places.{multipliersAt}
-use Rattle.deposits.proofs.TermsLaws.{servicing-le}
-use Rattle.deposits.proofs.places.place_multipliers.Statement.{statement}
-use Rattle.deposits.proofs.places.place_multipliers.Tie as tie
+use Rattle.early_months.specs.Places.{multipliersAt}
+use Rattle.early_months.proofs.places.place_multipliers.Statement.{statement}
+use Rattle.early_months.proofs.places.place_multipliers.Tie as tie
 
 abbrev Inv-loop : tie.InvT-loop
-Inv-loop d tiers growth servicing last paid₀ left₀ carried₀ whole₀ i₀ paid left carried whole i =
+Inv-loop brokered growth servicing count survivals retained last paid₀ left₀ carried₀ whole₀ i₀ paid left carried whole i =
     (i ≤ last + 1)
-    × FilledBy (λ (j n : ℕ). n ≡ multipliersAt tiers d j .paid) 0 17 i paid
-    × FilledBy (λ (j n : ℕ). n ≡ multipliersAt tiers d j .left) 0 17 i left
-    × FilledBy (λ (j n : ℕ). n ≡ multipliersAt tiers d j .carried) 0 17 i carried
-    × FilledBy (λ (j : ℕ) (b : Bool). b ≡ multipliersAt tiers d j .whole) false 17 i whole
+    × FilledBy (λ (j n : ℕ). n ≡ multipliersAt brokered growth servicing count survivals retained j .paid) 0 17 i paid
+    × FilledBy (λ (j n : ℕ). n ≡ multipliersAt brokered growth servicing count survivals retained j .left) 0 17 i left
+    × FilledBy (λ (j n : ℕ). n ≡ multipliersAt brokered growth servicing count survivals retained j .carried) 0 17 i carried
+    × FilledBy (λ (j : ℕ) (b : Bool). b ≡ multipliersAt brokered growth servicing count survivals retained j .whole) false 17 i whole
 
 abbrev μ-loop : tie.MeasureT-loop
-μ-loop d tiers growth servicing last paid₀ left₀ carried₀ whole₀ i₀ paid left carried whole i = last + 1 - i
-
-coupon-growth-requires : tie.Need-coupon-growth-requires Inv-loop μ-loop
-coupon-growth-requires c κs = c .pre .0 .coupon-le
-
-servicing-cost-requires : tie.Need-servicing-cost-requires Inv-loop μ-loop
-servicing-cost-requires c κs = tt
+μ-loop brokered growth servicing count survivals retained last paid₀ left₀ carried₀ whole₀ i₀ paid left carried whole i = last + 1 - i
 
 last-place-requires : tie.Need-last-place-requires Inv-loop μ-loop
 last-place-requires c κs = tt
@@ -37,28 +28,19 @@ loop-holds : tie.Need-loop-holds Inv-loop μ-loop
 loop-holds c = (omega arith, filled-none _ 0 0 17, filled-none _ 0 0 17, filled-none _ 0 0 17, filled-none _ false false 17)
 
 place-survival-requires : tie.Need-place-survival-requires Inv-loop μ-loop
-place-survival-requires c κs = c .before .before .before .before .before .before .before .pre .1 .count-le
+place-survival-requires c κs = c .before .before .before .pre .2
 
 multipliers-of-requires : tie.Need-multipliers-of-requires Inv-loop μ-loop
 multipliers-of-requires c κs =
-    let servicing = c .before .before .before .before .before .before in
-    let start = servicing .before .before in (
-      rw (servicing .before .coupon-growth .ensures) (mul-le-mul-left _ (start .pre .0 .coupon-le)),
-      rw (servicing .servicing-cost .ensures) (servicing-le (accountOf (start .args .d .brokered))),
-      rw (c .place-survival .ensures) (place-survival-le (start .args .d .brokered) (start .args .t2) _ (start .pre .1)),
-    )
+    let start = c .before .before .before .before in
+    (start .pre .0, start .pre .1, rw (c .place-survival .ensures) (start .pre .3 _))
 
 -- the place is one of the array's
-index-lt : (c : tie.After-multipliers-of Inv-loop μ-loop) → c .before .before .before .before .before .loop .i < 17
+index-lt : (c : tie.After-multipliers-of Inv-loop μ-loop) → c .before .before .before .loop .i < 17
 index-lt c =
-    let last = c .before .before .before .before .before .before in
-    let start = last .before .before .before in
-    omega (
-      arith,
-      c .before .before .before .before .loop-test .taken,
-      last .last-place .ensures,
-      last-le (start .args .d .brokered) (start .args .t2 .count) (start .pre .1 .count-le),
-    )
+    let last = c .before .before .before .before in
+    let start = last .before in
+    omega (arith, c .before .before .loop-test .taken, last .last-place .ensures, last-le (start .args .brokered) (start .args .count) (start .pre .2))
 
 mul-paid : tie.Need-mul-paid Inv-loop μ-loop
 mul-paid c = omega (arith, index-lt c)
@@ -86,21 +68,19 @@ add-i c = omega (arith, index-lt c)
 
 -- the multipliers of the place
 multipliers-are : (c : tie.After-multipliers-of Inv-loop μ-loop)
-    → let at = c .before .before .before .before .before in
-    let a = at .before .before .before .before .args in
-    c .multipliers-of .result ≡ multipliersAt (a .t2) (a .d) (at .loop .i)
+    → let at = c .before .before .before in
+    let a = at .before .before .args in
+    c .multipliers-of .result ≡ multipliersAt (a .brokered) (a .growth) (a .servicing) (a .count) (a .survivals .now) (a .retained) (at .loop .i)
 unfolding multipliersAt
-multipliers-are c =
-    let servicing = c .before .before .before .before .before .before .before in
-    rw (c .multipliers-of .ensures, servicing .before .coupon-growth .ensures, servicing .servicing-cost .ensures, c .before .place-survival .ensures)
+multipliers-are c = rw (c .multipliers-of .ensures, c .before .place-survival .ensures)
 
 loop-less : tie.Need-loop-less Inv-loop μ-loop
 loop-less c = omega arith
 
 loop-again : tie.Need-loop-again Inv-loop μ-loop
 loop-again c =
-    let state = c .before .before .before .before .before .loop in (
-      omega (arith, c .before .before .before .before .loop-test .taken),
+    let state = c .before .before .before .loop in (
+      omega (arith, c .before .before .loop-test .taken),
       filled-more _ 0 17 (state .i) (state .paid) (c .multipliers-of .result .paid) (index-lt c)
           (ap (λ (m : MonthMultipliers). m .paid) (multipliers-are c)) (state .inv .1),
       filled-more _ 0 17 (state .i) (state .left) (c .multipliers-of .result .left) (index-lt c)
@@ -123,8 +103,6 @@ place-multipliers-spec =
     (tie.spec
     Inv-loop
     μ-loop
-    coupon-growth-requires
-    servicing-cost-requires
     last-place-requires
     loop-holds
     place-survival-requires

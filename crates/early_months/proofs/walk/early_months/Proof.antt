@@ -1,12 +1,12 @@
--- `deposits::prices::early_months` meets its contract: after t months both runs are those that are walked. Assumes nothing.
+-- `early_months::walk::early_months` meets its contract: after t months both runs are those that are walked. Assumes nothing.
 use Prim.Native.Nat.{suc, _+_, _*_, _-_, _≤_, _<_}
 use mathlib.Core.Path.{_≡_, refl}
 use native.Mathlib.Numerals.{add-one}
 use native.Mathlib.Omega.{arith}
 use Rattle.pricing.specs.Rounding.{down, up}
-use Rattle.deposits.specs.Inner.Places.{walkedBy}
-use Rattle.deposits.proofs.prices.early_months.Statement.{statement}
-use Rattle.deposits.proofs.prices.early_months.Tie as tie
+use Rattle.early_months.specs.Places.{walkedBy}
+use Rattle.early_months.proofs.walk.early_months.Statement.{statement}
+use Rattle.early_months.proofs.walk.early_months.Tie as tie
 
 abbrev Inv-loop : tie.InvT-loop
 Inv-loop months places paid left carried whole lower upper scenario early low₀ high₀ t₀ low high t =

@@ -1,8 +1,8 @@
--- `deposits::prices::place_at` meets its contract. Assumes nothing.
+-- `early_months::walk::place_at` meets its contract. Assumes nothing.
 use borrow.Author.Needs.{needs}
-use Rattle.deposits.specs.Inner.Places.{placeAt}
-use Rattle.deposits.proofs.prices.place_at.Statement.{statement}
-use Rattle.deposits.proofs.prices.place_at.Tie as tie
+use Rattle.early_months.specs.Places.{placeAt}
+use Rattle.early_months.proofs.walk.place_at.Statement.{statement}
+use Rattle.early_months.proofs.walk.place_at.Tie as tie
 
 sub-wide : tie.Need-sub-wide
 sub-wide c = search needs

@@ -1,0 +1,91 @@
+// The run over all months but the last.
+use crate::Places;
+use crate::Runs;
+use month_steps::MonthMultipliers;
+use month_steps::steps::next_lower;
+use month_steps::steps::next_upper;
+use pricing::PAR;
+use pricing::Run;
+ghost use mathlib.Core.Path.{_≡_};
+ghost use Prim.Native.Nat.{_-_, _<_, _≤_};
+ghost use Rattle.schedule.specs.Limits.{monthsLimit, tierLimit};
+ghost use Rattle.schedule.specs.Shift.{scenarioCount};
+ghost use Rattle.pricing.specs.Scales.{par};
+ghost use Rattle.pricing.specs.Rounding.{down, up};
+ghost use Rattle.pricing.specs.Inner.Multipliers.{AtMost};
+ghost use Rattle.early_months.specs.Places.{placeAt, heldAt, walkedBy, Walkable};
+
+// The lower and the upper run after all months but the last.
+pub fn early_months<'a>(
+    months: u64,
+    places: &Places,
+    paid: &'a [u64; 17],
+    left: &'a [u64; 17],
+    carried: &'a [u64; 17],
+    whole: &'a [bool; 17],
+    lower: &[u64; 840],
+    upper: &[u64; 840],
+    scenario: usize,
+) -> Runs
+    requires { ⌜ (0 < months) × (months ≤ monthsLimit) × (scenario < scenarioCount) × AtMost par (now lower) × AtMost par (now upper) ⌝ }
+    requires { ⌜ Walkable down (now paid) (now left) (now carried) (now whole) (now places) (now lower) scenario months ⌝ }
+    requires { ⌜ Walkable up (now paid) (now left) (now carried) (now whole) (now places) (now upper) scenario months ⌝ }
+    ensures { λ r. ⌜ r .lower ≡ walkedBy down (now (paid .entry)) (now (left .entry)) (now (carried .entry)) (now (whole .entry)) (now (places .entry)) (now (lower .entry)) scenario (months - 1) ⌝ }
+    ensures { λ r. ⌜ r .upper ≡ walkedBy up (now (paid .entry)) (now (left .entry)) (now (carried .entry)) (now (whole .entry)) (now (places .entry)) (now (upper .entry)) scenario (months - 1) ⌝ }
+{
+    let early = months - 1;
+    let mut low = Run {
+        balance: PAR,
+        price: 0,
+    };
+    let mut high = Run {
+        balance: PAR,
+        price: 0,
+    };
+    let mut t: u64 = 0;
+    while t < early {
+        let place = place_at(places, t as usize, scenario);
+        let m = multipliers_at(paid, left, carried, whole, place);
+        let i = 7 * t as usize + scenario;
+        low = next_lower(low, m, lower[i]);
+        high = next_upper(high, m, upper[i]);
+        t += 1;
+    }
+    Runs {
+        lower: low,
+        upper: high,
+    }
+}
+
+// The multipliers of a place.
+fn multipliers_at<'a>(
+    paid: &'a [u64; 17],
+    left: &'a [u64; 17],
+    carried: &'a [u64; 17],
+    whole: &'a [bool; 17],
+    place: usize,
+) -> MonthMultipliers
+    requires { ⌜ place ≤ tierLimit ⌝ }
+    ensures { λ r. ⌜ r ≡ heldAt (now (paid .entry)) (now (left .entry)) (now (carried .entry)) (now (whole .entry)) place ⌝ }
+{
+    MonthMultipliers {
+        paid: paid[place],
+        left: left[place],
+        carried: carried[place],
+        whole: whole[place],
+    }
+}
+
+// The place of a month, counted from 0, in a scenario.
+fn place_at(places: &Places, month: usize, scenario: usize) -> usize
+    requires { ⌜ (month < monthsLimit) × (scenario < scenarioCount) ⌝ }
+    ensures { λ r. ⌜ r ≡ placeAt (now (places .entry)) month scenario ⌝ }
+{
+    wide(places[month][6 - scenario])
+}
+
+fn wide(place: u8) -> usize
+    ensures { λ r. ⌜ r ≡ place ⌝ }
+{
+    place as usize
+}
