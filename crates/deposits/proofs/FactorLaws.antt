@@ -1,14 +1,16 @@
 -- The factors of the seven scenarios in the list, month by month. Assumes nothing.
-use Prim.Native.Nat.{ℕ, suc, _+_, _*_, _-_, _≤_, _<_}
-use mathlib.Core.Path.{_≡_, refl, ap, _∙_}
+use Prim.Native.Nat.{ℕ, zero, suc, _+_, _*_, _-_, _≤_, _<_}
+use mathlib.Core.Path.{_≡_, refl, sym, ap, _∙_}
 use mathlib.Core.Bool.{Bool, true, false, cond}
-use mathlib.Core.List.{List}
+use mathlib.Core.List.{List, _++_, append-assoc, append-nil}
+use native.Mathlib.Nat.{add-zero}
 use native.Mathlib.Omega.{arith}
 use lib.Dec.{ltb}
-use lib.ListN.{length, getD, replicate, length-replicate}
-use borrow.Author.Tests.{lt-ltb}
-use Rattle.lists.specs.Tables.{tableFrom}
-use Rattle.lists.proofs.TableLaws.{table-length, table-getD, table-le, joined-getD, joined-le}
+use lib.ListN.{length, getD, drop, replicate, length-replicate, replicate-append-replicate}
+use lib.Seq.{drop-at}
+use borrow.Author.Tests.{lt-ltb, le-ltb}
+use Rattle.lists.specs.Tables.{tableFrom, table, joined}
+use Rattle.lists.proofs.TableLaws.{table-length, table-getD, table-le, joined-getD, joined-suc, joined-le}
 use Rattle.lists.proofs.TestLaws.{either, entries-le}
 use Rattle.schedule.specs.Shift.{shiftedRate, shiftedRates}
 use Rattle.pricing.specs.Scales.{par}
@@ -17,7 +19,7 @@ use Rattle.pricing.specs.Run.{discountBy, discountFactorBy}
 use Rattle.pricing.specs.Inner.Multipliers.{discountsBy, AtMost}
 use Rattle.pricing.proofs.LimitLaws.{discount-limit}
 use Rattle.deposits.specs.DepositTerms.{sheetYield}
-use Rattle.deposits.specs.Inner.Factors.{monthFactors, factorsBy}
+use Rattle.deposits.specs.Inner.Factors.{yieldFactors, monthFactors, factorsBy}
 use Rattle.deposits.specs.Inner.Prices.{listed, AtMostPar}
 
 -- a rate of the seven scenarios
@@ -36,12 +38,44 @@ discounts-at-most ρ rates n = table-le 0 7 _ par (λ i l u. discount-limit _ n 
 module _ (ρ : Rounding) (yields : List ℕ) (longest : ℕ) where
   -- a month has seven factors
   pub month-length : (month : ℕ) → length (monthFactors ρ yields longest month) ≡ 7
-  unfolding monthFactors
+  unfolding monthFactors yieldFactors
   month-length month = either (λ (l : List ℕ). length l ≡ 7) (ltb month longest) (discounts-length ρ _ (suc month)) refl
+
+  -- a month within the longest term
+  pub month-within : (month : ℕ) → month < longest → yieldFactors ρ yields month ≡ monthFactors ρ yields longest month
+  unfolding monthFactors
+  month-within month h = rw (lt-ltb month longest h)
+
+  months-past : (month more : ℕ) → longest ≤ month
+      → joined (table (month + more) (monthFactors ρ yields longest)) ≡ joined (table month (monthFactors ρ yields longest)) ++ replicate (7 * more) 0
+  unfolding monthFactors
+  months-past month zero h = rw (add-zero, append-nil)
+  months-past month (suc more) h =
+      let past : longest ≤ month + more = omega arith in
+      let e : month + suc more ≡ (month + more) + 1 = omega arith in
+      let n : 7 * more + 7 ≡ 7 * suc more = omega arith in
+      ap (λ (i : ℕ). joined (table i (monthFactors ρ yields longest))) e
+      ∙ joined-suc (month + more) (monthFactors ρ yields longest)
+      ∙ rw (months-past month more h, le-ltb (month + more) longest past, append-assoc, replicate-append-replicate {A = ℕ} (7 * more) 7 0, n)
+
+  -- from the longest term on the list is left 0
+  pub factors-left : (month : ℕ) → longest ≤ month → month ≤ 120
+      → joined (table month (monthFactors ρ yields longest)) ++ drop (7 * month) (replicate 840 0) ≡ factorsBy ρ yields longest
+  unfolding factorsBy
+  factors-left month h m =
+      let e : month + (120 - month) ≡ 120 = omega arith in
+      let n : 7 * month + 7 * (120 - month) ≡ 840 = omega arith in
+      let zeros : replicate {A = ℕ} (7 * month) 0 ++ replicate (7 * (120 - month)) 0 ≡ replicate {A = ℕ} 840 0 =
+      replicate-append-replicate (7 * month) (7 * (120 - month)) 0 ∙ ap (λ (i : ℕ). replicate i 0) n in
+      let left : drop {A = ℕ} (7 * month) (replicate 840 0) ≡ replicate (7 * (120 - month)) 0 =
+      rw (← zeros) (drop-at (replicate (7 * month) 0) (replicate (7 * (120 - month)) 0) (7 * month) (length-replicate (7 * month) 0)) in
+      ap (λ (l : List ℕ). joined (table month (monthFactors ρ yields longest)) ++ l) left
+      ∙ sym (months-past month (120 - month) h)
+      ∙ ap (λ (i : ℕ). joined (table i (monthFactors ρ yields longest))) e
 
   -- none is above par
   month-at-most : (month : ℕ) → AtMost par (monthFactors ρ yields longest month)
-  unfolding monthFactors
+  unfolding monthFactors yieldFactors
   month-at-most month = either (AtMost par) (ltb month longest) (discounts-at-most ρ _ (suc month)) (entries-le (replicate 7 0) par tt)
 
   pub factors-at-most-par : AtMostPar (factorsBy ρ yields longest)
@@ -51,7 +85,7 @@ module _ (ρ : Rounding) (yields : List ℕ) (longest : ℕ) where
   -- the factor of scenario s and month t + 1 within the longest term is the discount factor of the definitions
   pub factor-is : (scenario t : ℕ) → scenario < 7 → t < 120 → t < longest
       → listed (factorsBy ρ yields longest) scenario (suc t) ≡ discountFactorBy ρ (sheetYield yields scenario) (suc t)
-  unfolding listed factorsBy monthFactors discountsBy discountFactorBy sheetYield
+  unfolding listed factorsBy monthFactors yieldFactors discountsBy discountFactorBy sheetYield
   factor-is scenario t hs ht hl =
       let before : suc t - 1 ≡ t = omega arith in
       rw (before, joined-getD 7 120 (monthFactors ρ yields longest) month-length t scenario 0 ht hs, lt-ltb t longest hl)

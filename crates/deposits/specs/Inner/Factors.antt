@@ -10,10 +10,13 @@ use Rattle.schedule.specs.Shift.{shiftedRates, scenarioCount}
 use Rattle.pricing.specs.Rounding.{Rounding}
 use Rattle.pricing.specs.Inner.Multipliers.{discountsBy}
 
--- the factors of a month, counted from 0, in the seven scenarios, by a sheet of yields; past the longest term they are 0
+-- the factors of a month, counted from 0, in the seven scenarios, by a sheet of yields
+unfoldable pub yieldFactors : Rounding → List ℕ → ℕ → List ℕ
+yieldFactors ρ yields month = discountsBy ρ (shiftedRates (getD yields month 0)) (suc month)
+
+-- past the longest term they are 0
 unfoldable pub monthFactors : Rounding → List ℕ → ℕ → ℕ → List ℕ
-monthFactors ρ yields longest month =
-    cond (ltb month longest) (discountsBy ρ (shiftedRates (getD yields month 0)) (suc month)) (replicate scenarioCount 0)
+monthFactors ρ yields longest month = cond (ltb month longest) (yieldFactors ρ yields month) (replicate scenarioCount 0)
 
 -- the factors of all months: those of month t stand from place 7 (t - 1) on
 unfoldable pub factorsBy : Rounding → List ℕ → ℕ → List ℕ

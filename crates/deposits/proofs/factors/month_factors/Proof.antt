@@ -1,15 +1,10 @@
 -- `deposits::factors::month_factors` meets its contract. Assumes nothing.
 use native.Mathlib.Numerals.{add-one}
 use borrow.Author.Needs.{needs}
-use borrow.Author.Tests.{lt-ltb, le-ltb}
 use Rattle.schedule.proofs.ShiftLaws.{shifted-rates-le}
-use Rattle.deposits.specs.Inner.Factors.{monthFactors}
+use Rattle.deposits.specs.Inner.Factors.{yieldFactors}
 use Rattle.deposits.proofs.factors.month_factors.Statement.{statement}
 use Rattle.deposits.proofs.factors.month_factors.Tie as tie
-
-returns : tie.Need-returns
-unfolding monthFactors
-returns c = rw (le-ltb _ _ (c .if1 .taken))
 
 mul-shifted-rates : tie.Need-mul-shifted-rates
 mul-shifted-rates c = search needs
@@ -24,21 +19,19 @@ add-discount-factors : tie.Need-add-discount-factors
 add-discount-factors c = search needs
 
 discount-factors-requires : tie.Need-discount-factors-requires
-discount-factors-requires c κs = rw (c .before .shifted-rates .ensures) (shifted-rates-le _ (c .before .before .before .before .pre .0 _))
+discount-factors-requires c κs = rw (c .before .shifted-rates .ensures) (shifted-rates-le _ (c .before .before .before .pre .0 _))
 
-returns-2 : tie.Need-returns-2
-unfolding monthFactors
-returns-2 c =
-    rw (c .discount-factors .ensures, c .before .before .shifted-rates .ensures, add-one, lt-ltb _ _ (c .before .before .before .before .if1 .left))
+returns : tie.Need-returns
+unfolding yieldFactors
+returns c = rw (c .discount-factors .ensures, c .before .before .shifted-rates .ensures, add-one)
 
 pub month-factors-spec : {M : Type 1} → statement M
 month-factors-spec =
     tie.close
     (tie.spec
-    returns
     mul-shifted-rates
     element-copy-out-shifted-rates
     shifted-rates-requires
     add-discount-factors
     discount-factors-requires
-    returns-2)
+    returns)
