@@ -5,9 +5,11 @@ use mathlib.Core.List.{List, _∷_, append-nil}
 use lib.ListN.{length, replicate}
 use Rattle.lists.specs.Runs.{written}
 use Rattle.shares.specs.declared.SubBalance.{SubBalance}
+use Rattle.shares.specs.SubBalances.{positionOf}
 use Rattle.withdrawal.specs.Tiers.{TierTable}
-use Rattle.deposits.proofs.ValueLaws.{values-length}
-use Rattle.place_values.specs.Inner.PlaceRows.{listedHeld}
+use Rattle.deposits.proofs.ValueLaws.{values-length, no-values}
+use Rattle.place_values.specs.PlaceTerms.{depositAt}
+use Rattle.place_values.specs.Inner.PlaceRows.{listedHeld, rowOf}
 
 -- fourteen values written behind a balance
 pub row-written : (balance : ℕ) (values : List ℕ) → length values ≡ 14 → written (replicate 15 balance) 1 values ≡ balance ∷ values
@@ -19,3 +21,9 @@ pub listed-length : (held : SubBalance) (place : ℕ) (rates : List ℕ) (tiers 
     → length (listedHeld held place rates tiers lower upper) ≡ 14
 unfolding listedHeld
 listed-length held place rates tiers lower upper = values-length _ _ _ _ _ _ _
+
+-- the row of a place without a balance
+pub no-row : (held : SubBalance) (place : ℕ) (rates : List ℕ) (tiers : TierTable) (lower upper : List ℕ)
+    → held .balance ≡ 0 → replicate 15 0 ≡ rowOf held place rates tiers lower upper
+unfolding rowOf listedHeld depositAt
+no-row held place rates tiers lower upper e = rw e (ap (λ (l : List ℕ). 0 ∷ l) (no-values tiers (depositAt place held) rates (positionOf place .column) lower upper))

@@ -30,6 +30,9 @@ pub fn row_of(
     requires { ⌜ WithinRates (now rates) × Usable tiers × AtMostPar (now lower) × AtMostPar (now upper) ⌝ }
     ensures { λ r. ⌜ r ≡ rowOf held place (now (rates .entry)) (tierTable tiers) (now (lower .entry)) (now (upper .entry)) ⌝ }
 {
+    if held.balance == 0 {
+        return [0; 15];
+    }
     let values = held_values(held, place, rates, tiers, lower, upper);
     let mut row = [held.balance; 15];
     write(&mut row, 1, &values);

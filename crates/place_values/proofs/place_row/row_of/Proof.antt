@@ -1,9 +1,12 @@
 -- `place_values::place_row::row_of` meets its contract. Assumes nothing.
 use borrow.Author.Needs.{needs}
 use Rattle.place_values.specs.Inner.PlaceRows.{rowOf}
-use Rattle.place_values.proofs.RowLaws.{row-written, listed-length}
+use Rattle.place_values.proofs.RowLaws.{row-written, listed-length, no-row}
 use Rattle.place_values.proofs.place_row.row_of.Statement.{statement}
 use Rattle.place_values.proofs.place_row.row_of.Tie as tie
+
+returns : tie.Need-returns
+returns c = no-row _ _ _ _ _ _ (c .if1 .taken)
 
 held-values-requires : tie.Need-held-values-requires
 held-values-requires c κs = search needs
@@ -17,9 +20,9 @@ slice-aggregate-write-2 c = search needs
 write-requires : tie.Need-write-requires
 write-requires c κs = search needs
 
-returns : tie.Need-returns
+returns-2 : tie.Need-returns-2
 unfolding rowOf
-returns c =
+returns-2 c =
     let values = c .before .before .before .before in
     rw (c .before .write .ensures, values .held-values .ensures) (row-written _ _ (listed-length _ _ _ _ _ _))
 
@@ -27,8 +30,9 @@ pub row-of-spec : {M : Type 1} → statement M
 row-of-spec =
     tie.close
     (tie.spec
+    returns
     held-values-requires
     slice-aggregate-write
     slice-aggregate-write-2
     write-requires
-    returns)
+    returns-2)
