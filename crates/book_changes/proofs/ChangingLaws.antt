@@ -1,7 +1,6 @@
 -- Changes made in turn: what is still to be made gives the book of all. Assumes nothing.
 use Prim.Native.Nat.{ℕ, suc, _+_, _-_, _≤_, _<_}
-use mathlib.Core.Path.{_≡_, refl, sym, ap, _∙_}
-use mathlib.Core.Bool.{cond}
+use mathlib.Core.Path.{_≡_, sym, ap, _∙_}
 use mathlib.Core.List.{List}
 use native.Mathlib.Nat.{sub-zero}
 use native.Mathlib.Numerals.{add-one}
@@ -16,8 +15,7 @@ use Rattle.answers.proofs.VerdictLaws.{Untried, tried-start, tried-here, tried-
 use Rattle.filing.specs.Verdict.{filingVerdict}
 use Rattle.books.specs.declared.Book.{Book}
 use Rattle.books.specs.declared.Answered.{Answered}
-use Rattle.books.specs.Books.{openedBook}
-use Rattle.books.specs.Changes.{Change, changeVerdict, bookAfter, bookAfterAll}
+use Rattle.books.specs.Changes.{changeVerdict, bookAfterAll}
 use Rattle.books.specs.Promise.{Kept, OpenedOf, ChangedOf}
 use Rattle.book_changes.specs.Changing.{changeCount, changeAt, changesOf, changesVerdict, bookWith, bookVerdict, ChangedAll, BookOf}
 

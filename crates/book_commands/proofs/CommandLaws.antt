@@ -1,20 +1,18 @@
 -- A line byte by byte, the numbers behind its word, and the command that it says. Assumes nothing.
-use Prim.Native.Nat.{ℕ, _+_, _-_, _≤_, _<_}
+use Prim.Native.Nat.{ℕ, _+_, _≤_, _<_}
 use native.Mathlib.Numerals.{add-one}
 use native.Mathlib.Omega.{arith}
 use mathlib.Core.Path.{_≡_, refl, sym, ap, _∙_}
-use mathlib.Core.Bool.{Bool, true, false, _&&_}
-use mathlib.Core.List.{List, [], _∷_, _++_}
+use mathlib.Core.Bool.{Bool, true, false}
+use mathlib.Core.List.{List, _∷_}
 use borrow.Author.Tests.{lt-ltb, le-ltb, eq-eqb, ne-eqb}
-use lib.Dec.{ltb}
 use lib.ListN.{length, getD, drop, replicate, drop-of-length-le}
 use lib.Seq.{drop-cons}
 use Rattle.numerals.specs.declared.Line.{Line}
-use Rattle.numerals.specs.Numerals.{byteAt, numberEnd, numberAt}
+use Rattle.numerals.specs.Numerals.{byteAt}
 use Rattle.numerals.specs.Forms.{hasForm, formNumbers, formEnd}
 use Rattle.numerals.specs.Inner.Fields.{lineAt}
 use Rattle.numerals.proofs.LineLaws.{line-is, line-none}
-use Rattle.book_commands.specs.declared.Command.{Command}
 use Rattle.book_commands.specs.declared.Command.the-variants.{Set, Clear, Place, Totals, Unreadable}
 use Rattle.book_commands.specs.Commands.{lineLimit, setWord, clearWord, placeWord, totalsWord, fiveNumbers, oneNumber, beginsWith, says, numberOf, isTotals, shortCommand, commandOf}
 use Rattle.book_commands.specs.Inner.Said.{Said}

@@ -5,7 +5,7 @@ use mathlib.Core.Bool.{Bool, true, cond, _&&_}
 use mathlib.Core.List.{List, [], _∷_}
 use lib.Dec.{eqb, ltb}
 use lib.ListN.{length, getD}
-use Rattle.numerals.specs.Numerals.{byteAt, numberAt}
+use Rattle.numerals.specs.Numerals.{byteAt}
 use Rattle.numerals.specs.Forms.{hasForm, formNumbers, formEnd}
 use Rattle.book_commands.specs.declared.Command.{Command}
 use Rattle.book_commands.specs.declared.Command.the-variants.{Set, Clear, Place, Totals, Unreadable}

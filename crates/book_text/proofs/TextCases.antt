@@ -9,7 +9,6 @@ use Rattle.text.specs.Decimal.{digit, digitsWithin, decimal}
 use Rattle.text.specs.Lines.{spaced, restOfLine, refusedWord, refusalLine}
 use Rattle.numerals.specs.Numerals as numerals
 use Rattle.numerals.specs.Forms.{hasForm, formNumbers, formEnd}
-use Rattle.book_commands.specs.declared.Command.{Command}
 use Rattle.book_commands.specs.declared.Command.the-variants.{Set, Clear, Place, Totals, Unreadable}
 use Rattle.book_commands.specs.Commands.{setWord, clearWord, placeWord, totalsWord, fiveNumbers, oneNumber, beginsWith, says, numberOf, isTotals, shortCommand, commandOf}
 use Rattle.book_text.specs.Replies.{openedLine, okLine, answerLine, heldLine}

@@ -1,16 +1,14 @@
 -- Every change keeps the promise of a book, opening establishes it, and so it holds after any sequence of changes. Assumes nothing.
 use Prim.Native.Nat.{ℕ, _<_}
-use mathlib.Core.Path.{_≡_, refl, sym, ap, subst, _∙_}
+use mathlib.Core.Path.{_≡_, refl, ap, subst}
 use mathlib.Core.Bool.{Bool, true, false, cond}
 use mathlib.Core.List.{List, [], _∷_}
 use borrow.Author.Tests.{ltb-true}
-use Rattle.answers.specs.declared.Answer.{Answer}
 use Rattle.answers.specs.declared.Answer.the-variants.{Accepted, OutsidePlaceLimits}
-use Rattle.answers.specs.Answers.{numberOf, verdictOf}
+use Rattle.answers.specs.Answers.{verdictOf}
 use Rattle.answers.specs.Verdict.{Verdict, accepted, refused, refusedIf}
 use Rattle.filing.specs.declared.Contents.{Contents}
 use Rattle.filing.specs.Contents.{contentsOf}
-use Rattle.filing.specs.Readings.{readContents}
 use Rattle.filing.specs.Verdict.{filingVerdict}
 use Rattle.filing.proofs.ReadLaws.{contents-accepted}
 use Rattle.filing.proofs.AcceptedLaws.{accepted-valid}
@@ -19,7 +17,7 @@ use Rattle.books.specs.declared.Answered.{Answered}
 use Rattle.books.specs.Books.{emptyBook, openedBook, withPlace}
 use Rattle.books.specs.Changes.{Change, setPlace, clearPlace, changedPlace, fitsChange, heldAfter, changeVerdict, bookAfter, bookAfterAll}
 use Rattle.books.specs.Inner.Standing.{Standing, Within}
-use Rattle.books.specs.Promise.{Kept, OpenedOf, ChangedOf, BookPromise}
+use Rattle.books.specs.Promise.{Kept, ChangedOf, BookPromise}
 use Rattle.books.proofs.PlaceLaws.{none-within, fits-place, fits-within}
 use Rattle.books.proofs.StandingLaws.{empty-stands, changed-stands}
 use Rattle.books.proofs.KeptLaws.{standing-kept}

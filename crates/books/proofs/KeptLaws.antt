@@ -1,7 +1,7 @@
 -- A book that stands under an accepted filing keeps its promise: its totals are fresh sums, and its figures enclose the exact ones within the widths.
 -- Assumes nothing.
-use Prim.Native.Nat.{ℕ, _+_, _*_, _/_, _%_, _≤_, _<_}
-use mathlib.Core.Path.{_≡_, refl, sym, ap, _∙_}
+use Prim.Native.Nat.{ℕ, _+_, _*_, _%_, _≤_, _<_}
+use mathlib.Core.Path.{_≡_, refl, ap, _∙_}
 use mathlib.Core.Bool.{Bool}
 use mathlib.Core.List.{List}
 use native.Mathlib.Omega.{arith}
@@ -15,8 +15,8 @@ use Rattle.fraction.proofs.EnclosureLaws.{total-encloses}
 use Rattle.filing.specs.declared.Contents.{Contents}
 use Rattle.filing.specs.Contents.{contentsOf}
 use Rattle.shares.specs.SubBalances.{subBalanceCount}
-use Rattle.pricing.specs.Rounding.{Rounding, down, up}
-use Rattle.place_values.specs.HeldValues.{exactHeld, valueHeld, boundsHeld, valuesHeld}
+use Rattle.pricing.specs.Rounding.{down, up}
+use Rattle.place_values.specs.HeldValues.{valueHeld, boundsHeld, valuesHeld}
 use Rattle.place_values.proofs.HeldLaws.{held-encloses, held-width}
 use Rattle.valuation.specs.Rows.{isShort, isLong}
 use Rattle.valuation.proofs.ValueLaws.{widths-add}

@@ -1,8 +1,8 @@
 -- Opening a book: the yields that it is opened with are within their limit, those of an accepted filing and of a refused one zeros; the book is the one
 -- that the bytes open, and kept. Assumes nothing.
-use Prim.Native.Nat.{ℕ, _+_, _*_, _≤_, zero-le}
+use Prim.Native.Nat.{ℕ, zero-le}
 use mathlib.Core.Path.{_≡_, refl, sym, ap, _∙_}
-use mathlib.Core.Bool.{Bool, true, false, cond}
+use mathlib.Core.Bool.{Bool, true, false}
 use mathlib.Core.List.{List, []}
 use borrow.Author.Tests.{eqb-true}
 use lib.Dec.{eqb}
@@ -10,7 +10,7 @@ use Rattle.lists.proofs.TableLaws.{table-le}
 use Rattle.schedule.specs.Limits.{monthsLimit, rateLimit}
 use Rattle.answers.specs.declared.Answer.{Answer}
 use Rattle.answers.specs.Verdict.{Verdict}
-use Rattle.answers.specs.Answers.{numberOf, verdictOf}
+use Rattle.answers.specs.Answers.{verdictOf}
 use Rattle.records.specs.Bytes.{numberAt}
 use Rattle.filing.specs.declared.Contents.{Contents}
 use Rattle.filing.specs.Contents.{contentsOf}

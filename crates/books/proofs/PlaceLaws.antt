@@ -3,18 +3,16 @@
 use Prim.Native.Nat.{ℕ, _≤_, _<_, zero-le}
 use mathlib.Core.Path.{_≡_, ap}
 use mathlib.Core.Bool.{Bool, true, cond, _&&_}
-use mathlib.Core.List.{List, [], _∷_}
+use mathlib.Core.List.{[], _∷_}
 use native.Mathlib.Nat.{le-refl, le-trans}
 use borrow.Author.Tests.{leb-true, ltb-true}
 use lib.Dec.{leb, ltb, lit<}
 use Rattle.lists.specs.Tables.{tableFrom, joined}
 use Rattle.lists.proofs.TableLaws.{table-ext}
 use Rattle.lists.proofs.TestLaws.{either, entries-le}
-use Rattle.schedule.specs.declared.Position.{Position}
 use Rattle.schedule.specs.Cells.{withinRow, leastMonths, mostMonths}
 use Rattle.schedule.specs.Limits.{balanceLimit, couponLimit, penaltyLimit, monthsLimit}
 use Rattle.filing.specs.declared.Contents.{Contents}
-use Rattle.shares.specs.declared.SubBalance.{SubBalance}
 use Rattle.shares.specs.SubBalances.{subBalanceCount, positionOf, withPenalty}
 use Rattle.shares.specs.Places.{noPlace, noValues}
 use Rattle.pricing.specs.Scales.{valueScale}

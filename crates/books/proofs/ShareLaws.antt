@@ -1,16 +1,16 @@
 -- A book that is set to the thirty-six shares of an accepted filing shows that filing's totals. Assumes nothing.
 use Prim.Native.Nat.{ℕ, zero, suc, _+_, _*_, _/_, _%_, _≤_, _<_}
-use mathlib.Core.Path.{_≡_, refl, sym, ap, subst, _∙_}
-use mathlib.Core.Bool.{Bool, true, false, cond, _&&_}
+use mathlib.Core.Path.{_≡_, refl, sym, _∙_}
+use mathlib.Core.Bool.{Bool, true, false, cond}
 use mathlib.Core.List.{List, [], _∷_, _++_}
 use mathlib.Core.Logic.{⊎-elim}
-use native.Mathlib.Nat.{le-trans, le-refl, le-of-lt, lt-suc-self, lt-trans, lt-of-lt-of-le, pos-of-ne-zero, ne-of-gt, ne-of-lt, eq-or-lt-of-le, le-of-suc-le-suc, not-suc-le-zero}
+use native.Mathlib.Nat.{le-trans, le-refl, le-of-lt, lt-suc-self, lt-of-lt-of-le, pos-of-ne-zero, ne-of-gt, ne-of-lt, eq-or-lt-of-le, le-of-suc-le-suc, not-suc-le-zero}
 use native.Mathlib.Omega.{arith}
-use borrow.Author.Tests.{lt-ltb, le-leb, eq-eqb, ne-eqb, eqb-true, eqb-false}
-use lib.Dec.{T, eqb, leb, ltb, lit<}
+use borrow.Author.Tests.{lt-ltb, le-leb, eqb-true, eqb-false}
+use lib.Dec.{T, eqb, lit<}
 use lib.ListN.{length, getD, getD-replicate}
 use lib.Seq.{ext-getD}
-use Rattle.lists.specs.Sums.{sumWhere, everywhere}
+use Rattle.lists.specs.Sums.{everywhere}
 use Rattle.lists.specs.Tables.{table, joined}
 use Rattle.lists.proofs.EachLaws.{each-lt}
 use Rattle.lists.proofs.TableLaws.{joined-length, joined-getD}

@@ -1,13 +1,12 @@
 -- The book that is opened stands under its filing, and it stands with something else at a place: the totals are the fresh sums. Assumes nothing.
-use Prim.Native.Nat.{ℕ, zero, suc, _+_, _*_, _-_, _/_, _%_, _^_, _≤_, _<_}
-use mathlib.Core.Path.{_≡_, refl, sym, ap, subst, _∙_}
+use Prim.Native.Nat.{ℕ, zero, suc, _+_, _*_, _-_, _^_, _≤_, _<_}
+use mathlib.Core.Path.{_≡_, refl, sym, ap, _∙_}
 use mathlib.Core.Bool.{Bool, true, false, cond}
-use mathlib.Core.List.{List}
 use native.Mathlib.Nat.{le-trans}
 use native.Mathlib.Omega.{arith}
 use borrow.Author.Tests.{eqb-true, eqb-false}
 use lib.Dec.{eqb}
-use lib.ListN.{length, getD, set, replicate, length-set, length-replicate, getD-replicate}
+use lib.ListN.{length, getD, replicate, length-set, length-replicate, getD-replicate}
 use lib.Seq.{getD-set-same, getD-set-other}
 use Rattle.lists.specs.Sums.{sumWhere, everywhere}
 use Rattle.lists.proofs.SumLaws.{sumWhere-ext}
@@ -16,8 +15,7 @@ use Rattle.schedule.specs.Limits.{balanceLimit}
 use Rattle.filing.specs.declared.Contents.{Contents}
 use Rattle.filing.specs.Valid.{Valid}
 use Rattle.shares.specs.declared.SubBalance.{SubBalance}
-use Rattle.shares.specs.SubBalances.{subBalanceCount}
-use Rattle.shares.specs.Places.{noPlace, placeIn}
+use Rattle.shares.specs.Places.{noPlace}
 use Rattle.totals.specs.RowTotals.{valueLimit}
 use Rattle.pricing.specs.Rounding.{down, up}
 use Rattle.place_values.specs.HeldValues.{boundsHeld, valuesHeld}
@@ -25,7 +23,7 @@ use Rattle.place_values.proofs.HeldLaws.{held-le}
 use Rattle.books.specs.declared.Book.{Book}
 use Rattle.kept_totals.specs.KeptTotals.{moved, sumsPlace, valueOfTotal, totalAfter, totalsAfter}
 use Rattle.books.specs.Books.{emptyBook, heldIn, withPlace}
-use Rattle.books.specs.Inner.Standing.{Under, Within, Standing}
+use Rattle.books.specs.Inner.Standing.{Within, Standing}
 use Rattle.kept_totals.proofs.ChangedSumLaws.{zeros-sum, sum-small, place-in-sum, sum-changed, moved-is}
 use Rattle.books.proofs.PlaceLaws.{none-within}
 

@@ -1,7 +1,6 @@
 -- The factors of the seven scenarios in the list, month by month. Assumes nothing.
 use Prim.Native.Nat.{ℕ, zero, suc, _+_, _*_, _-_, _≤_, _<_}
 use mathlib.Core.Path.{_≡_, refl, sym, ap, _∙_}
-use mathlib.Core.Bool.{Bool, true, false, cond}
 use mathlib.Core.List.{List, _++_, append-assoc, append-nil}
 use native.Mathlib.Nat.{add-zero}
 use native.Mathlib.Omega.{arith}
@@ -9,13 +8,13 @@ use lib.Dec.{ltb}
 use lib.ListN.{length, getD, drop, replicate, length-replicate, replicate-append-replicate}
 use lib.Seq.{drop-at}
 use borrow.Author.Tests.{lt-ltb, le-ltb}
-use Rattle.lists.specs.Tables.{tableFrom, table, joined}
+use Rattle.lists.specs.Tables.{table, joined}
 use Rattle.lists.proofs.TableLaws.{table-length, table-getD, table-le, joined-getD, joined-suc, joined-le}
 use Rattle.lists.proofs.TestLaws.{either, entries-le}
 use Rattle.schedule.specs.Shift.{shiftedRate, shiftedRates}
 use Rattle.pricing.specs.Scales.{par}
 use Rattle.pricing.specs.Rounding.{Rounding}
-use Rattle.pricing.specs.Run.{discountBy, discountFactorBy}
+use Rattle.pricing.specs.Run.{discountFactorBy}
 use Rattle.pricing.specs.Inner.Multipliers.{discountsBy, AtMost}
 use Rattle.pricing.proofs.LimitLaws.{discount-limit}
 use Rattle.deposits.specs.DepositTerms.{sheetYield}

@@ -1,13 +1,10 @@
 -- The months of a deposit by places of tiers: each place's multipliers are those of the month's survival. Assumes nothing.
-use Prim.Native.Nat.{ℕ, suc, _+_, _*_, _-_, _≤_, _<_}
-use mathlib.Core.Path.{_≡_, refl, ap, _∙_}
-use mathlib.Core.Bool.{Bool, false}
-use mathlib.Core.List.{List, []}
+use Prim.Native.Nat.{ℕ, suc, _*_, _-_, _≤_, _<_}
+use mathlib.Core.Path.{_≡_, refl, ap}
+use mathlib.Core.List.{List}
 use native.Mathlib.Nat.{le-trans}
 use native.Mathlib.Omega.{arith}
-use lib.ListN.{getD}
 use Rattle.schedule.specs.Limits.{tierLimit}
-use Rattle.schedule.specs.Shift.{shiftedRate, pathRate}
 use Rattle.withdrawal.specs.declared.WithdrawalTiers.{WithdrawalTiers}
 use Rattle.withdrawal.specs.MonthSurvival.{accountOf, monthSurvival}
 use Rattle.withdrawal.specs.Inner.TierArrays.{tierTable, Usable}
@@ -15,7 +12,6 @@ use Rattle.withdrawal.specs.Inner.Incentives.{partsOf, incentiveFrom}
 use Rattle.withdrawal.proofs.MonthSurvivalLaws.{early-month}
 use Rattle.month_places.specs.Places.{PlaceFor, lastPlace}
 use Rattle.month_places.proofs.PlaceLaws.{place-last, last-le, place-survival}
-use Rattle.month_steps.specs.declared.MonthMultipliers.{MonthMultipliers}
 use Rattle.month_steps.specs.Multipliers.{multipliersOf}
 use Rattle.pricing.specs.Scales.{couponGrowth}
 use Rattle.deposits.specs.declared.Deposit.{Deposit}

@@ -1,6 +1,6 @@
 -- The months of a deposit with discount factors from a list. Assumes nothing.
 use Prim.Native.Nat.{ℕ, suc, _+_, _*_, _-_, _≤_, _<_}
-use mathlib.Core.Path.{_≡_, refl, sym}
+use mathlib.Core.Path.{_≡_, sym}
 use mathlib.Core.Bool.{true, false}
 use mathlib.Core.List.{List}
 use borrow.Author.Tests.{eq-eqb, ne-eqb}
@@ -13,7 +13,6 @@ use Rattle.withdrawal.specs.MonthSurvival.{accountOf, monthSurvival}
 use Rattle.withdrawal.proofs.MonthSurvivalLaws.{last-month}
 use Rattle.pricing.specs.declared.Run.{Run}
 use Rattle.pricing.specs.Scales.{par, couponGrowth, amountLimit}
-use Rattle.pricing.specs.Terms.{Terms}
 use Rattle.pricing.specs.Rounding.{Rounding}
 use Rattle.pricing.specs.Run.{discountedBy}
 use Rattle.pricing.specs.Inner.Month.{runBy, nextRun, Small}

@@ -1,5 +1,5 @@
 -- The values of a balance: with the discount factors of a sheet they are the values of the definitions. Assumes nothing.
-use Prim.Native.Nat.{ℕ, suc, _*_, _≤_, _<_}
+use Prim.Native.Nat.{ℕ, _≤_, _<_}
 use mathlib.Core.Path.{_≡_, refl, ap, sym, _∙_}
 use mathlib.Core.Logic.{⊎-elim}
 use mathlib.Core.List.{List, [], _∷_}
@@ -12,7 +12,7 @@ use Rattle.schedule.specs.Limits.{monthsLimit}
 use Rattle.schedule.specs.Shift.{scenarioCount}
 use Rattle.withdrawal.specs.Tiers.{TierTable}
 use Rattle.pricing.specs.Scales.{valueScale}
-use Rattle.pricing.specs.Rounding.{Rounding, down, up, quotient}
+use Rattle.pricing.specs.Rounding.{Rounding, down, up}
 use Rattle.pricing.specs.Run.{discountFactorBy, priceBy, valueBy}
 use Rattle.pricing.proofs.RoundingLaws.{quotient-zero}
 use Rattle.pricing.proofs.RunLaws.{run-ext}

@@ -6,7 +6,6 @@ use mathlib.Core.List.{List, [], _∷_, _++_, map}
 use lib.IntN.{ℤ, pos, negℤ}
 use lib.ListN.{length}
 use Rattle.lists.specs.Tables.{tableFrom}
-use Rattle.filing.specs.declared.FiledTiers.{FiledTiers}
 use Rattle.withdrawal.specs.Gain.{atMost}
 use Rattle.withdrawal.specs.Tiers.{TierTable, tier, houseTiers, reached, firstReached, annualWithdrawal, someReached, highestReached, edgesAbove, edgesTried}
 use Rattle.place_values.specs.PlaceTerms.{ownTiers, tiersOf}

@@ -5,7 +5,6 @@ use mathlib.Core.List.{List}
 use lib.Dec.{leb}
 use lib.ListN.{getD}
 use Rattle.lists.specs.Tables.{table}
-use Rattle.schedule.specs.Shift.{scenarioCount}
 use Rattle.valuation.specs.Rows.{isShort, isLong}
 
 -- a total that loses the old figure and gains the new one, within 64 bits

@@ -4,13 +4,11 @@ use mathlib.Core.Path.{_≡_, refl, sym, ap, _∙_}
 use mathlib.Core.Logic.{⊎-elim}
 use mathlib.Core.Bool.{Bool, true, false, cond}
 use mathlib.Core.List.{List}
-use native.Mathlib.Nat.{le-trans, le-refl, lt-of-le-of-lt, mul-le-mul, mul-le-mul-left, mul-le-mul-right, not-suc-le-zero, le-of-suc-le-suc, eq-or-lt-of-le, ne-of-lt}
-use native.Mathlib.Numerals.{add-one}
+use native.Mathlib.Nat.{le-refl, mul-le-mul-left, mul-le-mul-right, not-suc-le-zero, eq-or-lt-of-le}
 use native.Mathlib.Omega.{arith}
 use borrow.Author.Tests.{leb-false, lt-leb, lt-ltb, le-ltb}
-use lib.Dec.{leb, ltb, lit≤}
-use lib.ListN.{length, getD, set, length-set}
-use lib.Seq.{getD-set-same, getD-set-other}
+use lib.Dec.{ltb, lit≤}
+use lib.ListN.{getD}
 use Rattle.schedule.specs.Limits.{tierLimit}
 use Rattle.schedule.specs.Shift.{shiftedRate}
 use Rattle.withdrawal.specs.declared.CouponParts.{CouponParts}
@@ -24,7 +22,6 @@ use Rattle.withdrawal.specs.Survival.{fullSurvival}
 use Rattle.withdrawal.specs.MonthSurvival.{accountOf, earlySurvival}
 use Rattle.withdrawal.specs.Inner.TierArrays.{tierTable, Usable}
 use Rattle.withdrawal.specs.Inner.Incentives.{gainOf, incentiveFrom}
-use Rattle.withdrawal.specs.Inner.Places.{Unreached}
 use Rattle.withdrawal.proofs.GainLaws.{reached-iff}
 use Rattle.withdrawal.proofs.TierLaws.{placeReached, first-place}
 use Rattle.withdrawal.proofs.HeldLaws.{reached-answer, unreached-answer, survivals-le, retained-le}

@@ -4,7 +4,7 @@ use mathlib.Core.Path.{_≡_, refl, sym, ap, _∙_}
 use mathlib.Core.Bool.{Bool, true, false, cond}
 use lib.Dec.{eqb, leb, lit<}
 use borrow.Author.Tests.{leb-true, ne-eqb}
-use native.Mathlib.Nat.{zero-add, add-zero, mul-zero, add-comm, le-trans, lt-of-le-of-lt, mul-add, mul-le-mul, mul-le-mul-left, mul-le-mul-right, mul-add-div-right, zero-lt-suc, add-sub-of-le, le-refl, suc-ne-zero, zero-div, zero-mul}
+use native.Mathlib.Nat.{zero-add, add-zero, mul-zero, mul-add, mul-le-mul-left, mul-add-div-right, zero-lt-suc, add-sub-of-le, le-refl, suc-ne-zero, zero-div}
 use native.Mathlib.Numerals.{add-one}
 use native.Mathlib.Omega.{arith}
 use Rattle.pricing.specs.declared.Run.{Run}

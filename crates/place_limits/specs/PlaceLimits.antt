@@ -2,7 +2,6 @@
 use Prim.Native.Nat.{ℕ}
 use mathlib.Core.Bool.{Bool, cond, _&&_}
 use lib.Dec.{leb, ltb}
-use Rattle.schedule.specs.declared.Position.{Position}
 use Rattle.schedule.specs.Cells.{withinRow}
 use Rattle.schedule.specs.Limits.{balanceLimit, couponLimit, penaltyLimit}
 use Rattle.shares.specs.SubBalances.{subBalanceCount, positionOf, withPenalty}

@@ -7,7 +7,7 @@ use lib.Dec.{eqb}
 use lib.IntN.{ℤ}
 use lib.ListN.{getD}
 use Rattle.lists.proofs.TestLaws.{either}
-use Rattle.withdrawal.specs.Tiers.{WithdrawalTier, TierTable, Falling, Highest, tier, annualWithdrawal}
+use Rattle.withdrawal.specs.Tiers.{TierTable, Falling, Highest, tier, annualWithdrawal}
 use Rattle.withdrawal.proofs.FallingLaws.{house-falling, falling-from}
 use Rattle.withdrawal.proofs.HighestLaws.{highest-withdrawal}
 use Rattle.filing.specs.declared.Contents.{Contents}

@@ -1,7 +1,7 @@
 -- The ways out of the search in a filing's tiers. Assumes nothing.
 use Prim.Native.Nat.{ℕ}
 use mathlib.Core.Path.{_≡_, sym, ap, _∙_}
-use mathlib.Core.Bool.{Bool, true, false, _||_}
+use mathlib.Core.Bool.{true, false, _||_}
 use mathlib.Core.List.{List}
 use borrow.Author.Tests.{ltb-false}
 use lib.Dec.{ltb}
@@ -11,7 +11,6 @@ use Rattle.answers.specs.Verdict.{Verdict, accepted}
 use Rattle.answers.proofs.AnswerLaws.{accepted-answer}
 use Rattle.bodies.proofs.BodyLaws.{neither}
 use Rattle.filing.specs.declared.Contents.{Contents}
-use Rattle.filing.specs.Contents.{contentsOf}
 use Rattle.filing.specs.Readings.{readContents}
 use Rattle.filing.specs.Verdict.{filingVerdict, Accepted}
 use Rattle.filing.proofs.ReadingLaws.{reading-accepted}

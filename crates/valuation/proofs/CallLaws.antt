@@ -1,6 +1,6 @@
 -- The three ways out of the valuing call keep the promise. Assumes nothing.
 use Prim.Native.Nat.{ℕ, _≤_, _<_}
-use mathlib.Core.Path.{_≡_, refl, sym, ap, _∙_}
+use mathlib.Core.Path.{_≡_, sym, ap, _∙_}
 use mathlib.Core.List.{List, _++_}
 use native.Mathlib.Omega.{arith}
 use borrow.Author.Tests.{eq-eqb, ne-eqb}
@@ -13,7 +13,6 @@ use Rattle.answers.proofs.VerdictLaws.{list-short, list-long}
 use Rattle.filing.specs.declared.Contents.{Contents}
 use Rattle.filing.specs.Contents.{contentsOf}
 use Rattle.filing.specs.Readings.{readContents}
-use Rattle.filing.specs.Valid.{Valid}
 use Rattle.filing.specs.Verdict.{filingVerdict}
 use Rattle.filing.proofs.ReadingLaws.{reading-accepted}
 use Rattle.valuation.specs.Numbers.{numbers, numberCount}

@@ -1,13 +1,12 @@
 -- The row of a place with the discount factors of the lists has the numbers of the definitions, none above the limit of a value. Assumes nothing.
 use Prim.Native.Nat.{ℕ, zero, suc, _≤_, _<_}
-use mathlib.Core.Path.{_≡_, ap, _∙_}
+use mathlib.Core.Path.{_≡_, ap}
 use mathlib.Core.Logic.{⊎-elim}
 use mathlib.Core.List.{List, _∷_}
 use native.Mathlib.Nat.{le-refl, le-trans, not-suc-le-zero, le-of-suc-le-suc, le-max-left, le-max-right, eq-or-lt-of-le, ne-of-gt}
 use native.Mathlib.Omega.{arith}
 use lib.ListN.{getD}
 use borrow.Author.Tests.{ne-eqb}
-use Rattle.lists.specs.Tables.{joined}
 use Rattle.lists.proofs.TableLaws.{table-getD, joined-le}
 use Rattle.schedule.specs.Limits.{balanceLimit}
 use Rattle.filing.specs.declared.Contents.{Contents}

@@ -1,10 +1,10 @@
 -- The totals that are taken from the rows of the places are those of the definitions, and the 568 numbers stand in the list. Assumes nothing.
-use Prim.Native.Nat.{ℕ, _+_, _*_, _^_, _≤_, _<_}
+use Prim.Native.Nat.{ℕ, _+_, _*_, _≤_, _<_}
 use mathlib.Core.Path.{_≡_, refl, ap, _∙_}
 use mathlib.Core.Bool.{Bool}
 use mathlib.Core.List.{List, _++_}
 use native.Mathlib.Omega.{arith}
-use lib.ListN.{length, getD, drop, List·getD-append}
+use lib.ListN.{length, drop, List·getD-append}
 use Rattle.lists.specs.Runs.{written}
 use Rattle.lists.specs.Sums.{sum, sumWhere}
 use Rattle.lists.specs.Tables.{tableFrom, table, joined}

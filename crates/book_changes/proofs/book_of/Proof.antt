@@ -1,6 +1,6 @@
 -- `book_changes::book_of` meets its contract. Assumes nothing.
 use borrow.Author.Needs.{needs}
-use mathlib.Core.Path.{_≡_, sym, _∙_}
+use mathlib.Core.Path.{sym, _∙_}
 use Rattle.answers.specs.Answers.{verdictOf}
 use Rattle.book_changes.proofs.ChangingLaws.{opening-refused, opening-accepted}
 use Rattle.book_changes.proofs.book_of.Statement.{statement}

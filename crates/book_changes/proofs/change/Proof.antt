@@ -1,8 +1,6 @@
 -- `book_changes::change` meets its contract: a place that is to hold nothing is cleared, another is set. Assumes nothing.
 use borrow.Author.Needs.{needs}
-use mathlib.Core.Path.{_≡_, sym, _∙_, subst}
-use Rattle.books.specs.Changes.{Change}
-use Rattle.books.specs.Promise.{ChangedOf}
+use mathlib.Core.Path.{sym, _∙_}
 use Rattle.book_changes.specs.Changing.{changeOf}
 use Rattle.book_changes.proofs.change.Statement.{statement}
 use Rattle.book_changes.proofs.change.Tie as tie

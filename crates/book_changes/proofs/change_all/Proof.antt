@@ -1,7 +1,7 @@
 -- `book_changes::change_all` meets its contract. The loop's invariant: none of the changes made is refused, and those still to be made give the book of all.
 -- Assumes nothing.
 use Prim.Native.Nat.{_-_, _/_}
-use mathlib.Core.Path.{_≡_, refl, sym, ap, _∙_}
+use mathlib.Core.Path.{refl, sym, _∙_}
 use native.Mathlib.Omega.{arith}
 use lib.ListN.{length}
 use Rattle.answers.specs.Answers.{verdictOf}

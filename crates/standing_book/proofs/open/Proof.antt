@@ -1,5 +1,4 @@
 -- `open` meets its contract. Assumes nothing.
-use mathlib.Core.Path.{refl}
 use Rattle.pricing.specs.Rounding.{roundingOf}
 use Rattle.books.proofs.OpeningLaws.{opened-yields, opened}
 use borrow.Author.Needs.{needs}

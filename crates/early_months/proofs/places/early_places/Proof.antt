@@ -1,14 +1,9 @@
 -- `early_months::places::early_places` meets its contract: the months before t have their places. Assumes nothing.
-use Prim.Native.Nat.{ℕ, suc, _+_, _*_, _-_, _≤_, _<_}
-use mathlib.Core.Path.{_≡_, refl, ap}
-use mathlib.Core.List.{List, []}
+use Prim.Native.Nat.{_-_, _≤_}
+use mathlib.Core.List.{[]}
 use native.Mathlib.Numerals.{add-one}
 use native.Mathlib.Omega.{arith}
-use lib.ListN.{getD}
-use Rattle.schedule.specs.Shift.{shiftedRate, pathRate}
-use Rattle.withdrawal.specs.Inner.Incentives.{partsOf, incentiveFrom}
 use Rattle.withdrawal.proofs.IncentiveLaws.{parts-within}
-use Rattle.month_places.specs.Places.{PlaceFor}
 use Rattle.month_places.proofs.FilledLaws.{FilledBy, filled-none, filled-more}
 use Rattle.early_months.specs.Places.{MonthPlaced}
 use Rattle.early_months.proofs.PathLaws.{path-suc}

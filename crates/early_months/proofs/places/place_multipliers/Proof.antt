@@ -1,6 +1,6 @@
 -- `early_months::places::place_multipliers` meets its contract: the places before i have their multipliers. Assumes nothing.
 use Prim.Native.Nat.{ℕ, _+_, _-_, _≤_, _<_}
-use mathlib.Core.Path.{_≡_, ap, _∙_}
+use mathlib.Core.Path.{_≡_, ap}
 use mathlib.Core.Bool.{Bool, false}
 use native.Mathlib.Omega.{arith}
 use Rattle.month_places.proofs.FilledLaws.{FilledBy, filled-none, filled-more}

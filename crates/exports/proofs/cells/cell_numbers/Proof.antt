@@ -1,9 +1,9 @@
 -- `exports::cells::cell_numbers` meets its contract: the cells passed are written. Assumes nothing.
-use Prim.Native.Nat.{ℕ, _+_, _*_, _-_, _≤_}
+use Prim.Native.Nat.{_+_, _*_, _-_, _≤_}
 use mathlib.Core.List.{[]}
 use mathlib.Core.Path.{_≡_, refl, _∙_}
 use native.Mathlib.Omega.{arith}
-use lib.ListN.{length, replicate}
+use lib.ListN.{replicate}
 use Rattle.lists.specs.Tables.{tableFrom, table, joined}
 use Rattle.lists.proofs.RunLaws.{Overwritten, overwritten-none, overwritten-row, overwritten-all}
 use Rattle.exports.specs.Converted.{pairAt, numbersOf}
