@@ -67,8 +67,8 @@ def one_place():
 
 
 def limits():
-    """Each limit and one more, at a place of each row with penalty and one without."""
-    for place in (0, 5, 10, 15, 24, 27, 32, 35):
+    """Each limit and one more, at every place."""
+    for place in range(36):
         row = POSITIONS[place // 4]
         most = 0 if place % 2 else 3_600
         calls = []
