@@ -1,8 +1,9 @@
 -- `read_text` meets its contract. The loop's invariant: the lines so far have their form, and their numbers are stored. Assumes nothing.
-use Prim.Native.Nat.{_+_, _*_, _-_, _≤_}
+use Prim.Native.Nat.{ℕ, _+_, _*_, _-_, _≤_}
 use native.Mathlib.Omega.{arith}
 use mathlib.Core.Path.{_≡_, sym, ap, _∙_}
 use mathlib.Core.Bool.{true}
+use mathlib.Core.List.{List}
 use borrow.Author.Needs.{needs}
 use borrow.Author.Tests.{not-true, not-false}
 use lib.ListN.{length}
@@ -22,6 +23,29 @@ Inv-loop text numbers₀ valuation count₀ at₀ numbers count at = LinesRead t
 
 abbrev μ-loop : tie.MeasureT-loop
 μ-loop text numbers₀ valuation count₀ at₀ numbers count at = length text + 1 - at
+
+-- the entry, and the line of the date, from the loop
+abbrev entry : tie.At-loop Inv-loop μ-loop → tie.Start Inv-loop μ-loop
+entry l = l .before .before .before .before .before .before .before .before
+
+abbrev dated-line : tie.At-loop Inv-loop μ-loop → tie.After-date-line Inv-loop μ-loop
+dated-line l = l .before .before .before .before .before
+
+abbrev text : tie.At-loop Inv-loop μ-loop → List ℕ
+text l = entry l .args .text .now
+
+-- the loop's test and the loop, from a line that was read, and that line from where it is stored
+abbrev tested : tie.After-certificate-line Inv-loop μ-loop → tie.In-loop Inv-loop μ-loop
+tested r = r .before
+
+abbrev turn : tie.After-certificate-line Inv-loop μ-loop → tie.At-loop Inv-loop μ-loop
+turn r = tested r .before
+
+abbrev line : tie.Else2 Inv-loop μ-loop → tie.After-certificate-line Inv-loop μ-loop
+line c = c .before .before
+
+abbrev stored : tie.After-slice-known2 Inv-loop μ-loop → tie.Else2 Inv-loop μ-loop
+stored c = c .before .before .before .before .before .before
 
 date-line-requires : tie.Need-date-line-requires Inv-loop μ-loop
 date-line-requires c κs = tt
@@ -66,52 +90,55 @@ certificate-line-requires : tie.Need-certificate-line-requires Inv-loop μ-loop
 certificate-line-requires c κs = tt
 
 add-t23 : tie.Need-add-t23 Inv-loop μ-loop
-add-t23 c = omega (arith, c .before .before .before .before .loop .inv .0 .room, c .before .before .before .loop-test .taken)
+add-t23 c = let r = c .before .before in
+    omega (arith, turn r .loop .inv .0 .room, tested r .loop-test .taken)
 
 same-length : tie.Need-same-length Inv-loop μ-loop
-same-length c = c .before .before .before .before .loop .inv .1 .as-long
+same-length c = turn (c .before .before) .loop .inv .1 .as-long
 
 returns-2 : tie.Need-returns-2 Inv-loop μ-loop
 unfolding readCount
-returns-2 c = let s = c .before .before .before .before .before .before .before .before .before .before .before .before .args .text .now in
-    let at = c .before .before .before .before .loop in
-    let line = c .before .before .certificate-line in
-    let form = sym (line-readable s (at .at) certificateForm (line .result) (line .ensures)) ∙ not-true _ (c .if2 .taken) in
-    let more = c .before .before .before .loop-test .taken in
+returns-2 c = let r = c .before .before in
+    let s = text (turn r) in
+    let at = turn r .loop in
+    let form = sym (line-readable s (at .at) certificateForm (r .certificate-line .result) (r .certificate-line .ensures)) ∙ not-true _ (c .if2 .taken) in
+    let more = tested r .loop-test .taken in
     let first = line-first s (at .count + 1) (at .at) (at .inv .0) more form in
     let count : readCount s ≡ at .count = omega (arith, first) in
-    let day = c .before .before .before .before .before .before .before .before .before .date-line in
+    let day = dated-line (turn r) .date-line in
     record {
       unreadable-is = omega (arith, line-fails s (at .count + 1) (at .at) (at .inv .0) more form);
       valuation-is = date-read s (day .result) (day .ensures);
       count-is = sym count;
       numbers-are = rw count (at .inv .1 .is);
-      fits = omega (arith, at .inv .1 .as-long, at .inv .0 .room, at .inv .0 .bound, c .before .before .before .before .before .before .before .before .before .before .before .before .pre);
+      fits = omega (arith, at .inv .1 .as-long, at .inv .0 .room, at .inv .0 .bound, entry (turn r) .pre);
     }
 
 -- the line is a certificate: its numbers, the place behind it, and room for them
-formed : (c : tie.Else2 Inv-loop μ-loop) → hasForm (c .before .before .before .before .before .before .before .before .before .before .before .before .args .text .now) (c .before .before .before .before .loop .at) certificateForm ≡ true
+formed : (c : tie.Else2 Inv-loop μ-loop) → hasForm (text (turn (line c))) (turn (line c) .loop .at) certificateForm ≡ true
 formed c =
-    let line = c .before .before .certificate-line in
-    sym (line-readable _ _ certificateForm (line .result) (line .ensures)) ∙ not-false _ (c .if2 .left)
+    let read = line c .certificate-line in
+    sym (line-readable _ _ certificateForm (read .result) (read .ensures)) ∙ not-false _ (c .if2 .left)
 
-values-are : (c : tie.Else2 Inv-loop μ-loop) → c .before .before .certificate-line .result .numbers ≡ formNumbers (c .before .before .before .before .before .before .before .before .before .before .before .before .args .text .now) (c .before .before .before .before .loop .at) certificateForm
-values-are c = certificate-read _ _ _ (c .before .before .certificate-line .ensures) (formed c) .0
+values-are : (c : tie.Else2 Inv-loop μ-loop) → line c .certificate-line .result .numbers ≡ formNumbers (text (turn (line c))) (turn (line c) .loop .at) certificateForm
+values-are c = certificate-read _ _ _ (line c .certificate-line .ensures) (formed c) .0
 
-next-is : (c : tie.Else2 Inv-loop μ-loop) → c .before .before .certificate-line .result .next ≡ formEnd (c .before .before .before .before .before .before .before .before .before .before .before .before .args .text .now) (c .before .before .before .before .loop .at) certificateForm
-next-is c = certificate-read _ _ _ (c .before .before .certificate-line .ensures) (formed c) .1
+next-is : (c : tie.Else2 Inv-loop μ-loop) → line c .certificate-line .result .next ≡ formEnd (text (turn (line c))) (turn (line c) .loop .at) certificateForm
+next-is c = certificate-read _ _ _ (line c .certificate-line .ensures) (formed c) .1
 
-stored-long : (c : tie.Else2 Inv-loop μ-loop) → length (c .before .before .certificate-line .result .numbers) ≡ 8
+stored-long : (c : tie.Else2 Inv-loop μ-loop) → length (line c .certificate-line .result .numbers) ≡ 8
 stored-long c = rw (values-are c) (certificate-length _ _)
 
-stored-room : (c : tie.Else2 Inv-loop μ-loop) → 8 * c .before .before .before .before .loop .count + 8 ≤ length (c .before .before .before .before .loop .numbers)
+stored-room : (c : tie.Else2 Inv-loop μ-loop) → 8 * turn (line c) .loop .count + 8 ≤ length (turn (line c) .loop .numbers)
 stored-room c =
-    let at = c .before .before .before .before .loop in
-    let next = next-read (c .before .before .before .before .before .before .before .before .before .before .before .before .args .text .now) (at .count + 1) (at .at) (at .inv .0) (c .before .before .before .loop-test .taken) (formed c) in
-    omega (arith, at .inv .1 .as-long, next .room, next .bound, c .before .before .before .before .before .before .before .before .before .before .before .before .pre)
+    let l = turn (line c) in
+    let at = l .loop in
+    let next = next-read (text l) (at .count + 1) (at .at) (at .inv .0) (tested (line c) .loop-test .taken) (formed c) in
+    omega (arith, at .inv .1 .as-long, next .room, next .bound, entry l .pre)
 
 mul-write : tie.Need-mul-write Inv-loop μ-loop
-mul-write c = omega (arith, c .before .before .before .before .before .before .loop .inv .0 .room, c .before .before .before .before .before .loop-test .taken)
+mul-write c = let r = line (c .before .before) in
+    omega (arith, turn r .loop .inv .0 .room, tested r .loop-test .taken)
 
 slice-aggregate-write : tie.Need-slice-aggregate-write Inv-loop μ-loop
 slice-aggregate-write c = search needs
@@ -120,21 +147,25 @@ write-requires : tie.Need-write-requires Inv-loop μ-loop
 write-requires c κs = omega (arith, stored-room (c .before .before .before), stored-long (c .before .before .before))
 
 add-count : tie.Need-add-count Inv-loop μ-loop
-add-count c = omega (arith, c .before .before .before .before .before .before .before .before .before .before .loop .inv .0 .room, c .before .before .before .before .before .before .before .before .before .loop-test .taken)
+add-count c = let r = line (stored c) in
+    omega (arith, turn r .loop .inv .0 .room, tested r .loop-test .taken)
 
 loop-less : tie.Need-loop-less Inv-loop μ-loop
-loop-less c = omega (arith, next-is (c .before .before .before .before .before .before), form-takes (c .before .before .before .before .before .before .before .before .before .before .before .before .before .before .before .before .before .before .args .text .now) _ (c .before .before .before .before .before .before .before .before .before .before .loop .at) (c .before .before .before .before .before .before .before .before .before .before .loop .inv .0) (c .before .before .before .before .before .before .before .before .before .loop-test .taken) (formed (c .before .before .before .before .before .before)), c .before .before .before .before .before .before .before .before .before .loop-test .taken)
+loop-less c =
+    let r = line (stored c) in
+    let at = turn r .loop in
+    let more = tested r .loop-test .taken in
+    omega (arith, next-is (stored c), form-takes (text (turn r)) _ (at .at) (at .inv .0) more (formed (stored c)), more)
 
 loop-again : tie.Need-loop-again Inv-loop μ-loop
-loop-again c = let s = c .before .before .before .before .before .before .before .before .before .before .before .before .before .before .before .before .before .before .args .text .now in
-    let at = c .before .before .before .before .before .before .before .before .before .before .loop in
-    let more = c .before .before .before .before .before .before .before .before .before .loop-test .taken in
-    let form = formed (c .before .before .before .before .before .before) in
-    let values = c .before .before .before .before .before .before .before .before .certificate-line .result .numbers in
-    let is = values-are (c .before .before .before .before .before .before) in
-    let room = stored-room (c .before .before .before .before .before .before) in (
-      rw (next-is (c .before .before .before .before .before .before)) (next-read s (at .count + 1) (at .at) (at .inv .0) more form),
-      rw (c .before .before .write .ensures) (stored-next s _ (at .numbers) (at .count) values (is ∙ numbers-are s (at .count) (at .at) (at .inv .0)) (omega (arith, room, at .inv .1 .as-long)) (at .inv .1)),
+loop-again c = let r = line (stored c) in
+    let s = text (turn r) in
+    let at = turn r .loop in
+    let values = r .certificate-line .result .numbers in
+    let are = values-are (stored c) ∙ numbers-are s (at .count) (at .at) (at .inv .0) in
+    let room = stored-room (stored c) in (
+      rw (next-is (stored c)) (next-read s (at .count + 1) (at .at) (at .inv .0) (tested r .loop-test .taken) (formed (stored c))),
+      rw (c .before .before .write .ensures) (stored-next s _ (at .numbers) (at .count) values are (omega (arith, room, at .inv .1 .as-long)) (at .inv .1)),
     )
 
 same-length-2 : tie.Need-same-length-2 Inv-loop μ-loop
@@ -142,17 +173,18 @@ same-length-2 c = c .before .loop .inv .1 .as-long
 
 returns-3 : tie.Need-returns-3 Inv-loop μ-loop
 unfolding readCount
-returns-3 c = let s = c .before .before .before .before .before .before .before .before .before .args .text .now in
-    let at = c .before .loop in
+returns-3 c = let l = c .before in
+    let s = text l in
+    let at = l .loop in
     let first = none-first s (at .count + 1) (at .at) (at .inv .0) (c .loop-test .left) in
     let count : readCount s ≡ at .count = omega (arith, first) in
-    let line = c .before .before .before .before .before .before .date-line in
+    let day = dated-line l .date-line in
     record {
       unreadable-is = sym (none-fails s (at .count + 1) (at .at) (at .inv .0) (c .loop-test .left));
-      valuation-is = date-read s (line .result) (line .ensures);
+      valuation-is = date-read s (day .result) (day .ensures);
       count-is = sym count;
       numbers-are = rw count (at .inv .1 .is);
-      fits = omega (arith, at .inv .1 .as-long, at .inv .0 .room, at .inv .0 .bound, c .before .before .before .before .before .before .before .before .before .pre);
+      fits = omega (arith, at .inv .1 .as-long, at .inv .0 .room, at .inv .0 .bound, entry l .pre);
     }
 
 pub read-text-spec : {M : Type 1} → statement M
