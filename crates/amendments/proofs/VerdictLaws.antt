@@ -9,7 +9,7 @@ use mathlib.Core.List.{List}
 use borrow.Author.Tests.{eqb-true, eqb-false, not-false, lt-ltb, le-ltb}
 use lib.Dec.{eqb}
 use lib.ListN.{length}
-use Rattle.records.specs.Inner.Notes.{cellCount}
+use Rattle.records.specs.Inner.Notes.{blockCount}
 use Rattle.records.proofs.RecordLaws.{first-le, first-passes}
 use Rattle.answers.specs.Verdict.{Verdict, accepted, refused, refusedIf, firstRefusal}
 use Rattle.answers.proofs.VerdictLaws.{first-passed, first-refused, first-none, condition-holds, condition-refuses, condition-none}
@@ -55,7 +55,7 @@ module _ (before after : Verdict) (at : ℕ) where
 
 module _ (s : List ℕ) where
   -- the first faulty record is the first repeated amendment before the first that is faulty otherwise, or that one
-  pub faulty-first : firstFaulty s ≡ repetitionsBelow s cellCount (firstPlain s)
+  pub faulty-first : firstFaulty s ≡ repetitionsBelow s blockCount (firstPlain s)
   unfolding firstRefused recordVerdict plainVerdict
   faulty-first =
       first-same s _ _ (length s) (λ at. fault-or (shapeVerdict s at) (bodyVerdict s at) at (amendmentRepeated s at))
@@ -64,7 +64,7 @@ module _ (s : List ℕ) where
 
   -- the first record that is faulty but for 16, and the first faulty one
   abbrev pub found : ℕ
-  found = repetitionsBelow s cellCount (firstPlain s)
+  found = repetitionsBelow s blockCount (firstPlain s)
 
   pub plain-le : firstPlain s ≤ length s
   unfolding firstRefused
@@ -98,7 +98,7 @@ module _ (s : List ℕ) where
 
   -- none before it
   pub here-first : firstPlain s ≤ found → firstFaulty s ≡ firstPlain s
-  here-first h = faulty-first ∙ le-antisymm (repetitions-le s cellCount (firstPlain s)) h
+  here-first h = faulty-first ∙ le-antisymm (repetitions-le s blockCount (firstPlain s)) h
 
   -- no record is faulty
   pub none-verdict : firstPlain s ≤ found → length s ≤ firstPlain s → recordsVerdict s ≡ accepted
@@ -113,4 +113,4 @@ module _ (s : List ℕ) where
   -- no record is faulty: none is faulty but for 16 either
   pub plain-passed : recordsVerdict s .number ≡ 0 → firstPlain s ≡ length s
   plain-passed h =
-      le-antisymm plain-le (omega (arith, records-passed s h, faulty-first, repetitions-le s cellCount (firstPlain s)))
+      le-antisymm plain-le (omega (arith, records-passed s h, faulty-first, repetitions-le s blockCount (firstPlain s)))

@@ -1,5 +1,6 @@
 // The records of a filing by all tests: those that the scan makes of each record, and 16, that no amendment of a cell comes with a number that an earlier one
-// has. One pass for a cell, with the set of the numbers met: in linear time for every input, and only for cells whose amendments do not rise.
+// has. One pass for a block of numbers, with the set of the cells' numbers met: in linear time for every input, and only for blocks with a number that does not
+// rise.
 
 mod pass;
 
@@ -10,8 +11,8 @@ use answers::first_refusal;
 use faults::check_body;
 use faults::check_shape;
 use faults::refused_if;
+use records::BLOCKS;
 use records::CELLS;
-use records::FIRST_CELL;
 use records::KINDS;
 use records::items::Item;
 use records::items::record_item;
@@ -23,7 +24,7 @@ ghost use Prim.Native.Nat.{_≤_, _<_};
 ghost use lib.ListN.{length};
 ghost use Rattle.answers.specs.Answers.{verdictOf};
 ghost use Rattle.records.specs.Records.{firstRecord};
-ghost use Rattle.records.specs.Inner.Notes.{cellCount, notedAs, notedBefore};
+ghost use Rattle.records.specs.Inner.Notes.{blockCount, notedAs, notedBefore};
 ghost use Rattle.faults.specs.Faults.{amendmentRepeated};
 ghost use Rattle.faults.specs.RecordVerdicts.{recordVerdict, firstFaulty, recordsVerdict};
 ghost use Rattle.faults.specs.Inner.PlainVerdicts.{firstPlain};
@@ -35,7 +36,7 @@ pub fn check_records(
     sheets: &mut [usize; KINDS],
     cells: &mut [usize; CELLS],
     counting: &mut [usize; CELLS],
-    falling: &mut [bool; CELLS],
+    falling: &mut [bool; BLOCKS],
 ) -> Scanned
     ensures { λ r. ⌜ (verdictOf (r .answer) ≡ recordsVerdict (now (s .entry)))
         × (notedAs (now (sheets .exit)) (now (cells .exit)) (now (counting .exit)) (now (falling .exit))
@@ -86,27 +87,27 @@ fn amendment_repeated(s: &[u8], at: usize) -> bool
 }
 
 // The first record before `end` that amends a cell with a number that an earlier one has: `end` where there is none.
-fn first_repetition(s: &[u8], falling: &[bool; CELLS], end: usize) -> usize
+fn first_repetition(s: &[u8], falling: &[bool; BLOCKS], end: usize) -> usize
     requires { ⌜ (end ≤ length (now s)) × (now falling ≡ notedBefore (now s) end .falling) ⌝ }
-    ensures { λ r. ⌜ r ≡ repetitionsBelow (now (s .entry)) cellCount end ⌝ }
+    ensures { λ r. ⌜ r ≡ repetitionsBelow (now (s .entry)) blockCount end ⌝ }
 {
     let mut first = end;
     let mut i: usize = 0;
-    while i < CELLS {
-        first = cell_repetition(s, FIRST_CELL + (i as u64), falling[i], first);
+    while i < BLOCKS {
+        first = block_repetition(s, i, falling[i], first);
         i += 1;
     }
     first
 }
 
-// The first record before `end` that amends a cell with a number that an earlier one has. A cell whose amendments rise has none, and needs no pass.
-fn cell_repetition(s: &[u8], cell: u64, falling: bool, end: usize) -> usize
-    requires { ⌜ end ≤ length (now s) ⌝ }
-    requires { ⌜ (falling ≡ false → firstRecord (now s) (repeats (now s) cell) end ≡ end) ⌝ }
-    ensures { λ r. ⌜ r ≡ firstRecord (now (s .entry)) (repeats (now (s .entry)) cell) end ⌝ }
+// The first record before `end` that amends a cell with a number of the block that an earlier one has. Where the numbers rise there is none, and no pass is made.
+fn block_repetition(s: &[u8], block: usize, falling: bool, end: usize) -> usize
+    requires { ⌜ (end ≤ length (now s)) × (block < blockCount) ⌝ }
+    requires { ⌜ (falling ≡ false → firstRecord (now s) (repeats (now s) block) end ≡ end) ⌝ }
+    ensures { λ r. ⌜ r ≡ firstRecord (now (s .entry)) (repeats (now (s .entry)) block) end ⌝ }
 {
     if falling {
-        repetition(s, cell, end)
+        repetition(s, block, end)
     } else {
         end
     }

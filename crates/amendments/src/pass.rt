@@ -1,28 +1,31 @@
-// A pass over the records for one cell.
+// A pass over the records for one block of numbers.
 use numbers::WORDS;
 use numbers::holds;
 use numbers::put;
+use records::BLOCK;
+use records::FIRST_CELL;
 use records::fields::record_length;
 use records::items::Item;
 use records::items::record_item;
 ghost use mathlib.Core.Path.{_≡_};
-ghost use Prim.Native.Nat.{_≤_, _<_};
+ghost use Prim.Native.Nat.{_+_, _≤_, _<_};
 ghost use lib.Dec.{ltb};
 ghost use lib.ListN.{length};
 ghost use Rattle.records.specs.declared.items.Item.the-variants.{Amendment};
 ghost use Rattle.records.specs.Records.{nextRecord, firstRecord};
+ghost use Rattle.records.specs.Inner.Notes.{firstCell, cellCount, blockCount};
 ghost use Rattle.records.specs.Items.{sameItem, recordItem, firstWith};
-ghost use Rattle.amendments.specs.Inner.Repetitions.{repeats, metAgain, metWith};
+ghost use Rattle.amendments.specs.Inner.Repetitions.{repeats, keyOf, metAgain, metWith};
 
-// The first record before `end` that amends a cell with a number that an earlier one has: `end` where there is none.
-pub(crate) fn repetition(s: &[u8], cell: u64, end: usize) -> usize
-    requires { ⌜ end ≤ length (now s) ⌝ }
-    ensures { λ r. ⌜ r ≡ firstRecord (now (s .entry)) (repeats (now (s .entry)) cell) end ⌝ }
+// The first record before `end` that amends a cell with a number of the block that an earlier one has: `end` where there is none.
+pub(crate) fn repetition(s: &[u8], block: usize, end: usize) -> usize
+    requires { ⌜ (end ≤ length (now s)) × (block < blockCount) ⌝ }
+    ensures { λ r. ⌜ r ≡ firstRecord (now (s .entry)) (repeats (now (s .entry)) block) end ⌝ }
 {
     let mut met = [0; WORDS];
     let mut at = 0;
     while at < end {
-        if meets(s, cell, at, &mut met) {
+        if meets(s, block, at, &mut met) {
             return at;
         }
         at = next_record(s, at);
@@ -30,24 +33,34 @@ pub(crate) fn repetition(s: &[u8], cell: u64, end: usize) -> usize
     end
 }
 
-// The record amends the cell with a number that was met; its number is met.
-fn meets(s: &[u8], cell: u64, at: usize, met: &mut [u64; WORDS]) -> bool
-    ensures { λ r. ⌜ (r ≡ metAgain cell (recordItem (now (s .entry)) at) (now (met .entry)))
-        × (now (met .exit) ≡ metWith cell (recordItem (now (s .entry)) at) (now (met .entry))) ⌝ }
+// The record amends a cell with a number of the block that was met for it; it is met.
+fn meets(s: &[u8], block: usize, at: usize, met: &mut [u64; WORDS]) -> bool
+    requires { ⌜ block < blockCount ⌝ }
+    ensures { λ r. ⌜ (r ≡ metAgain block (recordItem (now (s .entry)) at) (now (met .entry)))
+        × (now (met .exit) ≡ metWith block (recordItem (now (s .entry)) at) (now (met .entry))) ⌝ }
 {
     match record_item(s, at) {
         Item::Cell(_) => false,
         Item::Sheet(_) => false,
-        Item::Amendment(n, number) => {
-            if n != cell {
+        Item::Amendment(cell, number) => {
+            if (number / BLOCK) as usize != block {
                 return false;
             }
-            let again = holds(met, number);
-            put(met, number);
+            let key = key_of(cell, number);
+            let again = holds(met, key);
+            put(met, key);
             again
         }
         Item::Nothing => false,
     }
+}
+
+// What stands in a block's set for a cell and a number.
+fn key_of(cell: u64, number: u16) -> u16
+    requires { ⌜ (firstCell ≤ cell) × (cell < firstCell + cellCount) ⌝ }
+    ensures { λ r. ⌜ r ≡ keyOf cell number ⌝ }
+{
+    (cell - FIRST_CELL) as u16 * BLOCK + number % BLOCK
 }
 
 // An amendment of a cell with a number stands before `end`.

@@ -9,6 +9,7 @@ use amendments::check_records;
 use answers::Answer;
 use answers::number;
 use conditions::check_cells;
+use records::BLOCKS;
 use records::CELLS;
 use records::KINDS;
 ghost use mathlib.Core.Path.{_≡_};
@@ -33,7 +34,7 @@ pub fn read(filing: &[u8]) -> Reading
     let mut sheets = [0; KINDS];
     let mut cells = [0; CELLS];
     let mut counting = [0; CELLS];
-    let mut falling = [false; CELLS];
+    let mut falling = [false; BLOCKS];
     let checked = check_records(filing, &mut sheets, &mut cells, &mut counting, &mut falling);
     let records = checked.answer;
     if number(records) != 0 {

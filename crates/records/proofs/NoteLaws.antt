@@ -1,6 +1,6 @@
 -- The rank of a record, and what is noted of the records before one: where an item is noted, and what is noted once all of them are read.
 -- Assumes nothing.
-use Prim.Native.Nat.{ℕ, _+_, _-_, _≤_, _<_}
+use Prim.Native.Nat.{ℕ, _+_, _-_, _/_, _^_, _≤_, _<_}
 use native.Mathlib.Omega.{arith}
 use mathlib.Core.Path.{_≡_, refl, ap, _∙_}
 use mathlib.Core.Bool.{Bool, true, false, cond, _||_}
@@ -14,8 +14,18 @@ use Rattle.records.specs.declared.items.Item.the-variants.{Cell, Sheet, 
 use Rattle.records.specs.Kinds.{kindCount}
 use Rattle.records.specs.Items.{sameItem, recordItem, firstWith}
 use Rattle.records.specs.Counting.{itemRank, rank, counting, countingBefore}
-use Rattle.records.specs.Inner.Notes.{firstCell, cellCount, offsetBefore, outranked, fallsBefore, notedBefore, notedAs, noteCounting, noteFalling, noteItem}
+use Rattle.records.specs.Inner.Notes.{firstCell, cellCount, offsetBefore, blockSize, blockCount, blockOf, outranked, fallsBefore, notedBefore, notedAs, noteCounting, noteFalling, noteItem}
 use Rattle.records.proofs.RecordLaws.{first-le}
+
+-- a number has one of the blocks
+pub block-lt : (number : ℕ) → blockOf number < blockCount
+unfolding blockOf
+block-lt number = omega arith
+
+-- the blocks of numbers of 2 bytes are theirs alone
+pub block-is : (number : ℕ) → number < 2 ^ 16 → number / blockSize ≡ blockOf number
+unfolding blockOf
+block-is number h = omega arith
 
 module _ (s : List ℕ) where
   -- the rank of a record for its own cell
@@ -28,13 +38,15 @@ module _ (s : List ℕ) where
   rank-of-amendment at cell number e = rw e (simp (eq-eqb cell cell refl))
 
   -- an amendment is noted, by which record counts then and whether it ranks no higher
-  pub note-amendment : (sheets cells numbers : List ℕ) (falling : List Bool) {next : ℕ} {falls : Bool} (at cell number : ℕ) → recordItem s at ≡ Amendment cell number
+  pub note-amendment : (sheets cells numbers : List ℕ) (falling : List Bool) {next block : ℕ} {falls : Bool} (at cell number : ℕ)
+      → recordItem s at ≡ Amendment cell number
       → next ≡ counting s cell (getD numbers (cell - firstCell) 0) at
+      → block ≡ blockOf number
       → falls ≡ outranked s cell (getD numbers (cell - firstCell) 0) at
-      → notedAs sheets cells (set numbers (cell - firstCell) next) (set falling (cell - firstCell) (getD falling (cell - firstCell) false || falls))
+      → notedAs sheets cells (set numbers (cell - firstCell) next) (set falling block (getD falling block false || falls))
       ≡ noteItem s (notedAs sheets cells numbers falling) (recordItem s at) at
   unfolding noteItem noteCounting noteFalling
-  note-amendment sheets cells numbers falling at cell number e p q = rw (e, p, q)
+  note-amendment sheets cells numbers falling at cell number e p b q = rw (e, p, b, q)
 
   -- what is noted of a listed cell and of a kind of sheet
   pub noted-cell : (at cell : ℕ) → firstCell ≤ cell → cell < firstCell + cellCount
@@ -57,13 +69,9 @@ module _ (s : List ℕ) where
       tableFrom-getD firstCell cellCount (λ (n : ℕ). countingBefore s n at) (cell - firstCell) 0 (omega arith)
       ∙ ap (λ (n : ℕ). countingBefore s n at) e
 
-  pub noted-falling : (at cell : ℕ) → firstCell ≤ cell → cell < firstCell + cellCount
-      → getD (notedBefore s at .falling) (cell - firstCell) false ≡ fallsBefore s cell at
+  pub noted-falling : (at block : ℕ) → block < blockCount → getD (notedBefore s at .falling) block false ≡ fallsBefore s block at
   unfolding notedBefore
-  noted-falling at cell l u =
-      let e : firstCell + (cell - firstCell) ≡ cell = omega arith in
-      tableFrom-getD firstCell cellCount (λ (n : ℕ). fallsBefore s n at) (cell - firstCell) false (omega arith)
-      ∙ ap (λ (n : ℕ). fallsBefore s n at) e
+  noted-falling at block h = table-getD blockCount (λ (n : ℕ). fallsBefore s n at) block false h
 
   -- all records read: the first of each item
   pub offset-end : (item : Item) → offsetBefore s (length s) item ≡ firstWith s item (length s)

@@ -13,3 +13,8 @@ pub const KINDS: usize = 8;
 pub const FIRST_CELL: u64 = 601;
 
 pub const CELLS: usize = 61;
+
+// The numbers of amendments are noted by blocks of so many.
+pub const BLOCK: u16 = 512;
+
+pub const BLOCKS: usize = 128;

@@ -1,4 +1,6 @@
 // What is noted of the records of a filing.
+use crate::BLOCK;
+use crate::BLOCKS;
 use crate::CELLS;
 use crate::FIRST_CELL;
 use crate::KINDS;
@@ -13,14 +15,15 @@ ghost use Rattle.records.specs.Counting as counts;
 ghost use Rattle.records.specs.Inner.Notes as notes;
 
 // The record at an offset is noted. The arrays hold the offset of the first record of each kind of sheet, and of each cell from 601 on; of the record that counts for
-// each cell: the input's length where there is none. And for each cell whether an amendment of it ranks no higher than the record that counts before it.
+// each cell: the input's length where there is none. And for each block of numbers whether an amendment with one of them ranks no higher than the record
+// that counts before it.
 pub fn note(
     s: &[u8],
     at: usize,
     sheets: &mut [usize; KINDS],
     cells: &mut [usize; CELLS],
     counting: &mut [usize; CELLS],
-    falling: &mut [bool; CELLS],
+    falling: &mut [bool; BLOCKS],
 )
     ensures { λ _. ⌜ notes.notedAs (now (sheets .exit)) (now (cells .exit)) (now (counting .exit)) (now (falling .exit))
         ≡ notes.noteItem (now (s .entry)) (notes.notedAs (now (sheets .entry)) (now (cells .entry)) (now (counting .entry)) (now (falling .entry)))
@@ -37,8 +40,9 @@ pub fn note(
             let i = (cell - FIRST_CELL) as usize;
             let before = counting[i];
             let own = number as u64 + 1;
+            let block = (number / BLOCK) as usize;
             counting[i] = counting_of(s, cell, own, before, at);
-            falling[i] = falling[i] | (own <= rank(s, cell, before));
+            falling[block] = falling[block] | (own <= rank(s, cell, before));
         }
         Item::Nothing => {}
     }

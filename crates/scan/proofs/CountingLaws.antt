@@ -9,10 +9,12 @@ use mathlib.Core.List.{List}
 use borrow.Author.Tests.{le-leb, lt-leb, leb-false, ltb-true, ltb-false, le-ltb}
 use lib.Dec.{leb, ltb}
 use lib.ListN.{length}
+use Rattle.records.specs.declared.items.Item.{Item}
+use Rattle.records.specs.declared.items.Item.the-variants.{Cell, Sheet, Amendment, Nothing}
 use Rattle.records.specs.Records.{nextRecord}
 use Rattle.records.specs.Items.{recordItem}
 use Rattle.records.specs.Counting.{itemRank, rank, counting, countsFrom, countingBefore}
-use Rattle.records.specs.Inner.Notes.{amendsCell, falls, fallsBefore}
+use Rattle.records.specs.Inner.Notes.{amendsIn, fallsAs, falls, fallsBefore}
 use Rattle.scan.proofs.SearchLaws.{Reached, here, step, next-lt, reached-le, reached-next, found-next}
 
 module _ (s : List ℕ) (cell : ℕ) where
@@ -53,18 +55,6 @@ module _ (s : List ℕ) (cell : ℕ) where
   counting-stays {at} r none =
       let none-above : rank s cell at ≤ rank s cell (countingBefore s cell at) = omega (arith, none) in
       sym (counting-next r ∙ simp (le-ltb (rank s cell (countingBefore s cell at)) (rank s cell at) none-above))
-
-  pub falls-next : {at : ℕ} → Reached s 0 at → fallsBefore s cell (nextRecord s at) ≡ (fallsBefore s cell at || falls s cell at)
-  unfolding fallsBefore
-  falls-next r = found-next s (falls s cell) r
-
-  pub falls-stays : {at : ℕ} → Reached s 0 at → amendsCell cell (recordItem s at) ≡ false → fallsBefore s cell at ≡ fallsBefore s cell (nextRecord s at)
-  unfolding falls
-  falls-stays {at} r none = sym (falls-next r ∙ rw none (or-false (fallsBefore s cell at)))
-    where
-      or-false : (b : Bool) → (b || false) ≡ b
-      or-false true = refl
-      or-false false = refl
 
   -- the record that counts ranks as high as each of the records
   counting-above : (before at : ℕ) → (rank s cell before ≤ rank s cell (counting s cell before at)) × (rank s cell at ≤ rank s cell (counting s cell before at))
@@ -120,3 +110,23 @@ module _ (s : List ℕ) (cell : ℕ) where
       → P (countingBefore s cell end)
   unfolding countingBefore
   counting-holds P end none each = counts-holds P end (length s) 0 end here none each
+
+module _ (s : List ℕ) (block : ℕ) where
+  pub falls-next : {at : ℕ} → Reached s 0 at → fallsBefore s block (nextRecord s at) ≡ (fallsBefore s block at || falls s block at)
+  unfolding fallsBefore
+  falls-next r = found-next s (falls s block) r
+
+  -- a record that is no amendment with a number of the block changes nothing
+  pub falls-stays : {at : ℕ} → Reached s 0 at → amendsIn block (recordItem s at) ≡ false → fallsBefore s block at ≡ fallsBefore s block (nextRecord s at)
+  unfolding falls amendsIn fallsAs
+  falls-stays {at} r none = sym (falls-next r ∙ rw (not-falling (recordItem s at) none) (or-false (fallsBefore s block at)))
+    where
+      or-false : (b : Bool) → (b || false) ≡ b
+      or-false true = refl
+      or-false false = refl
+
+      not-falling : (item : Item) → amendsIn block item ≡ false → fallsAs s block at item ≡ false
+      not-falling (Cell n) e = refl
+      not-falling (Sheet kind) e = refl
+      not-falling (Amendment n number) e = simp e
+      not-falling Nothing e = refl

@@ -16,9 +16,9 @@ use Rattle.records.specs.Records.{nextRecord, searchRecords, firstRecord}
 use Rattle.records.specs.Kinds.{kindCount}
 use Rattle.records.specs.Items.{sameItem, recordItem, firstWith}
 use Rattle.records.specs.Counting.{itemRank, countsFrom, countingBefore}
-use Rattle.records.specs.Inner.Notes.{Noted, firstCell, cellCount, offsetBefore, amendsCell, falls, fallsBefore, notedBefore, nothingNoted, noteCounting, noteFalling, noteItem}
+use Rattle.records.specs.Inner.Notes.{Noted, firstCell, cellCount, offsetBefore, blockCount, blockOf, amendsIn, fallsAs, falls, fallsBefore, notedBefore, nothingNoted, noteCounting, noteFalling, noteItem}
 use Rattle.records.proofs.ItemLaws.{record-of-cell, record-of-sheet, record-of-amendment}
-use Rattle.records.proofs.NoteLaws.{noted-counting, noted-falling}
+use Rattle.records.proofs.NoteLaws.{block-lt, noted-counting, noted-falling}
 use Rattle.faults.specs.Faults.{standsBefore, repeated}
 use Rattle.faults.proofs.RepetitionLaws.{single-stands}
 use Rattle.scan.proofs.SearchLaws.{Reached, next-lt, first-next}
@@ -88,9 +88,9 @@ module _ (s : List ℕ) (at : ℕ) (reached : Reached s 0 at) where
   unfolding notedBefore
   counting-stay none = table-same firstCell cellCount _ _ (λ n l u. counting-stays s n reached (none n))
 
-  falling-stay : ((cell : ℕ) → amendsCell cell (recordItem s at) ≡ false) → notedBefore s at .falling ≡ notedBefore s (nextRecord s at) .falling
+  falling-stay : ((block : ℕ) → amendsIn block (recordItem s at) ≡ false) → notedBefore s at .falling ≡ notedBefore s (nextRecord s at) .falling
   unfolding notedBefore
-  falling-stay none = table-same firstCell cellCount _ _ (λ n l u. falls-stays s n reached (none n))
+  falling-stay none = table-same 0 blockCount _ _ (λ n l u. falls-stays s n reached (none n))
 
   -- a record of a cell is noted among those that count
   counting-set : (cell : ℕ) → firstCell ≤ cell → cell < firstCell + cellCount → ((n : ℕ) → (cell ≡ n → ⊥) → itemRank n (recordItem s at) ≡ 0)
@@ -103,14 +103,13 @@ module _ (s : List ℕ) (at : ℕ) (reached : Reached s 0 at) where
       (λ n q. counting-stays s n reached (other n (λ p. q (i ∙ p))))
 
   falling-set : (cell number : ℕ) → firstCell ≤ cell → cell < firstCell + cellCount → recordItem s at ≡ Amendment cell number
-      → noteFalling s (notedBefore s at) cell at ≡ notedBefore s (nextRecord s at) .falling
-  unfolding noteFalling notedBefore falls amendsCell
+      → noteFalling s (notedBefore s at) cell number at ≡ notedBefore s (nextRecord s at) .falling
+  unfolding noteFalling notedBefore falls fallsAs amendsIn
   falling-set cell number l u e =
-      let i : firstCell + (cell - firstCell) ≡ cell = omega arith in
-      table-set firstCell cellCount _ _ (cell - firstCell) _ (omega arith)
-      (rw (i, noted-counting s at cell l u, noted-falling s at cell l u)
-      (sym (falls-next s cell reached ∙ rw e (simp (eq-eqb cell cell refl)))))
-      (λ n q. falls-stays s n reached (rw e (ne-eqb cell n (λ p. q (i ∙ p)))))
+      table-set 0 blockCount _ _ (blockOf number) _ (block-lt number)
+      (rw (zero-add, noted-counting s at cell l u, noted-falling s at (blockOf number) (block-lt number))
+      (sym (falls-next s (blockOf number) reached ∙ rw e (simp (eq-eqb (blockOf number) (blockOf number) refl)))))
+      (λ n q. falls-stays s n reached (rw e (ne-eqb (blockOf number) n (λ p. q (zero-add (blockOf number) ∙ p)))))
 
   cell-set : (cell : ℕ) → recordItem s at ≡ Cell cell → standsBefore s at ≡ false
       → set (notedBefore s at .cells) (cell - firstCell) at ≡ notedBefore s (nextRecord s at) .cells
@@ -132,7 +131,7 @@ module _ (s : List ℕ) (at : ℕ) (reached : Reached s 0 at) where
 
   -- one record more
   pub noted-next : repeated s at ≡ false → noteItem s (notedBefore s at) (recordItem s at) at ≡ notedBefore s (nextRecord s at)
-  unfolding noteItem sameItem itemRank amendsCell
+  unfolding noteItem sameItem itemRank amendsIn
   noted-next single = by (recordItem s at) refl
     where
       by : (item : Item) → recordItem s at ≡ item → noteItem s (notedBefore s at) item at ≡ notedBefore s (nextRecord s at)

@@ -8,6 +8,7 @@ use answers::Answer;
 use answers::number;
 use faults::check_record;
 use faults::sound_cell;
+use records::BLOCKS;
 use records::CELLS;
 use records::KINDS;
 use records::fields::record_cell;
@@ -43,7 +44,7 @@ pub fn scan(
     sheets: &mut [usize; KINDS],
     cells: &mut [usize; CELLS],
     counting: &mut [usize; CELLS],
-    falling: &mut [bool; CELLS],
+    falling: &mut [bool; BLOCKS],
 ) -> Scanned
     ensures { λ r. ⌜ (verdictOf (r .answer) ≡ plainsVerdict (now (s .entry)))
         × (notedAs (now (sheets .exit)) (now (cells .exit)) (now (counting .exit)) (now (falling .exit))
@@ -53,7 +54,7 @@ pub fn scan(
     *sheets = [s.len(); KINDS];
     *cells = [s.len(); CELLS];
     *counting = [s.len(); CELLS];
-    *falling = [false; CELLS];
+    *falling = [false; BLOCKS];
     let limits = cell_limits();
     let mut at = 0;
     while at < s.len() {
@@ -76,7 +77,7 @@ fn visit(
     sheets: &mut [usize; KINDS],
     cells: &mut [usize; CELLS],
     counting: &mut [usize; CELLS],
-    falling: &mut [bool; CELLS],
+    falling: &mut [bool; BLOCKS],
     limits: &[u64; CELLS],
 ) -> Answer
     requires { ⌜ (at < length (now s)) × (notedAs (now sheets) (now cells) (now counting) (now falling) ≡ notedBefore (now s) at) × (now limits ≡ cellLimits) ⌝ }

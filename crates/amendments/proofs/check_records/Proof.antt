@@ -6,7 +6,7 @@ use mathlib.Core.Path.{_≡_, sym, ap, _∙_}
 use mathlib.Core.List.{List}
 use Rattle.answers.specs.Verdict.{accepted, refused}
 use Rattle.answers.specs.Answers.{verdictOf}
-use Rattle.records.specs.Inner.Notes.{Noted, cellCount, notedBefore}
+use Rattle.records.specs.Inner.Notes.{Noted, blockCount, notedBefore}
 use Rattle.faults.specs.RecordVerdicts.{recordVerdict}
 use Rattle.faults.specs.Inner.PlainVerdicts.{firstPlain}
 use Rattle.amendments.specs.Inner.Repetitions.{repetitionsBelow}
@@ -34,7 +34,7 @@ end-is : (c : tie.After-first-repetition) → scan-of c .scan .result .end ≡ f
 end-is c = scan-of c .scan .ensures .2
 
 first-is : (c : tie.After-first-repetition) → c .first-repetition .result ≡ found (bytes c)
-first-is c = c .first-repetition .ensures ∙ ap (repetitionsBelow (bytes c) cellCount) (end-is c)
+first-is c = c .first-repetition .ensures ∙ ap (repetitionsBelow (bytes c) blockCount) (end-is c)
 
 -- no repetition before the end of the scan
 none-before : (c : tie.Else1) → firstPlain (bytes (c .before)) ≤ found (bytes (c .before))

@@ -1,4 +1,4 @@
--- `first_repetition` meets its contract. The loop's invariant: the first repetition of the cells passed. A cell whose amendments rise has none.
+-- `first_repetition` meets its contract. The loop's invariant: the first repetition of the blocks passed. A block whose numbers rise has none.
 -- Assumes nothing.
 use Prim.Native.Nat.{_+_, _-_, _≤_}
 use native.Mathlib.Numerals.{add-one}
@@ -7,7 +7,7 @@ use mathlib.Core.Path.{_≡_, refl, sym, ap, _∙_}
 use mathlib.Core.Bool.{Bool, false}
 use mathlib.Core.List.{List}
 use lib.ListN.{getD}
-use Rattle.records.specs.Inner.Notes.{firstCell, cellCount}
+use Rattle.records.specs.Inner.Notes.{blockCount}
 use Rattle.records.proofs.NoteLaws.{noted-falling}
 use Rattle.amendments.specs.Inner.Repetitions.{repetitionsBelow}
 use Rattle.amendments.proofs.RepetitionLaws.{rising-single, repetitions-le}
@@ -15,33 +15,29 @@ use Rattle.amendments.proofs.first_repetition.Statement.{statement}
 use Rattle.amendments.proofs.first_repetition.Tie as tie
 
 abbrev Inv-loop : tie.InvT-loop
-Inv-loop s falling end first₀ i₀ first i = (i ≤ cellCount) × (first ≡ repetitionsBelow s i end)
+Inv-loop s falling end first₀ i₀ first i = (i ≤ blockCount) × (first ≡ repetitionsBelow s i end)
 
 abbrev μ-loop : tie.MeasureT-loop
-μ-loop s falling end first₀ i₀ first i = cellCount - i
+μ-loop s falling end first₀ i₀ first i = blockCount - i
 
 loop-holds : tie.Need-loop-holds Inv-loop μ-loop
 unfolding repetitionsBelow
 loop-holds c = (omega arith, refl)
 
-add-cell-repetition : tie.Need-add-cell-repetition Inv-loop μ-loop
-add-cell-repetition c = omega arith
+element-copy-out-block-repetition : tie.Need-element-copy-out-block-repetition Inv-loop μ-loop
+element-copy-out-block-repetition c = omega arith
 
-element-copy-out-cell-repetition : tie.Need-element-copy-out-cell-repetition Inv-loop μ-loop
-element-copy-out-cell-repetition c = omega arith
-
-cell-repetition-requires : tie.Need-cell-repetition-requires Inv-loop μ-loop
-cell-repetition-requires c κs =
+block-repetition-requires : tie.Need-block-repetition-requires Inv-loop μ-loop
+block-repetition-requires c κs =
     let start = c .before .before .before .before in
     let loop = c .before .before .loop in
     let s = start .args .s .now in
     let end = start .args .end in
     let i = loop .i in
     let first-le : loop .first ≤ end = rw (loop .inv .1) (repetitions-le s i end) in
-    let place : firstCell + i - firstCell ≡ i = omega arith in
     let falling = ap (λ (l : List Bool). getD l i false) (start .pre .1) in
-    let is = rw place at (noted-falling s end (firstCell + i) (omega arith) (omega arith)) in
-    (omega (arith, first-le, start .pre .0), λ rises. rising-single s (firstCell + i) end (loop .first) (sym is ∙ sym falling ∙ rises) first-le)
+    let is = noted-falling s end i (omega arith) in
+    ((omega (arith, first-le, start .pre .0), omega arith), λ rises. rising-single s i end (loop .first) (sym is ∙ sym falling ∙ rises) first-le)
 
 add-i : tie.Need-add-i Inv-loop μ-loop
 add-i c = omega arith
@@ -53,11 +49,11 @@ loop-again : tie.Need-loop-again Inv-loop μ-loop
 unfolding repetitionsBelow
 loop-again c =
     let loop = c .before .before .before .loop in
-    (omega arith, c .cell-repetition .ensures ∙ rw (loop .inv .1, add-one))
+    (omega arith, c .block-repetition .ensures ∙ rw (loop .inv .1, add-one))
 
 returns : tie.Need-returns Inv-loop μ-loop
 returns c =
-    let e : c .before .loop .i ≡ cellCount = omega arith in
+    let e : c .before .loop .i ≡ blockCount = omega arith in
     rw e at (c .before .loop .inv .1)
 
 pub first-repetition-spec : {M : Type 1} → statement M
@@ -67,9 +63,8 @@ first-repetition-spec =
     Inv-loop
     μ-loop
     loop-holds
-    add-cell-repetition
-    element-copy-out-cell-repetition
-    cell-repetition-requires
+    element-copy-out-block-repetition
+    block-repetition-requires
     add-i
     loop-less
     loop-again

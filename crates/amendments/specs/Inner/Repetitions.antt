@@ -1,5 +1,6 @@
--- The search for amendments that come with a number a second time (02:CR 6), cell by cell, with the set of the numbers met. Definitions only.
-use Prim.Native.Nat.{ℕ, zero, suc, _+_}
+-- The search for amendments that come with a number a second time (02:CR 6), block by block of the numbers, with the set of the cells' numbers met.
+-- Definitions only.
+use Prim.Native.Nat.{ℕ, zero, suc, _+_, _*_, _-_, _%_}
 use mathlib.Core.Bool.{Bool, false, cond, _&&_}
 use mathlib.Core.List.{List}
 use lib.Dec.{eqb}
@@ -8,28 +9,32 @@ use Rattle.records.specs.declared.items.Item.{Item}
 use Rattle.records.specs.declared.items.Item.the-variants.{Cell, Sheet, Amendment, Nothing}
 use Rattle.records.specs.Records.{firstRecord}
 use Rattle.records.specs.Items.{recordItem}
-use Rattle.records.specs.Inner.Notes.{firstCell, amendsCell}
+use Rattle.records.specs.Inner.Notes.{firstCell, blockSize, blockOf, amendsIn}
 use Rattle.faults.specs.Faults.{standsBefore}
 
--- an amendment of a cell with a number that an earlier one has
+-- an amendment with a number of a block that an earlier one of its cell has
 unfoldable pub repeats : List ℕ → ℕ → ℕ → Bool
-repeats s cell at = amendsCell cell (recordItem s at) && standsBefore s at
+repeats s block at = amendsIn block (recordItem s at) && standsBefore s at
 
--- the first such record before `end`, of the first n cells: `end` where there is none
+-- the first such record before `end`, of the first n blocks: `end` where there is none
 unfoldable pub repetitionsBelow : List ℕ → ℕ → ℕ → ℕ
 repetitionsBelow s zero end = end
-repetitionsBelow s (suc n) end = firstRecord s (repeats s (firstCell + n)) (repetitionsBelow s n end)
+repetitionsBelow s (suc n) end = firstRecord s (repeats s n) (repetitionsBelow s n end)
 
--- an amendment of the cell has a number that is in the set
+-- what stands in a block's set for a cell and a number
+unfoldable pub keyOf : ℕ → ℕ → ℕ
+keyOf cell number = (cell - firstCell) * blockSize + number % blockSize
+
+-- an amendment with a number of the block has its cell and number in the set
 unfoldable pub metAgain : ℕ → Item → List ℕ → Bool
-metAgain cell (Cell n) met = false
-metAgain cell (Sheet kind) met = false
-metAgain cell (Amendment n number) met = cond (eqb n cell) (member met number) false
-metAgain cell Nothing met = false
+metAgain block (Cell n) met = false
+metAgain block (Sheet kind) met = false
+metAgain block (Amendment n number) met = cond (eqb (blockOf number) block) (member met (keyOf n number)) false
+metAgain block Nothing met = false
 
--- the set with the number of an amendment of the cell
+-- the set with the cell and number of an amendment with a number of the block
 unfoldable pub metWith : ℕ → Item → List ℕ → List ℕ
-metWith cell (Cell n) met = met
-metWith cell (Sheet kind) met = met
-metWith cell (Amendment n number) met = cond (eqb n cell) (withMember met number) met
-metWith cell Nothing met = met
+metWith block (Cell n) met = met
+metWith block (Sheet kind) met = met
+metWith block (Amendment n number) met = cond (eqb (blockOf number) block) (withMember met (keyOf n number)) met
+metWith block Nothing met = met

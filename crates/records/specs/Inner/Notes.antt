@@ -1,6 +1,6 @@
--- What reading a filing notes: for each kind of sheet and each cell its first record, for each cell the record that counts, and whether its amendments
--- come by rising number. Definitions only.
-use Prim.Native.Nat.{ℕ, _-_}
+-- What reading a filing notes: for each kind of sheet and each cell its first record, for each cell the record that counts, and for each block of
+-- amendment numbers whether an amendment with one of them does not come by rising number. Definitions only.
+use Prim.Native.Nat.{ℕ, _-_, _/_, _%_}
 use mathlib.Core.Bool.{Bool, false, cond, _||_, _&&_}
 use mathlib.Core.List.{List}
 use lib.ListN.{length, getD, set, replicate}
@@ -14,7 +14,7 @@ use Rattle.records.specs.Items.{recordItem, firstWith}
 use Rattle.records.specs.Counting.{rank, counting, countingBefore}
 
 -- What is noted: the offset of the first record of each kind of sheet, and of each cell from 601 on; of the record that counts for each cell: the input's
--- length where there is none. And for each cell whether an amendment of it ranks no higher than the record that counts before it
+-- length where there is none. And for each block of numbers whether an amendment with one of them ranks no higher than the record that counts before it
 pub record Noted : Type 0 where
   pub sheets : List ℕ
   pub cells : List ℕ
@@ -32,22 +32,40 @@ cellCount = 61
 unfoldable pub offsetBefore : List ℕ → ℕ → Item → ℕ
 offsetBefore s at item = cond (ltb (firstWith s item at) at) (firstWith s item at) (length s)
 
--- an amendment of a cell
-unfoldable pub amendsCell : ℕ → Item → Bool
-amendsCell cell (Cell n) = false
-amendsCell cell (Sheet kind) = false
-amendsCell cell (Amendment n number) = eqb n cell
-amendsCell cell Nothing = false
+-- the numbers of amendments by blocks of so many, as many as numbers of 2 bytes fill
+abbrev pub blockSize : ℕ
+blockSize = 512
 
--- an amendment of a cell that does not rank above the record that counts before it. Without one the amendments of the cell come by rising number
+abbrev pub blockCount : ℕ
+blockCount = 128
+
+unfoldable pub blockOf : ℕ → ℕ
+blockOf number = number / blockSize % blockCount
+
+-- an amendment whose number is of a block
+unfoldable pub amendsIn : ℕ → Item → Bool
+amendsIn block (Cell n) = false
+amendsIn block (Sheet kind) = false
+amendsIn block (Amendment n number) = eqb (blockOf number) block
+amendsIn block Nothing = false
+
+-- a record that does not rank above the one that counts before it
 unfoldable pub outranked : List ℕ → ℕ → ℕ → ℕ → Bool
 outranked s cell before at = leb (rank s cell at) (rank s cell before)
 
+-- an amendment, with a number of a block, that does not rank above the record that counts for its cell before it. Without one the amendments with these
+-- numbers come by rising number in each cell
+unfoldable pub fallsAs : List ℕ → ℕ → ℕ → Item → Bool
+fallsAs s block at (Cell n) = false
+fallsAs s block at (Sheet kind) = false
+fallsAs s block at (Amendment n number) = eqb (blockOf number) block && outranked s n (countingBefore s n at) at
+fallsAs s block at Nothing = false
+
 unfoldable pub falls : List ℕ → ℕ → ℕ → Bool
-falls s cell at = amendsCell cell (recordItem s at) && outranked s cell (countingBefore s cell at) at
+falls s block at = fallsAs s block at (recordItem s at)
 
 unfoldable pub fallsBefore : List ℕ → ℕ → ℕ → Bool
-fallsBefore s cell at = ltb (firstRecord s (falls s cell) at) at
+fallsBefore s block at = ltb (firstRecord s (falls s block) at) at
 
 -- what is noted of the records before `at`
 unfoldable pub notedBefore : List ℕ → ℕ → Noted
@@ -56,7 +74,7 @@ notedBefore s at =
       sheets = table kindCount (λ (kind : ℕ). offsetBefore s at (Sheet kind));
       cells = tableFrom firstCell cellCount (λ (cell : ℕ). offsetBefore s at (Cell cell));
       counting = tableFrom firstCell cellCount (λ (cell : ℕ). countingBefore s cell at);
-      falling = tableFrom firstCell cellCount (λ (cell : ℕ). fallsBefore s cell at);
+      falling = table blockCount (λ (block : ℕ). fallsBefore s block at);
     }
 
 -- what is noted, by its four arrays
@@ -70,17 +88,17 @@ nothingNoted size =
       sheets = replicate kindCount size;
       cells = replicate cellCount size;
       counting = replicate cellCount size;
-      falling = replicate cellCount false;
+      falling = replicate blockCount false;
     }
 
 -- a record that names a cell is noted among those that count, and an amendment that ranks no higher than the one before it
 unfoldable pub noteCounting : List ℕ → List ℕ → ℕ → ℕ → List ℕ
 noteCounting s noted cell at = set noted (cell - firstCell) (counting s cell (getD noted (cell - firstCell) 0) at)
 
-unfoldable pub noteFalling : List ℕ → Noted → ℕ → ℕ → List Bool
-noteFalling s noted cell at =
-    set (noted .falling) (cell - firstCell)
-    (getD (noted .falling) (cell - firstCell) false || outranked s cell (getD (noted .counting) (cell - firstCell) 0) at)
+unfoldable pub noteFalling : List ℕ → Noted → ℕ → ℕ → ℕ → List Bool
+noteFalling s noted cell number at =
+    set (noted .falling) (blockOf number)
+    (getD (noted .falling) (blockOf number) false || outranked s cell (getD (noted .counting) (cell - firstCell) 0) at)
 
 -- the record at an offset is noted, by its item
 unfoldable pub noteItem : List ℕ → Noted → Item → ℕ → Noted
@@ -98,6 +116,6 @@ noteItem s noted (Amendment cell number) at =
       sheets = noted .sheets;
       cells = noted .cells;
       counting = noteCounting s (noted .counting) cell at;
-      falling = noteFalling s noted cell at;
+      falling = noteFalling s noted cell number at;
     }
 noteItem s noted Nothing at = noted

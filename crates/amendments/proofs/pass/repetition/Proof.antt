@@ -1,5 +1,5 @@
--- `repetition` meets its contract. The loop's invariant: the set has the numbers of the cell's amendments so far, and what is still to be searched gives the
--- answer.
+-- `repetition` meets its contract. The loop's invariant: the set has the cells and numbers of the block's amendments so far, and what is still to be searched
+-- gives the answer.
 -- Assumes nothing.
 use Prim.Native.Nat.{_-_}
 use native.Mathlib.Omega.{arith}
@@ -11,16 +11,16 @@ use Rattle.amendments.proofs.pass.repetition.Statement.{statement}
 use Rattle.amendments.proofs.pass.repetition.Tie as tie
 
 abbrev Inv-loop : tie.InvT-loop
-Inv-loop s cell end met₀ at₀ met at = Reached s 0 at × Ahead s (repeats s cell) end at × Met s cell at met
+Inv-loop s block end met₀ at₀ met at = Reached s 0 at × Ahead s (repeats s block) end at × Met s block at met
 
 abbrev μ-loop : tie.MeasureT-loop
-μ-loop s cell end met₀ at₀ met at = end - at
+μ-loop s block end met₀ at₀ met at = end - at
 
 loop-holds : tie.Need-loop-holds Inv-loop μ-loop
 loop-holds c = (here, ahead-start _ _ _, met-start _ _)
 
 meets-requires : tie.Need-meets-requires Inv-loop μ-loop
-meets-requires c κs = tt
+meets-requires c κs = c .before .before .before .before .pre .1
 
 returns : tie.Need-returns Inv-loop μ-loop
 returns c =
@@ -29,7 +29,7 @@ returns c =
     let start = tested .before .before .before .before .before in
     let s = start .args .s .now in
     sym (ahead-here s _ (start .args .end) (loop .at) (loop .inv .1) (tested .before .before .loop-test .taken)
-    (sym (tested .meets .ensures .0 ∙ again-is s (start .args .cell) (loop .at) (loop .met) (loop .inv .2)) ∙ c .if1 .taken))
+    (sym (tested .meets .ensures .0 ∙ again-is s (start .args .block) (loop .at) (loop .met) (loop .inv .2) (tested .before .before .before .before .shared-slice-known .given)) ∙ c .if1 .taken))
 
 next-record-requires : tie.Need-next-record-requires Inv-loop μ-loop
 next-record-requires c κs = omega (arith, c .before .before .before .before .before .before .pre)
@@ -44,11 +44,12 @@ loop-again c =
     let start = tested .before .before .before .before .before in
     let s = start .args .s .now in
     let met = loop .inv .2 in
+    let bytes = tested .before .before .before .before .shared-slice-known .given in
     rw (c .next-record .ensures, tested .meets .ensures .1) (
       reached-next s (loop .inv .0),
       ahead-next s _ (start .args .end) (loop .at) (loop .inv .1) (tested .before .before .loop-test .taken)
-          (sym (tested .meets .ensures .0 ∙ again-is s (start .args .cell) (loop .at) (loop .met) met) ∙ c .before .if1 .left),
-      met-next s (start .args .cell) (loop .at) (loop .met) met (tested .before .before .before .before .shared-slice-known .given) (loop .inv .0),
+          (sym (tested .meets .ensures .0 ∙ again-is s (start .args .block) (loop .at) (loop .met) met bytes) ∙ c .before .if1 .left),
+      met-next s (start .args .block) (loop .at) (loop .met) met bytes (loop .inv .0),
     )
 
 returns-2 : tie.Need-returns-2 Inv-loop μ-loop

@@ -1,6 +1,6 @@
 -- `note` meets its contract: a record's cell or kind is one of those that are noted.
 -- Assumes nothing.
-use Prim.Native.Nat.{ℕ, _+_, _-_}
+use Prim.Native.Nat.{ℕ, _+_, _*_, _-_, _/_, _^_, _<_}
 use native.Mathlib.Omega.{arith}
 use mathlib.Core.List.{List}
 use lib.Dec.{leb}
@@ -8,9 +8,10 @@ use lib.ListN.{getD}
 use mathlib.Core.Path.{_≡_, sym, ap, _∙_}
 use borrow.Author.Needs.{needs}
 use Rattle.records.specs.Counting.{rank}
-use Rattle.records.specs.Inner.Notes.{outranked, noteItem}
+use Rattle.records.specs.Inner.Notes.{blockSize, blockCount, outranked, noteItem}
+use Rattle.records.proofs.ByteLaws.{number-lt}
 use Rattle.records.proofs.ItemLaws.{OfSheet, OfAmendment, record-of-sheet, record-of-amendment}
-use Rattle.records.proofs.NoteLaws.{rank-of-amendment, note-amendment}
+use Rattle.records.proofs.NoteLaws.{block-is, rank-of-amendment, note-amendment}
 use Rattle.records.proofs.notes.note.Statement.{statement}
 use Rattle.records.proofs.notes.note.Tie as tie
 
@@ -37,6 +38,15 @@ of-amendment : (c : tie.After-cell2)
     → OfAmendment (c .before .before .before .before .args .s .now) (c .before .before .before .before .args .at) (c .cell2 .given .0 .0) (c .cell2 .given .0 .1 .0)
 of-amendment c = record-of-amendment _ _ _ _ (sym (c .before .before .record-item .ensures) ∙ c .cell2 .given .1)
 
+-- its number has 2 bytes, and a block of its own
+number-fits : (c : tie.After-cell2) → c .cell2 .given .0 .1 .0 < 2 ^ 16
+number-fits c =
+    let args = c .before .before .before .before .args in
+    omega (arith, number-lt (args .s .now) (args .at + 2 + 2 * 2) 2 (c .before .before .before .shared-slice-known .given), of-amendment c .number-is)
+
+block-within : (c : tie.After-cell2) → c .cell2 .given .0 .1 .0 / blockSize < blockCount
+block-within c = omega (arith, number-fits c)
+
 mul-sheets : tie.Need-mul-sheets
 mul-sheets c = omega (arith, of-sheet (c .before) .known)
 
@@ -61,6 +71,9 @@ cast-own c = search needs
 add-own : tie.Need-add-own
 add-own c = search needs
 
+cast-block : tie.Need-cast-block
+cast-block c = search needs
+
 counting-of-requires : tie.Need-counting-of-requires
 counting-of-requires c κs =
     let at-cell = c .before .before in
@@ -73,13 +86,13 @@ element-write-counting : tie.Need-element-write-counting
 element-write-counting c = omega (arith, of-amendment (c .before .before .before) .to-last)
 
 element-copy-out-falling : tie.Need-element-copy-out-falling
-element-copy-out-falling c = omega (arith, of-amendment (c .before .before .before) .to-last)
+element-copy-out-falling c = block-within (c .before .before .before)
 
 rank-requires : tie.Need-rank-requires
 rank-requires c κs = search needs
 
 element-write-falling : tie.Need-element-write-falling
-element-write-falling c = omega (arith, of-amendment (c .before .before .before .before .before) .to-last)
+element-write-falling c = block-within (c .before .before .before .before .before)
 
 enum-told : tie.Need-enum-told
 enum-told c = search needs
@@ -126,7 +139,7 @@ returns-3 : tie.Need-returns-3
 returns-3 c =
     let at-cell = at-amendment c in
     let a = start-of c .args in
-    note-amendment _ (a .sheets .now) (a .cells .now) (a .counting .now) (a .falling .now) _ _ _ (sym (at-cell .before .before .record-item .ensures) ∙ at-cell .cell2 .given .1) (c .before .before .counting-of .ensures) (falls-is c)
+    note-amendment _ (a .sheets .now) (a .cells .now) (a .counting .now) (a .falling .now) _ _ _ (sym (at-cell .before .before .record-item .ensures) ∙ at-cell .cell2 .given .1) (c .before .before .counting-of .ensures) (block-is _ (number-fits at-cell)) (falls-is c)
 
 returns-4 : tie.Need-returns-4
 unfolding noteItem
@@ -148,6 +161,7 @@ note-spec =
     element-copy-out-before
     cast-own
     add-own
+    cast-block
     counting-of-requires
     mul-counting
     element-write-counting
