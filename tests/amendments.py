@@ -122,6 +122,21 @@ def beside_other_kinds():
         yield f"number {number} twice, apart", amended(601, number, 0) + apart + amended(601, number, 0)
 
 
+def numbers_far_apart():
+    """Numbers that fall, and repetitions among them, at the bounds of what is searched in one pass."""
+    for first, second in ((1, 513), (513, 1), (511, 512), (512, 511), (512, 1_024), (65_024, 512), (65_535, 511)):
+        yield f"numbers {first}, {second}", amended(605, first, 0) + amended(605, second, 0) + SHEETS
+        yield f"numbers {first}, {second} and {first} again", amended(605, first, 0) + amended(605, second, 0) + amended(605, first, 0)
+        yield f"numbers {first}, {second} and {second} again", amended(605, first, 0) + amended(605, second, 0) + amended(605, second, 0)
+    for number in (511, 512, 513, 1_023, 1_024, 65_024, 65_535):
+        others = b"".join(amended(n, number, 0) + amended(n, number - 1, 0) for n in (601, 602, 660, 661))
+        yield f"number {number} of four cells", others + SHEETS
+        yield f"number {number} of four cells, one again", others + amended(660, number, 0)
+    low, high = amended(605, 1, 0), amended(605, 600, 0)
+    for name, data in {"the lower first": high + low + low + high, "the higher first": high + low + high + low, "of two cells": high + amended(606, 1, 0) + low + amended(606, 1, 0) + high}.items():
+        yield f"two repetitions, {name}", data + SHEETS
+
+
 def values_and_states():
     for number in sorted(LIMITS):
         yield f"amendment of {number} at its limit", amended(number, 1, LIMITS[number])
@@ -197,6 +212,6 @@ def noise():
 
 
 FAMILIES = (
-    every_cell_amended, numbers_in_any_order, withdrawn_cells, fine_coupons, refused_by_what_survives, beside_other_kinds, values_and_states, unlisted,
-    lengths, two_faults_in_one_record, two_faulty_records, many, noise,
+    every_cell_amended, numbers_in_any_order, withdrawn_cells, fine_coupons, refused_by_what_survives, beside_other_kinds, numbers_far_apart,
+    values_and_states, unlisted, lengths, two_faults_in_one_record, two_faulty_records, many, noise,
 )
