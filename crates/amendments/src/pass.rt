@@ -1,8 +1,8 @@
 // A pass over the records for one cell.
+use fields::record_length;
 use numbers::WORDS;
 use numbers::holds;
 use numbers::put;
-use records::fields::record_length;
 use records::items::Item;
 use records::items::record_item;
 ghost use mathlib.Core.Path.{_≡_};
@@ -10,7 +10,7 @@ ghost use Prim.Native.Nat.{_≤_, _<_};
 ghost use lib.Dec.{ltb};
 ghost use lib.ListN.{length};
 ghost use Rattle.records.specs.declared.items.Item.the-variants.{Amendment};
-ghost use Rattle.records.specs.Records.{nextRecord, firstRecord};
+ghost use Rattle.fields.specs.Records.{nextRecord, firstRecord};
 ghost use Rattle.records.specs.Items.{sameItem, recordItem, firstWith};
 ghost use Rattle.amendments.specs.Inner.Repetitions.{repeats, metAgain, metWith};
 

@@ -6,9 +6,10 @@ use lib.Dec.{eqb}
 use Rattle.numbers.specs.Members.{member, withMember}
 use Rattle.records.specs.declared.items.Item.{Item}
 use Rattle.records.specs.declared.items.Item.the-variants.{Cell, Sheet, Amendment, Nothing}
-use Rattle.records.specs.Records.{firstRecord}
+use Rattle.fields.specs.Records.{firstRecord}
 use Rattle.records.specs.Items.{recordItem}
-use Rattle.records.specs.Inner.Notes.{firstCell, amendsCell}
+use Rattle.records.specs.Items.{firstCell}
+use Rattle.notes.specs.Inner.Notes.{amendsCell}
 use Rattle.faults.specs.Faults.{standsBefore}
 
 -- an amendment of a cell with a number that an earlier one has
