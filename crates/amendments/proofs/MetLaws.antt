@@ -14,13 +14,13 @@ use Rattle.numbers.specs.Members.{bit, member, withMember}
 use Rattle.numbers.proofs.BitLaws.{member-with}
 use Rattle.records.specs.declared.items.Item.{Item}
 use Rattle.records.specs.declared.items.Item.the-variants.{Cell, Sheet, Amendment, Nothing}
-use Rattle.records.specs.Records.{nextRecord, searchRecords, firstRecord}
-use Rattle.records.specs.Items.{sameItem, recordItem, firstWith}
-use Rattle.records.specs.Inner.Notes.{firstCell, cellCount, blockOf, amendsIn}
-use Rattle.records.proofs.ByteLaws.{Bytes, number-lt}
+use Rattle.fields.specs.Records.{nextRecord, searchRecords, firstRecord}
+use Rattle.records.specs.Items.{firstCell, cellCount, sameItem, recordItem, firstWith}
+use Rattle.notes.specs.Inner.Notes.{blockOf, amendsIn}
+use Rattle.fields.proofs.ByteLaws.{Bytes, number-lt}
 use Rattle.records.proofs.ItemLaws.{record-of-amendment}
 use Rattle.faults.specs.Faults.{standsBefore}
-use Rattle.scan.proofs.SearchLaws.{Reached, found-next}
+use Rattle.fields.proofs.SearchLaws.{Reached, found-next}
 use Rattle.amendments.specs.Inner.Repetitions.{repeats, keyOf, metAgain, metWith}
 
 -- the words of a set

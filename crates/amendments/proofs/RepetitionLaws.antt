@@ -12,18 +12,18 @@ use Rattle.lists.specs.Tables.{anyBelow}
 use Rattle.lists.proofs.TestLaws.{any-here}
 use Rattle.records.specs.declared.items.Item.{Item}
 use Rattle.records.specs.declared.items.Item.the-variants.{Cell, Sheet, Amendment, Nothing}
-use Rattle.records.specs.Records.{firstRecord}
+use Rattle.fields.specs.Records.{firstRecord}
 use Rattle.records.specs.Items.{sameItem, recordItem, firstWith}
-use Rattle.records.specs.Counting.{itemRank, rank, countingBefore}
-use Rattle.records.specs.Inner.Notes.{blockCount, blockOf, amendsIn, outranked, fallsAs, falls, fallsBefore}
-use Rattle.records.proofs.RecordLaws.{first-le}
+use Rattle.notes.specs.Counting.{itemRank, rank, countingBefore}
+use Rattle.notes.specs.Inner.Notes.{blockCount, blockOf, amendsIn, outranked, fallsAs, falls, fallsBefore}
+use Rattle.fields.proofs.RecordLaws.{first-le}
 use Rattle.records.proofs.ItemLaws.{with-passes}
-use Rattle.records.proofs.NoteLaws.{block-lt}
+use Rattle.notes.proofs.NoteLaws.{block-lt}
 use Rattle.faults.specs.Faults.{standsBefore, amendmentRepeated}
 use Rattle.faults.proofs.RepetitionLaws.{amendment-stands, plain-single}
-use Rattle.scan.proofs.SearchLaws.{Reached}
-use Rattle.scan.proofs.FirstLaws.{first-none, first-earlier, first-reached, first-same, first-or}
-use Rattle.scan.proofs.CountingLaws.{counting-most}
+use Rattle.fields.proofs.SearchLaws.{Reached}
+use Rattle.fields.proofs.FirstLaws.{first-none, first-earlier, first-reached, first-same, first-or}
+use Rattle.notes.proofs.CountingLaws.{counting-most}
 use Rattle.amendments.specs.Inner.Repetitions.{repeats, repetitionsBelow}
 
 both : (a b : Bool) → (a && b) ≡ true → (a ≡ true) × (b ≡ true)

@@ -9,15 +9,15 @@ use mathlib.Core.List.{List}
 use borrow.Author.Tests.{eqb-true, eqb-false, not-false, lt-ltb, le-ltb}
 use lib.Dec.{eqb}
 use lib.ListN.{length}
-use Rattle.records.specs.Inner.Notes.{blockCount}
-use Rattle.records.proofs.RecordLaws.{first-le, first-passes}
+use Rattle.notes.specs.Inner.Notes.{blockCount}
+use Rattle.fields.proofs.RecordLaws.{first-le, first-passes}
 use Rattle.answers.specs.Verdict.{Verdict, accepted, refused, refusedIf, firstRefusal}
 use Rattle.answers.proofs.VerdictLaws.{first-passed, first-refused, first-none, condition-holds, condition-refuses, condition-none}
 use Rattle.faults.specs.Faults.{amendmentRepeated}
-use Rattle.faults.specs.RecordVerdicts.{shapeVerdict, bodyVerdict, recordVerdict, firstRefused, verdictBy, firstFaulty, recordsVerdict}
-use Rattle.faults.specs.Inner.PlainVerdicts.{plainVerdict, firstPlain}
+use Rattle.record_verdicts.specs.RecordVerdicts.{shapeVerdict, bodyVerdict, recordVerdict, firstRefused, verdictBy, firstFaulty, recordsVerdict}
+use Rattle.record_verdicts.specs.Inner.PlainVerdicts.{plainVerdict, firstPlain}
 use Rattle.scan.proofs.ProgressLaws.{records-passed}
-use Rattle.scan.proofs.FirstLaws.{first-earlier, first-reached, first-same, first-or}
+use Rattle.fields.proofs.FirstLaws.{first-earlier, first-reached, first-same, first-or}
 use Rattle.amendments.specs.Inner.Repetitions.{repetitionsBelow}
 use Rattle.amendments.proofs.RepetitionLaws.{repetitions-first, repetitions-le}
 

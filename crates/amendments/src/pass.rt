@@ -1,10 +1,10 @@
 // A pass over the records for one block of numbers.
+use fields::record_length;
+use notes::BLOCK;
 use numbers::WORDS;
 use numbers::holds;
 use numbers::put;
-use records::BLOCK;
 use records::FIRST_CELL;
-use records::fields::record_length;
 use records::items::Item;
 use records::items::record_item;
 ghost use mathlib.Core.Path.{_≡_};
@@ -12,9 +12,9 @@ ghost use Prim.Native.Nat.{_+_, _≤_, _<_};
 ghost use lib.Dec.{ltb};
 ghost use lib.ListN.{length};
 ghost use Rattle.records.specs.declared.items.Item.the-variants.{Amendment};
-ghost use Rattle.records.specs.Records.{nextRecord, firstRecord};
-ghost use Rattle.records.specs.Inner.Notes.{firstCell, cellCount, blockCount};
-ghost use Rattle.records.specs.Items.{sameItem, recordItem, firstWith};
+ghost use Rattle.fields.specs.Records.{nextRecord, firstRecord};
+ghost use Rattle.records.specs.Items.{firstCell, cellCount, sameItem, recordItem, firstWith};
+ghost use Rattle.notes.specs.Inner.Notes.{blockCount};
 ghost use Rattle.amendments.specs.Inner.Repetitions.{repeats, keyOf, metAgain, metWith};
 
 // The first record before `end` that amends a cell with a number of the block that an earlier one has: `end` where there is none.

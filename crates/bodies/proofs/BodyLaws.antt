@@ -10,7 +10,7 @@ use lib.Dec.{ltb, eqb, leb}
 use Rattle.lists.specs.Tables.{anyBelow}
 use Rattle.lists.proofs.TestLaws.{any-fails}
 use Rattle.schedule.specs.Limits.{cellClass, classLimit, tierLimit, withdrawalLimit}
-use Rattle.records.specs.Records.{recordKind, recordCell, recordValue, amendmentNumber, amendmentState, amendmentValue, sheetNumber, tierCount, tierWithdrawal, tierEdge}
+use Rattle.fields.specs.Records.{recordKind, recordCell, recordValue, amendmentNumber, amendmentState, amendmentValue, sheetNumber, tierCount, tierWithdrawal, tierEdge}
 use Rattle.records.specs.Kinds.{cellKind, fineCouponKind, givesCell, amendmentKind, sheetOf, sheetKinds, sheetKind, tiersKind}
 use Rattle.bodies.specs.Bodies.{valueLimit, unfitAmendment, numberOver, overLimit, unfitTier, unsoundTiers}
 use Rattle.bodies.proofs.SheetLaws.{none-over}

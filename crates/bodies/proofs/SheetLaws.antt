@@ -9,7 +9,7 @@ use mathlib.Core.List.{List}
 use borrow.Author.Tests.{lt-ltb, le-ltb, ltb-false}
 use lib.Dec.{ltb}
 use Rattle.lists.proofs.TestLaws.{any-none, any-here, any-fails}
-use Rattle.records.specs.Records.{sheetNumber}
+use Rattle.fields.specs.Records.{sheetNumber}
 use Rattle.bodies.specs.Bodies.{numberOver}
 
 module _ (s : List ℕ) (at limit : ℕ) where

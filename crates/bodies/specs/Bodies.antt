@@ -5,7 +5,7 @@ use mathlib.Core.List.{List}
 use lib.Dec.{leb, ltb, eqb}
 use Rattle.lists.specs.Tables.{anyBelow}
 use Rattle.schedule.specs.Limits.{couponLimit, cellClass, classLimit, tierLimit, withdrawalLimit}
-use Rattle.records.specs.Records.{recordKind, recordCell, recordValue, amendmentNumber, amendmentState, amendmentValue, sheetNumber, tierCount, tierEdge, tierWithdrawal}
+use Rattle.fields.specs.Records.{recordKind, recordCell, recordValue, amendmentNumber, amendmentState, amendmentValue, sheetNumber, tierCount, tierEdge, tierWithdrawal}
 use Rattle.records.specs.Kinds.{fineCouponKind, givesCell, amendmentKind, sheetKind, tiersKind}
 
 -- an amendment (02:CR 6) whose number is 0, whose value is over its class's limit, which withdraws a cell and holds a value, or whose state is another

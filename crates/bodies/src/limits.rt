@@ -1,12 +1,12 @@
 // Refusal 5: the limits of a cell's value and of a sheet's numbers.
-use records::fields::amendment_number;
-use records::fields::amendment_state;
-use records::fields::amendment_value;
-use records::fields::holds_numbers;
-use records::fields::number_of;
-use records::fields::record_cell;
-use records::fields::record_kind;
-use records::fields::record_value;
+use fields::amendment_number;
+use fields::amendment_state;
+use fields::amendment_value;
+use fields::holds_numbers;
+use fields::number_of;
+use fields::record_cell;
+use fields::record_kind;
+use fields::record_value;
 use records::kinds::AMENDMENT_KIND;
 use records::kinds::FINE_COUPON_KIND;
 use records::kinds::gives_cell;

@@ -1,7 +1,7 @@
 // Refusal 11: tiers of annual withdrawal that do not load.
-use records::fields::record_kind;
-use records::fields::sheet_number;
-use records::fields::tier_count;
+use fields::record_kind;
+use fields::sheet_number;
+use fields::tier_count;
 use records::kinds::TIERS_KIND;
 ghost use mathlib.Core.Path.{_≡_};
 ghost use Prim.Native.Nat.{_≤_, _<_};

@@ -13,9 +13,9 @@ use lib.ListN.{length, getD, List·getD-eq-default}
 use Rattle.lists.specs.Tables.{anyBelow}
 use Rattle.lists.proofs.TestLaws.{any-fails}
 use Rattle.schedule.specs.Limits.{rateLimit, monthsLimit, tierLimit, withdrawalLimit}
-use Rattle.filing.specs.declared.Contents.{Contents}
-use Rattle.filing.specs.declared.FiledTiers.{FiledTiers}
-use Rattle.filing.specs.Valid.{Valid}
+use Rattle.contents.specs.declared.Contents.{Contents}
+use Rattle.contents.specs.declared.FiledTiers.{FiledTiers}
+use Rattle.contents.specs.Valid.{Valid}
 use Rattle.pricing.specs.Scales.{par}
 use Rattle.pricing.specs.Rounding.{down, up}
 use Rattle.deposits.specs.Inner.Factors.{factorsBy}

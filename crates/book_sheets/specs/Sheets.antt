@@ -7,7 +7,7 @@ use lib.Dec.{leb, ltb}
 use lib.ListN.{length, getD}
 use Rattle.lists.specs.Tables.{anyBelow}
 use Rattle.schedule.specs.Limits.{rateLimit, tierLimit, withdrawalLimit}
-use Rattle.filing.specs.declared.FiledTiers.{FiledTiers}
+use Rattle.contents.specs.declared.FiledTiers.{FiledTiers}
 use Rattle.shares.specs.declared.SubBalance.{SubBalance}
 use Rattle.shares.specs.Places.{noValues}
 use Rattle.pricing.specs.Scales.{par}

@@ -12,8 +12,8 @@ use Rattle.lists.proofs.SumLaws.{sumWhere-ext, sumWhere-split}
 use Rattle.lists.proofs.TableLaws.{joined-getD}
 use Rattle.fraction.specs.Fraction.{Encloses}
 use Rattle.fraction.proofs.EnclosureLaws.{total-encloses}
-use Rattle.filing.specs.declared.Contents.{Contents}
-use Rattle.filing.specs.Contents.{contentsOf}
+use Rattle.contents.specs.declared.Contents.{Contents}
+use Rattle.decode.specs.Contents.{contentsOf}
 use Rattle.shares.specs.SubBalances.{subBalanceCount}
 use Rattle.pricing.specs.Rounding.{down, up}
 use Rattle.place_values.specs.HeldValues.{valueHeld, boundsHeld, valuesHeld}

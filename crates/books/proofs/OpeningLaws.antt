@@ -11,9 +11,9 @@ use Rattle.schedule.specs.Limits.{monthsLimit, rateLimit}
 use Rattle.answers.specs.declared.Answer.{Answer}
 use Rattle.answers.specs.Verdict.{Verdict}
 use Rattle.answers.specs.Answers.{verdictOf}
-use Rattle.records.specs.Bytes.{numberAt}
-use Rattle.filing.specs.declared.Contents.{Contents}
-use Rattle.filing.specs.Contents.{contentsOf}
+use Rattle.fields.specs.Bytes.{numberAt}
+use Rattle.contents.specs.declared.Contents.{Contents}
+use Rattle.decode.specs.Contents.{contentsOf}
 use Rattle.filing.specs.Readings.{emptyContents, readContents}
 use Rattle.filing.specs.Verdict.{filingVerdict}
 use Rattle.filing.proofs.ReadingLaws.{reading-accepted}

@@ -12,7 +12,7 @@ use Rattle.lists.proofs.TableLaws.{table-ext}
 use Rattle.lists.proofs.TestLaws.{either, entries-le}
 use Rattle.schedule.specs.Cells.{withinRow, leastMonths, mostMonths}
 use Rattle.schedule.specs.Limits.{balanceLimit, couponLimit, penaltyLimit, monthsLimit}
-use Rattle.filing.specs.declared.Contents.{Contents}
+use Rattle.contents.specs.declared.Contents.{Contents}
 use Rattle.shares.specs.SubBalances.{subBalanceCount, positionOf, withPenalty}
 use Rattle.shares.specs.Places.{noPlace, noValues}
 use Rattle.pricing.specs.Scales.{valueScale}

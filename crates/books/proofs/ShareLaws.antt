@@ -18,10 +18,11 @@ use Rattle.lists.proofs.SumLaws.{sumWhere-ext}
 use Rattle.schedule.specs.Cells.{withinRow, totalCell}
 use Rattle.schedule.specs.Limits.{balanceLimit, couponLimit, penaltyLimit}
 use Rattle.answers.specs.Verdict.{accepted}
-use Rattle.filing.specs.declared.Contents.{Contents}
-use Rattle.filing.specs.Contents.{contentsOf, cell}
+use Rattle.contents.specs.declared.Contents.{Contents}
+use Rattle.decode.specs.Contents.{contentsOf}
+use Rattle.contents.specs.Contents.{cell}
 use Rattle.filing.specs.Verdict.{filingVerdict}
-use Rattle.filing.specs.Valid.{Valid}
+use Rattle.contents.specs.Valid.{Valid}
 use Rattle.shares.specs.declared.SubBalance.{SubBalance}
 use Rattle.shares.specs.SubBalances.{positionOf, balanceAt, couponAt, monthsAt, withPenalty, penaltyAt}
 use Rattle.shares.specs.Places.{placeAt, noPlace}

@@ -12,8 +12,8 @@ use Rattle.lists.specs.Sums.{sumWhere, everywhere}
 use Rattle.lists.proofs.SumLaws.{sumWhere-ext}
 use Rattle.lists.proofs.TableLaws.{table-length, table-getD, joined-le}
 use Rattle.schedule.specs.Limits.{balanceLimit}
-use Rattle.filing.specs.declared.Contents.{Contents}
-use Rattle.filing.specs.Valid.{Valid}
+use Rattle.contents.specs.declared.Contents.{Contents}
+use Rattle.contents.specs.Valid.{Valid}
 use Rattle.shares.specs.declared.SubBalance.{SubBalance}
 use Rattle.shares.specs.Places.{noPlace}
 use Rattle.totals.specs.RowTotals.{valueLimit}

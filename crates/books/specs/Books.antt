@@ -3,8 +3,8 @@ use Prim.Native.Nat.{ℕ}
 use mathlib.Core.List.{List}
 use lib.ListN.{set, replicate}
 use Rattle.schedule.specs.Limits.{monthsLimit}
-use Rattle.filing.specs.declared.Contents.{Contents}
-use Rattle.filing.specs.declared.FiledTiers.{FiledTiers}
+use Rattle.contents.specs.declared.Contents.{Contents}
+use Rattle.contents.specs.declared.FiledTiers.{FiledTiers}
 use Rattle.filing.specs.Readings.{readContents}
 use Rattle.shares.specs.declared.SubBalance.{SubBalance}
 use Rattle.shares.specs.SubBalances.{subBalanceCount}

@@ -10,7 +10,7 @@ use Rattle.fraction.specs.Fraction.{Fraction, Encloses}
 use Rattle.fraction.specs.Totals.{totalWhere}
 use Rattle.answers.specs.Answers.{verdictOf}
 use Rattle.answers.specs.Verdict.{accepted}
-use Rattle.filing.specs.Contents.{contentsOf}
+use Rattle.decode.specs.Contents.{contentsOf}
 use Rattle.filing.specs.Verdict.{filingVerdict}
 use Rattle.shares.specs.SubBalances.{subBalanceCount}
 use Rattle.place_values.specs.HeldValues.{exactHeld}

@@ -8,8 +8,9 @@ use Rattle.lists.specs.Tables.{table, joined}
 use Rattle.schedule.specs.Cells.{totalCell}
 use Rattle.schedule.specs.Shift.{scenarioCount}
 use Rattle.answers.specs.Verdict.{accepted}
-use Rattle.filing.specs.declared.Contents.{Contents}
-use Rattle.filing.specs.Contents.{contentsOf, cell}
+use Rattle.contents.specs.declared.Contents.{Contents}
+use Rattle.decode.specs.Contents.{contentsOf}
+use Rattle.contents.specs.Contents.{cell}
 use Rattle.filing.specs.Verdict.{filingVerdict}
 use Rattle.shares.specs.SubBalances.{subBalanceCount, balanceAt, couponAt, monthsAt, penaltyAt}
 use Rattle.valuation.specs.Numbers.{scenarioTotals}

@@ -1,8 +1,8 @@
 // A standing book (02:CR 7), with the definitions of its changes, its promise and the laws of it. Nothing runs here.
 use answers::Answer;
+use contents::FiledTiers;
 use deposits::RatePaths;
 use deposits::factors::FactorTable;
-use filing::FiledTiers;
 use shares::SubBalance;
 
 // The thirty-six places, the sum of their balances in thousands of dollars, and the totals in dollars: short lower, short upper, long lower and long

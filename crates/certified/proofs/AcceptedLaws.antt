@@ -16,7 +16,7 @@ use Rattle.schedule.proofs.CellLaws.{CellOf, balance-cell, months-cell}
 use Rattle.answers.specs.Verdict.{Verdict, accepted, refusedIf, firstRefusal, firstOf}
 use Rattle.conditions.specs.Conditions.{cellIn, monthsOutside, columnBalances, balances, aboveColumn, totalDiffers}
 use Rattle.conditions.specs.CellVerdicts.{positionVerdict, monthsVerdict, columnVerdict, columnsVerdict, totalVerdict, cellsVerdict}
-use Rattle.filing.specs.Contents.{contentsOf}
+use Rattle.decode.specs.Contents.{contentsOf}
 use Rattle.filing.specs.Verdict.{sheetVerdict, filingVerdict}
 use Rattle.calendar.specs.declared.Date.{Date}
 use Rattle.certificate_terms.specs.Terms.{certificateCount}

@@ -6,7 +6,7 @@ use mathlib.Core.Path.{_≡_, refl, sym, ap, _∙_}
 use mathlib.Core.List.{List, [], _∷_, _++_, map}
 use lib.ListN.{length, getD, length-append}
 use Rattle.lists.specs.Tables.{tableFrom, joined}
-use Rattle.records.specs.Bytes.{numberAt}
+use Rattle.fields.specs.Bytes.{numberAt}
 use Rattle.filled_cells.specs.declared.CellValue.{CellValue}
 use Rattle.certified.specs.Filed.{bytes, cellBody, sheetBody}
 use Rattle.certified.proofs.ByteLaws.{number-behind, bytes-length, number-bytes, number-first}

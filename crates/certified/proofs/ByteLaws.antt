@@ -6,7 +6,7 @@ use mathlib.Core.Path.{_≡_, refl, ap, _∙_}
 use mathlib.Core.List.{List, [], _∷_, _++_}
 use lib.ListN.{length, List·getD-append}
 use lib.Seq.{getD-append-add}
-use Rattle.records.specs.Bytes.{numberAt}
+use Rattle.fields.specs.Bytes.{numberAt}
 use Rattle.certified.specs.Filed.{bytes}
 
 -- a number behind other bytes, and one in front of others

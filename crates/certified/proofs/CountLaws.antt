@@ -7,7 +7,7 @@ use mathlib.Core.Logic.{⊎-elim}
 use mathlib.Core.List.{List, []}
 use borrow.Author.Tests.{le-leb, lt-leb, le-ltb, lt-ltb}
 use lib.ListN.{length, getD}
-use Rattle.records.specs.Counting.{rank, counting, countsFrom, countingBefore}
+use Rattle.notes.specs.Counting.{rank, counting, countsFrom, countingBefore}
 use Rattle.certified.specs.Filed.{run}
 use Rattle.certified.proofs.RecordRunLaws.{offset, offset-first, offset-last, offset-ge, offset-lt, record-next}
 

@@ -13,13 +13,13 @@ use Rattle.lists.proofs.LogicLaws.{lt-or-le}
 use Rattle.lists.proofs.TestLaws.{entries-le}
 use Rattle.schedule.specs.Limits.{balanceLimit, columnLimit, totalLimit, filedCouponLimit, monthsLimit, penaltyLimit, cellClass, classLimit, rateLimit}
 use Rattle.answers.specs.Verdict.{accepted}
-use Rattle.records.specs.Bytes.{numberAt}
-use Rattle.records.specs.Records.{nextRecord}
+use Rattle.fields.specs.Bytes.{numberAt}
+use Rattle.fields.specs.Records.{nextRecord}
 use Rattle.records.specs.Kinds.{ratePathKind}
 use Rattle.records.specs.declared.items.Item.the-variants.{Cell, Sheet}
 use Rattle.records.specs.Items.{sameItem, recordItem, firstWith}
 use Rattle.faults.specs.Faults.{standsBefore, sheetBefore, pathBesideFlat}
-use Rattle.faults.specs.RecordVerdicts.{recordVerdict, firstRefused, verdictBy, recordsVerdict}
+use Rattle.record_verdicts.specs.RecordVerdicts.{recordVerdict, firstRefused, verdictBy, recordsVerdict}
 use Rattle.filled_cells.specs.declared.CellValue.{CellValue}
 use Rattle.certified.specs.Filed.{run, cellBody, sheetBody, filedBodies}
 use Rattle.certified.proofs.RecordRunLaws.{offset, offset-last, offset-lt, record-field, record-length, record-next, search-none}

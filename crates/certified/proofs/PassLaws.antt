@@ -10,13 +10,13 @@ use lib.ListN.{length}
 use Rattle.lists.specs.Tables.{anyBelow}
 use Rattle.schedule.specs.Limits.{cellClass, classLimit, rateLimit}
 use Rattle.answers.specs.Verdict.{accepted, refusedIf, firstRefusal, firstOf}
-use Rattle.records.specs.Records.{recordLength, recordKind, recordCell, recordValue, sheetNumber, nextRecord}
+use Rattle.fields.specs.Records.{recordLength, recordKind, recordCell, recordValue, sheetNumber, nextRecord}
 use Rattle.records.specs.Kinds.{sheetOf, sheetKinds, sheetKind, sheetLength, givesCell, namesCell, amendmentKind, tiersKind, dueLength}
 use Rattle.records.specs.declared.items.Item.the-variants.{Cell, Sheet}
 use Rattle.records.specs.Items.{recordClass, recordItem}
 use Rattle.bodies.specs.Bodies.{numberOver, valueLimit, overLimit, unsoundTiers}
 use Rattle.faults.specs.Faults.{incomplete, misshapen, unlisted, standsBefore, repeated, amendmentRepeated, pathBesideFlat}
-use Rattle.faults.specs.RecordVerdicts.{shapeVerdict, bodyVerdict, recordVerdict}
+use Rattle.record_verdicts.specs.RecordVerdicts.{shapeVerdict, bodyVerdict, recordVerdict}
 use Rattle.filled_cells.specs.declared.CellValue.{CellValue}
 
 -- a kind of sheet: n numbers up to the limit of a rate

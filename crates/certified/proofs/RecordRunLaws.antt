@@ -10,8 +10,8 @@ use borrow.Author.Tests.{le-leb, lt-leb}
 use lib.ListN.{length, getD, take, drop, length-append}
 use lib.Seq.{take-all}
 use Rattle.lists.specs.Tables.{joined}
-use Rattle.records.specs.Bytes.{numberAt}
-use Rattle.records.specs.Records.{recordLength, nextRecord, searchRecords, firstRecord}
+use Rattle.fields.specs.Bytes.{numberAt}
+use Rattle.fields.specs.Records.{recordLength, nextRecord, searchRecords, firstRecord}
 use Rattle.certified.specs.Filed.{bytes, framed, run}
 use Rattle.certified.proofs.ByteLaws.{number-behind, number-front, bytes-length, number-first}
 

@@ -20,10 +20,10 @@ use Rattle.records.specs.Kinds.{flatRatesKind, givesCell, dueLength, sheetLengt
 use Rattle.records.specs.declared.items.Item.{Item}
 use Rattle.records.specs.declared.items.Item.the-variants.{Sheet}
 use Rattle.records.specs.Items.{sameItem, recordItem, firstWith}
-use Rattle.records.specs.Counting.{itemRank, rank}
-use Rattle.records.proofs.ByteLaws.{number-past}
+use Rattle.notes.specs.Counting.{itemRank, rank}
+use Rattle.fields.proofs.ByteLaws.{number-past}
 use Rattle.conditions.specs.Conditions.{cellIn}
-use Rattle.filing.specs.Contents.{cellOffset, filedValue, amountAt, cellValue, sheetOffset}
+use Rattle.decode.specs.Contents.{cellOffset, filedValue, amountAt, cellValue, sheetOffset}
 use Rattle.filing.specs.Verdict.{sheetMissing}
 use Rattle.filled_cells.specs.declared.CellValue.{CellValue}
 use Rattle.certified.specs.Fit.{valueIn}

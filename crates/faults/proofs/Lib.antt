@@ -1,3 +1,1 @@
 pub mod RepetitionLaws
-pub mod CellLaws
-pub mod FaultLaws

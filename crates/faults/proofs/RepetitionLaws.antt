@@ -12,12 +12,13 @@ use lib.ListN.{length, getD}
 use Rattle.records.specs.declared.items.Item.{Item}
 use Rattle.records.specs.declared.items.Item.the-variants.{Cell, Sheet, Amendment, Nothing}
 use Rattle.records.specs.Kinds.{kindCount, givesCell, amendmentKind}
-use Rattle.records.specs.Records.{recordKind}
+use Rattle.fields.specs.Records.{recordKind}
 use Rattle.records.specs.Items.{sameItem, recordItem, firstWith}
-use Rattle.records.specs.Inner.Notes.{firstCell, offsetBefore, notedBefore}
+use Rattle.records.specs.Items.{firstCell}
+use Rattle.notes.specs.Inner.Notes.{offsetBefore, notedBefore}
 use Rattle.records.proofs.ItemLaws.{same-nothing, record-of-cell, record-of-sheet, record-of-amendment}
-use Rattle.records.proofs.NoteLaws.{noted-cell, noted-sheet}
-use Rattle.records.proofs.RecordLaws.{first-passes}
+use Rattle.notes.proofs.NoteLaws.{noted-cell, noted-sheet}
+use Rattle.fields.proofs.RecordLaws.{first-passes}
 use Rattle.faults.specs.Faults.{standsBefore, repeated, amendmentRepeated, sheetBefore}
 
 and-false : (b : Bool) → (b && false) ≡ false

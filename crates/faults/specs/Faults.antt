@@ -5,7 +5,7 @@ use mathlib.Core.Bool.{Bool, false, cond, not, _||_, _&&_}
 use mathlib.Core.List.{List}
 use lib.ListN.{length}
 use lib.Dec.{ltb, eqb}
-use Rattle.records.specs.Records.{recordLength, recordKind, nextRecord}
+use Rattle.fields.specs.Records.{recordLength, recordKind, nextRecord}
 use Rattle.records.specs.declared.items.Item.the-variants.{Sheet}
 use Rattle.records.specs.Kinds.{namesCell, amendmentKind, flatRatesKind, ratePathKind, dueLength}
 use Rattle.records.specs.Items.{recordClass, recordItem, firstWith}

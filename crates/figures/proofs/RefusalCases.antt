@@ -11,18 +11,19 @@ use Rattle.schedule.specs.Cells.{position, positions, inColumn, withinRow, brok
 use Rattle.schedule.specs.Limits.{cellClass, classLimit}
 use Rattle.schedule.specs.Shift.{pathRate}
 use Rattle.answers.specs.Verdict.{accepted, refused, refusedIf, firstRefusal, firstOf, listVerdict}
-use Rattle.records.specs.Bytes.{numberAt}
-use Rattle.records.specs.Records.{nextRecord, searchRecords, firstRecord}
+use Rattle.fields.specs.Bytes.{numberAt}
+use Rattle.fields.specs.Records.{nextRecord, searchRecords, firstRecord}
 use Rattle.records.specs.Kinds.{givesCell, namesCell, sheetOf, sheetKinds, sheetKind, sheetLength, dueLength}
 use Rattle.records.specs.Items.{sameItem, recordClass, recordItem, firstWith}
-use Rattle.records.specs.Counting.{itemRank, counting, countsFrom, countingBefore}
+use Rattle.notes.specs.Counting.{itemRank, counting, countsFrom, countingBefore}
 use Rattle.bodies.specs.Bodies.{valueLimit, unfitAmendment, numberOver, overLimit, unfitTier, unsoundTiers}
 use Rattle.faults.specs.Faults.{incomplete, standsBefore, sheetBefore, pathBesideFlat}
-use Rattle.faults.specs.RecordVerdicts.{shapeVerdict, bodyVerdict, recordVerdict, firstRefused, verdictBy}
-use Rattle.filing.specs.declared.Contents.{Contents}
+use Rattle.record_verdicts.specs.RecordVerdicts.{shapeVerdict, bodyVerdict, recordVerdict, firstRefused, verdictBy}
+use Rattle.contents.specs.declared.Contents.{Contents}
 use Rattle.figures.proofs.Filings.{bytes, filed, yieldSheet, rateSheet, tierSheet, complete, Case, gives}
 use Rattle.conditions.specs.Conditions.{cellIn, monthsOutside, columnBalances, balances, aboveColumn, totalDiffers}
-use Rattle.filing.specs.Contents.{filedValue, amountAt, cellOffset, cellValue, sheetOffset, rateNumber, tierNumber, tiersAt, contentsOf, cell, cdYield, retailRate}
+use Rattle.decode.specs.Contents.{filedValue, amountAt, cellOffset, cellValue, sheetOffset, rateNumber, tierNumber, tiersAt, contentsOf}
+use Rattle.contents.specs.Contents.{cell, cdYield, retailRate}
 use Rattle.filing.specs.Verdict.{sheetMissing, sheetVerdict, filingVerdict}
 use Rattle.conditions.specs.CellVerdicts.{positionVerdict, monthsVerdict, columnVerdict, columnsVerdict, totalVerdict, cellsVerdict}
 

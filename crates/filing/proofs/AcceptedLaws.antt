@@ -14,15 +14,16 @@ use Rattle.schedule.specs.Cells.{positionAt, brokeredCell, penaltyBalanceCell, 
 use Rattle.schedule.specs.Limits.{classLimit, heldLimit, monthsLimit, rateLimit}
 use Rattle.schedule.specs.Shift.{pathRate}
 use Rattle.schedule.proofs.CellLaws.{coupon-cell, months-cell, penalty-months-cell}
-use Rattle.records.specs.Records.{sheetNumber}
+use Rattle.fields.specs.Records.{sheetNumber}
 use Rattle.records.specs.Kinds.{flatRatesKind, ratePathKind, sheetOf, sheetKinds, sheetKind}
 use Rattle.bodies.proofs.BodyLaws.{neither}
-use Rattle.filing.specs.Contents.{sheetOffset, rateCount, rateNumber, contentsOf, cell, cdYield, retailRate}
+use Rattle.decode.specs.Contents.{sheetOffset, rateCount, rateNumber, contentsOf}
+use Rattle.contents.specs.Contents.{cell, cdYield, retailRate}
 use Rattle.conditions.specs.Conditions.{columnBalances}
 use Rattle.filing.specs.Verdict.{sheetMissing, Accepted}
-use Rattle.filing.specs.Valid.{Valid}
+use Rattle.contents.specs.Valid.{Valid}
 use Rattle.conditions.proofs.SumLaws.{by-column}
-use Rattle.filing.proofs.SoundLaws.{cell-within, balances-within, sheet-limit, tier-count-within, tier-edges-rise, tier-withdrawal-within}
+use Rattle.decode.proofs.SoundLaws.{cell-within, balances-within, sheet-limit, tier-count-within, tier-edges-rise, tier-withdrawal-within}
 use Rattle.filing.proofs.VerdictLaws.{accepted-passed}
 use Rattle.conditions.proofs.CellVerdictLaws.{months-hold, column-holds, total-holds}
 

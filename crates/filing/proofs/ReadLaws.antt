@@ -8,9 +8,9 @@ use Rattle.answers.specs.declared.Answer.{Answer}
 use Rattle.answers.specs.Verdict.{Verdict, firstRefusal}
 use Rattle.answers.specs.Answers.{numberOf, verdictOf}
 use Rattle.answers.proofs.VerdictLaws.{first-passed, first-refused}
-use Rattle.faults.specs.RecordVerdicts.{recordsVerdict}
+use Rattle.record_verdicts.specs.RecordVerdicts.{recordsVerdict}
 use Rattle.filing.specs.declared.Reading.{Reading}
-use Rattle.filing.specs.Contents.{contentsOf}
+use Rattle.decode.specs.Contents.{contentsOf}
 use Rattle.filing.specs.Verdict.{sheetVerdict, contentsVerdict, filingVerdict}
 use Rattle.filing.specs.Readings.{emptyContents, readContents}
 

@@ -12,21 +12,21 @@ use lib.ListN.{length}
 use Rattle.schedule.specs.Limits.{couponClass, cellClass, monthsLimit, tierLimit}
 use Rattle.records.specs.declared.items.Item.{Item}
 use Rattle.records.specs.declared.items.Item.the-variants.{Cell, Sheet, Amendment, Nothing}
-use Rattle.records.specs.Records.{recordKind, recordCell, amendmentState, sheetNumber, tierCount, firstRecord}
+use Rattle.fields.specs.Records.{recordKind, recordCell, amendmentState, sheetNumber, tierCount, firstRecord}
 use Rattle.records.specs.Kinds.{fineCouponKind, amendmentKind, tiersKind, ratePathKind, flatRatesKind}
 use Rattle.records.specs.Items.{sameItem, recordItem, firstWith}
-use Rattle.records.specs.Counting.{itemRank, rank, countingBefore}
-use Rattle.records.proofs.RecordLaws.{first-le, first-passes}
+use Rattle.notes.specs.Counting.{itemRank, rank, countingBefore}
+use Rattle.fields.proofs.RecordLaws.{first-le, first-passes}
 use Rattle.records.proofs.ItemLaws.{same-item, item-past, record-of-amendment}
 use Rattle.faults.specs.Faults.{standsBefore}
-use Rattle.faults.specs.RecordVerdicts.{firstRefused, recordVerdict}
-use Rattle.faults.proofs.FaultLaws.{record-plain, faultless}
+use Rattle.record_verdicts.specs.RecordVerdicts.{firstRefused, recordVerdict}
+use Rattle.record_verdicts.proofs.FaultLaws.{record-plain, faultless}
 use Rattle.faults.proofs.RepetitionLaws.{single-stands}
-use Rattle.scan.proofs.SearchLaws.{Reached}
+use Rattle.fields.proofs.SearchLaws.{Reached}
 use Rattle.scan.proofs.NotingLaws.{table-same}
-use Rattle.scan.proofs.FirstLaws.{first-found, first-earlier, first-reached}
-use Rattle.scan.proofs.CountingLaws.{counting-most, counting-holds}
-use Rattle.filing.specs.Contents.{filedValue, amountAt, cellOffset, cellValue, sheetOffset, rateCount, rateNumber, tierNumber, tiersAt, contentsOf}
+use Rattle.fields.proofs.FirstLaws.{first-found, first-earlier, first-reached}
+use Rattle.notes.proofs.CountingLaws.{counting-most, counting-holds}
+use Rattle.decode.specs.Contents.{filedValue, amountAt, cellOffset, cellValue, sheetOffset, rateCount, rateNumber, tierNumber, tiersAt, contentsOf}
 use Rattle.filing.specs.Survivors.{withdraws, survives, Surviving}
 
 module _ (t : List ℕ) (sound : firstRefused t (recordVerdict t) ≡ length t)

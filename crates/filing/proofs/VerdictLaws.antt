@@ -7,9 +7,9 @@ use mathlib.Core.List.{List}
 use lib.ListN.{length}
 use Rattle.answers.specs.Verdict.{Verdict, accepted, firstRefusal}
 use Rattle.answers.proofs.VerdictLaws.{first-none, condition-fails}
-use Rattle.faults.specs.RecordVerdicts.{firstFaulty, recordsVerdict}
+use Rattle.record_verdicts.specs.RecordVerdicts.{firstFaulty, recordsVerdict}
 use Rattle.scan.proofs.ProgressLaws.{records-passed}
-use Rattle.filing.specs.Contents.{contentsOf}
+use Rattle.decode.specs.Contents.{contentsOf}
 use Rattle.filing.specs.Verdict.{sheetMissing, sheetVerdict, contentsVerdict, filingVerdict, Accepted}
 
 -- the conditions on an accepted filing, in their order

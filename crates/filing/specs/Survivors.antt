@@ -6,11 +6,11 @@ use mathlib.Core.List.{List}
 use lib.Dec.{ltb, eqb}
 use lib.ListN.{length}
 use Rattle.records.specs.declared.items.Item.the-variants.{Cell}
-use Rattle.records.specs.Records.{recordKind, amendmentState, sheetNumber, firstRecord}
+use Rattle.fields.specs.Records.{recordKind, amendmentState, sheetNumber, firstRecord}
 use Rattle.records.specs.Kinds.{amendmentKind}
 use Rattle.records.specs.Items.{firstWith}
-use Rattle.faults.specs.RecordVerdicts.{firstFaulty}
-use Rattle.filing.specs.Contents.{amountAt, cellOffset, sheetOffset}
+use Rattle.record_verdicts.specs.RecordVerdicts.{firstFaulty}
+use Rattle.decode.specs.Contents.{amountAt, cellOffset, sheetOffset}
 
 -- the record withdraws its cell
 unfoldable pub withdraws : List ℕ → ℕ → Bool

@@ -8,10 +8,10 @@ use lib.ListN.{length}
 use lib.Dec.{leb}
 use Rattle.answers.specs.Verdict.{Verdict, accepted, refusedIf, firstRefusal}
 use Rattle.records.specs.Kinds.{flatRatesKind, ratePathKind}
-use Rattle.faults.specs.RecordVerdicts.{recordsVerdict}
+use Rattle.record_verdicts.specs.RecordVerdicts.{recordsVerdict}
 use Rattle.conditions.specs.CellVerdicts.{cellsVerdict}
-use Rattle.filing.specs.declared.Contents.{Contents}
-use Rattle.filing.specs.Contents.{sheetOffset, contentsOf}
+use Rattle.contents.specs.declared.Contents.{Contents}
+use Rattle.decode.specs.Contents.{sheetOffset, contentsOf}
 
 -- 6: kind 2 is missing, or both of kinds 3 and 5
 unfoldable pub sheetMissing : List ℕ → Bool

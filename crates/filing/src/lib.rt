@@ -1,22 +1,23 @@
 // A filing of certificate deposits, from its bytes to what it says.
 
-mod decode;
 mod sheets;
 
-use crate::decode::contents_of;
 use crate::sheets::check_sheets;
 use amendments::check_records;
 use answers::Answer;
 use answers::number;
 use conditions::check_cells;
-use records::BLOCKS;
+use contents::Contents;
+use contents::FiledTiers;
+use decode::contents_of;
+use notes::BLOCKS;
 use records::CELLS;
 use records::KINDS;
 ghost use mathlib.Core.Path.{_≡_};
 ghost use lib.ListN.{length};
 ghost use Rattle.answers.specs.Answers.{verdictOf};
-ghost use Rattle.faults.specs.RecordVerdicts.{recordsVerdict};
-ghost use Rattle.records.specs.Inner.Notes.{notedBefore};
+ghost use Rattle.record_verdicts.specs.RecordVerdicts.{recordsVerdict};
+ghost use Rattle.notes.specs.Inner.Notes.{notedBefore};
 ghost use Rattle.filing.specs.Verdict.{sheetVerdict, filingVerdict};
 ghost use Rattle.filing.specs.Readings.{readContents, emptyContents};
 
@@ -76,22 +77,4 @@ fn refusal(answer: Answer) -> Reading
         },
     };
     Reading { answer, contents }
-}
-
-// What an accepted filing says: the values of cells 601 to 661, the CD yields of months 1 to 120, the retail rates of months 1 to 120 column by column, and
-// its tiers of annual withdrawal. Cells are in their own units, coupons among them in
-// thousandths of a percent a year, yields and rates in hundredths.
-pub struct Contents {
-    pub cells: [u64; 61],
-    pub yields: [u16; 120],
-    pub rates: [u16; 360],
-    pub tiers: FiledTiers,
-}
-
-// The tiers that a filing carries, lowest edge first: edges in hundredths, annual withdrawals in thousandths. The places past the count are 0, and a
-// filing without tiers has count 0.
-pub struct FiledTiers {
-    pub count: usize,
-    pub edges: [u16; 16],
-    pub withdrawals: [u16; 16],
 }

@@ -6,7 +6,7 @@ use records::kinds::RATE_PATH_KIND;
 ghost use mathlib.Core.Path.{_≡_};
 ghost use lib.ListN.{length};
 ghost use Rattle.answers.specs.Answers.{verdictOf};
-ghost use Rattle.records.specs.Inner.Notes.{notedBefore};
+ghost use Rattle.notes.specs.Inner.Notes.{notedBefore};
 ghost use Rattle.filing.specs.Verdict.{sheetVerdict};
 
 // 6, from where the sheets stand: one that is missing is noted at the input's length.

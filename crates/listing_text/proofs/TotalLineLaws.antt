@@ -11,7 +11,7 @@ use lib.ListN.{length, getD, length-append}
 use Rattle.lists.specs.Tables.{tableFrom, joined}
 use Rattle.lists.proofs.EachLaws.{each-lt}
 use Rattle.lists.proofs.TableLaws.{table-ext}
-use Rattle.filing.specs.declared.Contents.{Contents}
+use Rattle.contents.specs.declared.Contents.{Contents}
 use Rattle.valuation.specs.Numbers.{scenarioTotals, numbers}
 use Rattle.valuation.proofs.NumberLaws.{rows, totals, numbers-split, total-read}
 use Rattle.text.specs.Decimal.{digitsWithin, decimal, signed}

@@ -8,8 +8,8 @@ use lib.ListN.{length}
 use Rattle.lists.specs.Tables.{table, joined}
 use Rattle.schedule.specs.Shift.{scenarioCount}
 use Rattle.answers.specs.Verdict.{Verdict}
-use Rattle.filing.specs.declared.Contents.{Contents}
-use Rattle.filing.specs.Contents.{contentsOf}
+use Rattle.contents.specs.declared.Contents.{Contents}
+use Rattle.decode.specs.Contents.{contentsOf}
 use Rattle.filing.specs.Verdict.{filingVerdict}
 use Rattle.valuation.specs.Numbers.{scenarioTotals}
 use Rattle.text.specs.Decimal.{signed}

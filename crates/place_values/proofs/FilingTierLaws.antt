@@ -10,9 +10,9 @@ use Rattle.lists.proofs.TestLaws.{either}
 use Rattle.withdrawal.specs.Tiers.{TierTable, Falling, Highest, tier, annualWithdrawal}
 use Rattle.withdrawal.proofs.FallingLaws.{house-falling, falling-from}
 use Rattle.withdrawal.proofs.HighestLaws.{highest-withdrawal}
-use Rattle.filing.specs.declared.Contents.{Contents}
-use Rattle.filing.specs.declared.FiledTiers.{FiledTiers}
-use Rattle.filing.specs.Valid.{Valid}
+use Rattle.contents.specs.declared.Contents.{Contents}
+use Rattle.contents.specs.declared.FiledTiers.{FiledTiers}
+use Rattle.contents.specs.Valid.{Valid}
 use Rattle.place_values.specs.PlaceTerms.{ownTiers, tiersOf, filingTiers}
 use Rattle.place_values.specs.Inner.FiledLimits.{FiledLimits}
 

@@ -10,11 +10,12 @@ use lib.ListN.{length}
 use Rattle.lists.proofs.TableLaws.{table-getD}
 use Rattle.schedule.specs.Limits.{monthsLimit}
 use Rattle.schedule.specs.Shift.{shiftedRate, pathRate}
-use Rattle.records.specs.Records.{sheetNumber}
+use Rattle.fields.specs.Records.{sheetNumber}
 use Rattle.records.specs.Kinds.{flatRatesKind, ratePathKind}
 use Rattle.conditions.proofs.SumLaws.{column-range}
-use Rattle.filing.specs.Contents.{sheetOffset, rateCount, rateNumber, contentsOf, retailRate}
-use Rattle.filing.specs.Valid.{Valid}
+use Rattle.decode.specs.Contents.{sheetOffset, rateCount, rateNumber, contentsOf}
+use Rattle.contents.specs.Contents.{retailRate}
+use Rattle.contents.specs.Valid.{Valid}
 use Rattle.shares.specs.Places.{placeAt}
 use Rattle.shares.specs.SubBalances.{positionOf}
 use Rattle.deposits.specs.DepositTerms.{termsOf}

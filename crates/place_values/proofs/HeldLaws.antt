@@ -8,9 +8,9 @@ use lib.Dec.{lit<}
 use Rattle.fraction.specs.Fraction.{Encloses}
 use Rattle.schedule.specs.Limits.{balanceLimit}
 use Rattle.schedule.specs.Shift.{pathRate}
-use Rattle.filing.specs.declared.Contents.{Contents}
-use Rattle.filing.specs.Contents.{cdYield}
-use Rattle.filing.specs.Valid.{Valid}
+use Rattle.contents.specs.declared.Contents.{Contents}
+use Rattle.contents.specs.Contents.{cdYield}
+use Rattle.contents.specs.Valid.{Valid}
 use Rattle.shares.specs.declared.SubBalance.{SubBalance}
 use Rattle.shares.specs.SubBalances.{positionOf}
 use Rattle.totals.specs.RowTotals.{valueLimit}

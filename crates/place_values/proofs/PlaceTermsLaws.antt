@@ -4,8 +4,8 @@ use native.Mathlib.Omega.{arith}
 use Rattle.lists.proofs.TestLaws.{either}
 use Rattle.schedule.specs.Cells.{positionAt}
 use Rattle.schedule.specs.Limits.{penaltyLimit}
-use Rattle.filing.specs.declared.Contents.{Contents}
-use Rattle.filing.specs.Valid.{Valid}
+use Rattle.contents.specs.declared.Contents.{Contents}
+use Rattle.contents.specs.Valid.{Valid}
 use Rattle.shares.specs.Places.{placeAt}
 use Rattle.shares.specs.SubBalances.{positionOf, couponAt, monthsAt, withPenalty, penaltyAt}
 use Rattle.conditions.proofs.SumLaws.{column-range}

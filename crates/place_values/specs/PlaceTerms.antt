@@ -5,9 +5,9 @@ use lib.Dec.{eqb}
 use lib.ListN.{getD}
 use Rattle.lists.specs.Tables.{table}
 use Rattle.schedule.specs.Shift.{shiftedRate}
-use Rattle.filing.specs.declared.Contents.{Contents}
-use Rattle.filing.specs.declared.FiledTiers.{FiledTiers}
-use Rattle.filing.specs.Contents.{cdYield, retailRate}
+use Rattle.contents.specs.declared.Contents.{Contents}
+use Rattle.contents.specs.declared.FiledTiers.{FiledTiers}
+use Rattle.contents.specs.Contents.{cdYield, retailRate}
 use Rattle.shares.specs.declared.SubBalance.{SubBalance}
 use Rattle.shares.specs.SubBalances.{positionOf, isBrokered}
 use Rattle.withdrawal.specs.Tiers.{TierTable, tier, houseTiers}

@@ -5,7 +5,7 @@ use mathlib.Core.Bool.{Bool, true, false, _||_}
 use mathlib.Core.List.{List}
 use lib.Dec.{ltb}
 use Rattle.answers.specs.Answers.{verdictOf}
-use Rattle.filing.specs.Contents.{contentsOf}
+use Rattle.decode.specs.Contents.{contentsOf}
 use Rattle.filing.specs.Verdict.{filingVerdict, Accepted}
 use Rattle.withdrawal.specs.declared.Incentive.{Incentive}
 use Rattle.withdrawal.specs.Reached.{reachedTier}

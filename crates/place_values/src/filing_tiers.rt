@@ -1,5 +1,5 @@
 // The withdrawal tiers of a filing.
-use filing::FiledTiers;
+use contents::FiledTiers;
 use withdrawal::WithdrawalTiers;
 use withdrawal::tiers::house;
 use withdrawal::tiers::with_survivals;

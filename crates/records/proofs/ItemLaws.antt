@@ -12,12 +12,12 @@ use Rattle.schedule.specs.Limits.{couponClass, cellClass}
 use Rattle.schedule.proofs.ClassLaws.{class-listed}
 use Rattle.records.specs.declared.items.Item.{Item}
 use Rattle.records.specs.declared.items.Item.the-variants.{Cell, Sheet, Amendment, Nothing}
-use Rattle.records.specs.Records.{recordKind, recordCell, amendmentNumber}
+use Rattle.fields.specs.Records.{recordKind, recordCell, amendmentNumber}
 use Rattle.records.specs.Kinds.{kindCount, cellKind, fineCouponKind, amendmentKind, givesCell, sheetOf, sheetKinds, sheetKind, sheetLength, tiersKind, dueLength}
 use Rattle.records.specs.Items.{sameItem, recordClass, recordItem, firstWith}
-use Rattle.records.specs.Inner.Notes.{firstCell, cellCount}
-use Rattle.records.proofs.ByteLaws.{number-past}
-use Rattle.records.proofs.RecordLaws.{first-passes}
+use Rattle.records.specs.Items.{firstCell, cellCount}
+use Rattle.fields.proofs.ByteLaws.{number-past}
+use Rattle.fields.proofs.RecordLaws.{first-passes}
 
 both : (a b : Bool) → (a && b) ≡ true → (a ≡ true) × (b ≡ true)
 both true b e = (refl, e)

@@ -1,4 +1,1 @@
-pub mod ByteLaws
-pub mod RecordLaws
 pub mod ItemLaws
-pub mod NoteLaws

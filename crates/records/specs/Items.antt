@@ -7,8 +7,15 @@ use lib.Dec.{eqb}
 use Rattle.schedule.specs.Limits.{couponClass, cellClass}
 use Rattle.records.specs.declared.items.Item.{Item}
 use Rattle.records.specs.declared.items.Item.the-variants.{Cell, Sheet, Amendment, Nothing}
-use Rattle.records.specs.Records.{recordKind, recordCell, amendmentNumber, firstRecord}
+use Rattle.fields.specs.Records.{recordKind, recordCell, amendmentNumber, firstRecord}
 use Rattle.records.specs.Kinds.{givesCell, fineCouponKind, amendmentKind, dueLength}
+
+-- the cells that may be listed: so many from the first on
+abbrev pub firstCell : ℕ
+firstCell = 601
+
+abbrev pub cellCount : ℕ
+cellCount = 61
 
 -- the same cell, the same kind of sheet, or the same amendment of a cell
 unfoldable pub sameItem : Item → Item → Bool

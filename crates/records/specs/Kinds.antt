@@ -6,7 +6,7 @@ use lib.ListN.{getD}
 use lib.Dec.{eqb}
 use Rattle.schedule.specs.Limits.{rateLimit}
 use Rattle.records.specs.declared.kinds.SheetKind.{SheetKind}
-use Rattle.records.specs.Records.{recordKind, tierCount}
+use Rattle.fields.specs.Records.{recordKind, tierCount}
 
 -- the kinds are below this number
 abbrev pub kindCount : ℕ

@@ -1,11 +1,11 @@
 // What may stand only once in a filing.
-use crate::fields::amendment_number;
-use crate::fields::record_cell;
-use crate::fields::record_kind;
 use crate::kinds::AMENDMENT_KIND;
 use crate::kinds::FINE_COUPON_KIND;
 use crate::kinds::due_length;
 use crate::kinds::gives_cell;
+use fields::amendment_number;
+use fields::record_cell;
+use fields::record_kind;
 use schedule::tables::COUPON_CLASS;
 use schedule::tables::cell_class;
 ghost use mathlib.Core.Path.{_≡_};

@@ -1,7 +1,7 @@
 // The kinds of record: what a sheet of each kind holds, and the length that a record is to have.
 use crate::KINDS;
-use crate::fields::record_kind;
-use crate::fields::tier_count;
+use fields::record_kind;
+use fields::tier_count;
 ghost use mathlib.Core.Path.{_≡_};
 ghost use Rattle.records.specs.Kinds.{givesCell, namesCell, sheetKind, dueLength};
 

@@ -12,17 +12,18 @@ use lib.ListN.{length, set}
 use Rattle.lists.specs.Tables.{tableFrom}
 use Rattle.records.specs.declared.items.Item.{Item}
 use Rattle.records.specs.declared.items.Item.the-variants.{Cell, Sheet, Amendment, Nothing}
-use Rattle.records.specs.Records.{nextRecord, searchRecords, firstRecord}
+use Rattle.fields.specs.Records.{nextRecord, searchRecords, firstRecord}
 use Rattle.records.specs.Kinds.{kindCount}
 use Rattle.records.specs.Items.{sameItem, recordItem, firstWith}
-use Rattle.records.specs.Counting.{itemRank, countsFrom, countingBefore}
-use Rattle.records.specs.Inner.Notes.{Noted, firstCell, cellCount, offsetBefore, blockCount, blockOf, amendsIn, fallsAs, falls, fallsBefore, notedBefore, nothingNoted, noteCounting, noteFalling, noteItem}
+use Rattle.notes.specs.Counting.{itemRank, countsFrom, countingBefore}
+use Rattle.notes.specs.Inner.Notes.{Noted, offsetBefore, blockCount, blockOf, amendsIn, fallsAs, falls, fallsBefore, notedBefore, nothingNoted, noteCounting, noteFalling, noteItem}
+use Rattle.records.specs.Items.{firstCell, cellCount}
 use Rattle.records.proofs.ItemLaws.{record-of-cell, record-of-sheet, record-of-amendment}
-use Rattle.records.proofs.NoteLaws.{block-lt, noted-counting, noted-falling}
+use Rattle.notes.proofs.NoteLaws.{block-lt, noted-counting, noted-falling}
 use Rattle.faults.specs.Faults.{standsBefore, repeated}
 use Rattle.faults.proofs.RepetitionLaws.{single-stands}
-use Rattle.scan.proofs.SearchLaws.{Reached, next-lt, first-next}
-use Rattle.scan.proofs.CountingLaws.{counting-next, counting-stays, falls-next, falls-stays}
+use Rattle.fields.proofs.SearchLaws.{Reached, next-lt, first-next}
+use Rattle.notes.proofs.CountingLaws.{counting-next, counting-stays, falls-next, falls-stays}
 
 -- tables of functions that agree are equal
 pub table-same {ℓ} : {A : Type ℓ} (base n : ℕ) (f g : ℕ → A) → ((j : ℕ) → base ≤ j → j < base + n → f j ≡ g j) → tableFrom base n f ≡ tableFrom base n g

@@ -13,18 +13,20 @@ use Rattle.answers.specs.declared.Answer.{Answer}
 use Rattle.answers.specs.declared.Answer.the-variants.{Accepted}
 use Rattle.answers.specs.Verdict.{Verdict, accepted}
 use Rattle.answers.specs.Answers.{verdictOf}
-use Rattle.scan.specs.declared.Step.{Step}
-use Rattle.scan.specs.declared.Step.the-variants.{Record, End}
-use Rattle.records.specs.Records.{recordCell, nextRecord}
+use Rattle.reader.specs.declared.Step.{Step}
+use Rattle.reader.specs.declared.Step.the-variants.{Record, End}
+use Rattle.fields.specs.Records.{recordCell, nextRecord}
 use Rattle.records.specs.Items.{recordItem}
-use Rattle.faults.specs.RecordVerdicts.{firstRefused, verdictBy, firstFaulty, recordVerdict, recordsVerdict}
-use Rattle.faults.specs.Inner.PlainVerdicts.{plainVerdict, firstPlain, plainsVerdict, SoundCell}
-use Rattle.scan.specs.Inner.Steps.{stepAt}
-use Rattle.records.specs.Inner.Notes.{Noted, firstCell, notedAs, notedBefore, nothingNoted, noteCounting, noteItem}
+use Rattle.record_verdicts.specs.RecordVerdicts.{firstRefused, verdictBy, firstFaulty, recordVerdict, recordsVerdict}
+use Rattle.record_verdicts.specs.Inner.PlainVerdicts.{plainVerdict, firstPlain, plainsVerdict}
+use Rattle.sound_records.specs.Inner.SoundRecords.{SoundCell}
+use Rattle.reader.specs.Inner.Steps.{stepAt}
+use Rattle.notes.specs.Inner.Notes.{Noted, notedAs, notedBefore, nothingNoted, noteCounting, noteItem}
+use Rattle.records.specs.Items.{firstCell}
 use Rattle.scan.specs.Inner.Scans.{Visited}
-use Rattle.faults.proofs.FaultLaws.{faultless, complete-ends}
-use Rattle.records.proofs.RecordLaws.{first-le, first-passes}
-use Rattle.scan.proofs.SearchLaws.{Reached, here, reached-next, Ahead, ahead-start, ahead-here, ahead-next, ahead-done}
+use Rattle.record_verdicts.proofs.FaultLaws.{faultless, complete-ends}
+use Rattle.fields.proofs.RecordLaws.{first-le, first-passes}
+use Rattle.fields.proofs.SearchLaws.{Reached, here, reached-next, Ahead, ahead-start, ahead-here, ahead-next, ahead-done}
 use Rattle.scan.proofs.NotingLaws.{noted-start, noted-next}
 
 -- what a step says of the bytes at its offset

@@ -1,36 +1,26 @@
 // The records of a filing, front to back: a reader moves over them, and each is tested.
-
-pub mod reader;
-mod steps;
-
-use crate::reader::step_at;
 use answers::Answer;
 use answers::number;
-use faults::check_record;
-use faults::sound_cell;
-use records::BLOCKS;
+use fields::record_cell;
+use notes::BLOCKS;
+use notes::note;
+use notes::note_cell;
+use reader::Step;
+use reader::step_at;
+use record_verdicts::check_record;
 use records::CELLS;
 use records::KINDS;
-use records::fields::record_cell;
-use records::notes::note;
-use records::notes::note_cell;
 use schedule::cell_limits::cell_limits;
+use sound_records::sound_cell;
 ghost use mathlib.Core.Path.{_≡_};
 ghost use Prim.Native.Nat.{_<_};
 ghost use lib.ListN.{length};
 ghost use Rattle.answers.specs.Answers.{verdictOf};
-ghost use Rattle.records.specs.Records.{nextRecord};
-ghost use Rattle.records.specs.Inner.Notes.{notedAs, notedBefore};
+ghost use Rattle.fields.specs.Records.{nextRecord};
+ghost use Rattle.notes.specs.Inner.Notes.{notedAs, notedBefore};
 ghost use Rattle.scan.specs.Inner.Scans.{Visited};
-ghost use Rattle.faults.specs.Inner.PlainVerdicts.{firstPlain, plainsVerdict, cellLimits};
-
-// What stands at an offset of a filing.
-pub enum Step {
-    // A record, with the offset of the record after it.
-    Record(usize),
-    // Nothing: the offset is at the end, or past it.
-    End,
-}
+ghost use Rattle.record_verdicts.specs.Inner.PlainVerdicts.{firstPlain, plainsVerdict};
+ghost use Rattle.sound_records.specs.Inner.SoundRecords.{cellLimits};
 
 // The answer on the records by all tests but 16, and the offset of the first faulty one: the input's length where none is.
 pub struct Scanned {

@@ -7,8 +7,8 @@ use native.Mathlib.Omega.{arith}
 use lib.Dec.{eqb}
 use lib.ListN.{getD, set}
 use Rattle.lists.proofs.FillLaws.{Filled, fill-more}
-use Rattle.filing.specs.declared.Contents.{Contents}
-use Rattle.filing.specs.Valid.{Valid}
+use Rattle.contents.specs.declared.Contents.{Contents}
+use Rattle.contents.specs.Valid.{Valid}
 use Rattle.shares.specs.SubBalances.{positionOf, balanceAt, couponAt, monthsAt, withPenalty, penaltyAt}
 use Rattle.shares.specs.declared.Row.{Row}
 use Rattle.shares.specs.declared.SubBalance.{SubBalance}

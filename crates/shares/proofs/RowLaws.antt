@@ -11,10 +11,10 @@ use Rattle.lists.proofs.EachLaws.{each-lt}
 use Rattle.lists.proofs.SumLaws.{sum-take-suc, sum-take-le}
 use Rattle.schedule.specs.declared.Position.{Position}
 use Rattle.schedule.specs.Cells.{position, positions, positionAt, inColumn, brokeredCell, penaltyBalanceCell}
-use Rattle.filing.specs.declared.Contents.{Contents}
-use Rattle.filing.specs.Contents.{cell}
+use Rattle.contents.specs.declared.Contents.{Contents}
+use Rattle.contents.specs.Contents.{cell}
 use Rattle.conditions.specs.Conditions.{columnBalances}
-use Rattle.filing.specs.Valid.{Valid}
+use Rattle.contents.specs.Valid.{Valid}
 use Rattle.conditions.specs.Inner.Sums.{columnSum}
 use Rattle.conditions.proofs.SumLaws.{column-range, column-sum, column-limit}
 use Rattle.shares.specs.declared.Row.{Row}

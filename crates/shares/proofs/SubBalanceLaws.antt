@@ -12,10 +12,10 @@ use Rattle.lists.proofs.SumLaws.{sum-getD-le, sumWhere-ext}
 use Rattle.schedule.specs.declared.Position.{Position}
 use Rattle.schedule.specs.Cells.{position, positions, positionAt, inColumn, brokeredCell, penaltyBalanceCell, totalCell}
 use Rattle.schedule.specs.Limits.{balanceLimit}
-use Rattle.filing.specs.declared.Contents.{Contents}
-use Rattle.filing.specs.Contents.{cell}
+use Rattle.contents.specs.declared.Contents.{Contents}
+use Rattle.contents.specs.Contents.{cell}
 use Rattle.conditions.specs.Conditions.{columnBalances, balances}
-use Rattle.filing.specs.Valid.{Valid}
+use Rattle.contents.specs.Valid.{Valid}
 use Rattle.conditions.proofs.SumLaws.{column-range}
 use Rattle.shares.specs.SubBalances.{brokeredShares, accountParts, penaltyShares, brokeredIn, retailIn, retailPenalized, brokeredPenalized, fourOf, positionOf, balanceAt, subBalanceCount}
 use Rattle.shares.proofs.ApportionLaws.{apportion-sum, apportion-le, apportion-length}

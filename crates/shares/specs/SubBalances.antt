@@ -6,8 +6,8 @@ use lib.Dec.{leb, eqb}
 use lib.ListN.{getD}
 use Rattle.schedule.specs.declared.Position.{Position}
 use Rattle.schedule.specs.Cells.{positionAt, brokeredCell, penaltyBalanceCell, penaltyMonthsCell}
-use Rattle.filing.specs.declared.Contents.{Contents}
-use Rattle.filing.specs.Contents.{cell}
+use Rattle.contents.specs.declared.Contents.{Contents}
+use Rattle.contents.specs.Contents.{cell}
 use Rattle.conditions.specs.Conditions.{columnBalances}
 use Rattle.shares.specs.Apportion.{apportion}
 

@@ -10,7 +10,7 @@ use Rattle.answers.specs.Verdict.{Verdict, refused}
 use Rattle.answers.specs.Answers.{numberOf, verdictOf}
 use Rattle.answers.proofs.VerdictLaws.{list-short, list-long}
 use Rattle.filing.specs.Verdict.{filingVerdict}
-use Rattle.filing.specs.Contents.{contentsOf}
+use Rattle.decode.specs.Contents.{contentsOf}
 use Rattle.split_list.specs.declared.Outcome.{Outcome}
 use Rattle.shares.specs.Places.{placesOf, noPlace}
 use Rattle.split_list.specs.Split.{splitVerdict, splitAccepts, OutcomeOf}

@@ -9,7 +9,7 @@ use lib.ListN.{length, take, drop, replicate}
 use lib.Seq.{take-all}
 use Rattle.lists.proofs.TableLaws.{table-length}
 use Rattle.answers.proofs.VerdictLaws.{list-none}
-use Rattle.filing.specs.Contents.{contentsOf}
+use Rattle.decode.specs.Contents.{contentsOf}
 use Rattle.filing.specs.Verdict.{filingVerdict}
 use Rattle.shares.specs.declared.SubBalance.{SubBalance}
 use Rattle.split_list.specs.declared.Outcome.{Outcome}

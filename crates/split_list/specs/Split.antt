@@ -9,7 +9,7 @@ use Rattle.answers.specs.declared.Answer.{Answer}
 use Rattle.answers.specs.Verdict.{Verdict, firstRefusal, listVerdict}
 use Rattle.answers.specs.Answers.{verdictOf}
 use Rattle.filing.specs.Verdict.{filingVerdict}
-use Rattle.filing.specs.Contents.{contentsOf}
+use Rattle.decode.specs.Contents.{contentsOf}
 use Rattle.shares.specs.declared.SubBalance.{SubBalance}
 use Rattle.split_list.specs.declared.Outcome.{Outcome}
 use Rattle.shares.specs.SubBalances.{subBalanceCount}

@@ -10,9 +10,10 @@ use Rattle.lists.proofs.SumLaws.{sumWhere-ext}
 use Rattle.fraction.specs.Fraction.{Encloses}
 use Rattle.schedule.specs.declared.Position.{Position}
 use Rattle.schedule.specs.Cells.{positionAt, totalCell}
-use Rattle.filing.specs.declared.Contents.{Contents}
-use Rattle.filing.specs.Contents.{contentsOf, cell}
-use Rattle.filing.specs.Valid.{Valid}
+use Rattle.contents.specs.declared.Contents.{Contents}
+use Rattle.decode.specs.Contents.{contentsOf}
+use Rattle.contents.specs.Contents.{cell}
+use Rattle.contents.specs.Valid.{Valid}
 use Rattle.shares.specs.SubBalances.{fourOf, positionOf, balanceAt, subBalanceCount}
 use Rattle.shares.proofs.SubBalanceLaws.{four-sum, balanceAt-total}
 use Rattle.pricing.specs.Rounding.{down, up}

@@ -9,8 +9,8 @@ use lib.ListN.{getD}
 use borrow.Author.Tests.{ne-eqb}
 use Rattle.lists.proofs.TableLaws.{table-getD, joined-le}
 use Rattle.schedule.specs.Limits.{balanceLimit}
-use Rattle.filing.specs.declared.Contents.{Contents}
-use Rattle.filing.specs.Valid.{Valid}
+use Rattle.contents.specs.declared.Contents.{Contents}
+use Rattle.contents.specs.Valid.{Valid}
 use Rattle.shares.specs.declared.SubBalance.{SubBalance}
 use Rattle.shares.specs.SubBalances.{balanceAt, monthsAt}
 use Rattle.shares.specs.Places.{placeAt, placesOf, placeIn}

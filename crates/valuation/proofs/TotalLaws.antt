@@ -12,8 +12,8 @@ use Rattle.lists.proofs.RunLaws.{Overwritten, overwritten-is, overwritten-more}
 use Rattle.lists.proofs.SumLaws.{sumWhere-ext}
 use Rattle.lists.proofs.TableLaws.{table-ext, joined-le}
 use Rattle.schedule.specs.Cells.{positions, position, positionAt}
-use Rattle.filing.specs.declared.Contents.{Contents}
-use Rattle.filing.specs.Valid.{Valid}
+use Rattle.contents.specs.declared.Contents.{Contents}
+use Rattle.contents.specs.Valid.{Valid}
 use Rattle.shares.specs.SubBalances.{positionOf}
 use Rattle.pricing.specs.Rounding.{down, up}
 use Rattle.valuation.specs.Rows.{isShort, isLong}

@@ -8,9 +8,9 @@ use Rattle.lists.proofs.SumLaws.{sumWhere-mono, sumWhere-add, sumWhere-mul, sum
 use Rattle.fraction.specs.Fraction.{Encloses}
 use Rattle.fraction.proofs.EnclosureLaws.{total-encloses}
 use Rattle.schedule.specs.Cells.{totalCell}
-use Rattle.filing.specs.declared.Contents.{Contents}
-use Rattle.filing.specs.Contents.{cell}
-use Rattle.filing.specs.Valid.{Valid}
+use Rattle.contents.specs.declared.Contents.{Contents}
+use Rattle.contents.specs.Contents.{cell}
+use Rattle.contents.specs.Valid.{Valid}
 use Rattle.shares.specs.SubBalances.{balanceAt, subBalanceCount}
 use Rattle.shares.specs.Places.{placeAt}
 use Rattle.shares.proofs.SubBalanceLaws.{balanceAt-total}

@@ -12,7 +12,8 @@ use Rattle.schedule.specs.Cells.{positionAt, totalCell}
 use Rattle.answers.specs.declared.Answer.{Answer}
 use Rattle.answers.specs.Answers.{verdictOf}
 use Rattle.answers.specs.Verdict.{Verdict, accepted, firstRefusal, listVerdict}
-use Rattle.filing.specs.Contents.{contentsOf, cell}
+use Rattle.decode.specs.Contents.{contentsOf}
+use Rattle.contents.specs.Contents.{cell}
 use Rattle.filing.specs.Verdict.{filingVerdict}
 use Rattle.shares.specs.SubBalances.{subBalanceCount}
 use Rattle.valuation.specs.Rows.{isShort, isLong}

@@ -1,6 +1,6 @@
 // The 568 numbers of what an accepted filing says, written into a list.
+use contents::Contents;
 use deposits::factors::factor_table;
-use filing::Contents;
 use lists::write;
 use place_values::filing_tiers::tiers_of;
 use place_values::longest_term::longest_term;
@@ -12,7 +12,7 @@ ghost use mathlib.Core.List.{_++_};
 ghost use Prim.Native.Nat.{_≤_};
 ghost use lib.ListN.{length, drop};
 ghost use Rattle.lists.specs.Tables.{table, joined};
-ghost use Rattle.filing.specs.Valid.{Valid};
+ghost use Rattle.contents.specs.Valid.{Valid};
 ghost use Rattle.shares.specs.SubBalances.{subBalanceCount};
 ghost use Rattle.valuation.specs.Numbers.{placeNumbers, numbers, numberCount};
 

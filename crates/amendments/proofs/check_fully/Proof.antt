@@ -1,7 +1,7 @@
 -- `check_fully` meets its contract: the tests before 16, then 16, then those after it.
 -- Assumes nothing.
 use mathlib.Core.Path.{_∙_}
-use Rattle.faults.specs.RecordVerdicts.{recordVerdict}
+use Rattle.record_verdicts.specs.RecordVerdicts.{recordVerdict}
 use borrow.Author.Needs.{needs}
 use Rattle.amendments.proofs.check_fully.Statement.{statement}
 use Rattle.amendments.proofs.check_fully.Tie as tie

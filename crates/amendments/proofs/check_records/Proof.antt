@@ -6,9 +6,9 @@ use mathlib.Core.Path.{_≡_, sym, ap, _∙_}
 use mathlib.Core.List.{List}
 use Rattle.answers.specs.Verdict.{accepted, refused}
 use Rattle.answers.specs.Answers.{verdictOf}
-use Rattle.records.specs.Inner.Notes.{Noted, blockCount, notedBefore}
-use Rattle.faults.specs.RecordVerdicts.{recordVerdict}
-use Rattle.faults.specs.Inner.PlainVerdicts.{firstPlain}
+use Rattle.notes.specs.Inner.Notes.{Noted, blockCount, notedBefore}
+use Rattle.record_verdicts.specs.RecordVerdicts.{recordVerdict}
+use Rattle.record_verdicts.specs.Inner.PlainVerdicts.{firstPlain}
 use Rattle.amendments.specs.Inner.Repetitions.{repetitionsBelow}
 use Rattle.amendments.proofs.VerdictLaws.{found, plain-le, faulty-first, again-verdict, here-first, none-verdict, here-verdict}
 use borrow.Author.Needs.{needs}

@@ -7,8 +7,8 @@ use mathlib.Core.Path.{_≡_, refl, sym, ap, _∙_}
 use mathlib.Core.Bool.{Bool, false}
 use mathlib.Core.List.{List}
 use lib.ListN.{getD}
-use Rattle.records.specs.Inner.Notes.{blockCount}
-use Rattle.records.proofs.NoteLaws.{noted-falling}
+use Rattle.notes.specs.Inner.Notes.{blockCount}
+use Rattle.notes.proofs.NoteLaws.{noted-falling}
 use Rattle.amendments.specs.Inner.Repetitions.{repetitionsBelow}
 use Rattle.amendments.proofs.RepetitionLaws.{rising-single, repetitions-le}
 use Rattle.amendments.proofs.first_repetition.Statement.{statement}

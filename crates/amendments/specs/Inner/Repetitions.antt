@@ -7,9 +7,9 @@ use lib.Dec.{eqb}
 use Rattle.numbers.specs.Members.{member, withMember}
 use Rattle.records.specs.declared.items.Item.{Item}
 use Rattle.records.specs.declared.items.Item.the-variants.{Cell, Sheet, Amendment, Nothing}
-use Rattle.records.specs.Records.{firstRecord}
-use Rattle.records.specs.Items.{recordItem}
-use Rattle.records.specs.Inner.Notes.{firstCell, blockSize, blockOf, amendsIn}
+use Rattle.fields.specs.Records.{firstRecord}
+use Rattle.records.specs.Items.{firstCell, recordItem}
+use Rattle.notes.specs.Inner.Notes.{blockSize, blockOf, amendsIn}
 use Rattle.faults.specs.Faults.{standsBefore}
 
 -- an amendment with a number of a block that an earlier one of its cell has

@@ -11,10 +11,12 @@ check-months-requires : tie.Need-check-months-requires
 check-months-requires c κs = search needs
 
 check-columns-requires : tie.Need-check-columns-requires
-check-columns-requires c κs = cc
+check-columns-requires c κs = rw (c .before .before .before .column-sums .ensures)
 
 check-total-requires : tie.Need-check-total-requires
-check-total-requires c κs = (search needs, cc)
+check-total-requires c κs =
+    let columns = c .before .before in
+    (columns .before .before .before .before .before .pre, rw (columns .before .before .before .before .column-sums .ensures))
 
 first-refusal-requires : tie.Need-first-refusal-requires
 first-refusal-requires c κs = search needs
@@ -24,7 +26,11 @@ first-refusal-requires-2 c κs = search needs
 
 returns : tie.Need-returns
 unfolding cellsVerdict
-returns c = cc
+returns c =
+    let total = c .before .before in
+    let columns = total .before .before .before in
+    rw (← columns .before .before .before .check-months .ensures, ← columns .check-columns .ensures, ← total .check-total .ensures, ← c .before .first-refusal .ensures)
+    (c .first-refusal2 .ensures)
 
 pub check-cells-spec : {M : Type 1} → statement M
 check-cells-spec =

@@ -5,9 +5,9 @@ use native.Mathlib.Omega.{arith}
 use Prim.Native.Nat.{_+_, _<_}
 use lib.ListN.{length}
 use borrow.Author.Tests.{lt-ltb}
-use Rattle.records.specs.Records.{nextRecord}
+use Rattle.fields.specs.Records.{nextRecord}
 use Rattle.faults.specs.Faults as faults
-use Rattle.records.proofs.ByteLaws.{number-lt}
+use Rattle.fields.proofs.ByteLaws.{number-lt}
 use Rattle.faults.proofs.incomplete.Statement.{statement}
 use Rattle.faults.proofs.incomplete.Tie as tie
 

@@ -11,7 +11,7 @@ due-length-requires : tie.Need-due-length-requires
 due-length-requires c κs = search needs
 
 returns : tie.Need-returns
-returns c = cc
+returns c = rw (c .due-length .ensures, c .before .record-length .ensures)
 
 pub misshapen-spec : {M : Type 1} → statement M
 misshapen-spec = tie.close (tie.spec record-length-requires due-length-requires returns)

@@ -14,7 +14,7 @@ record-class-requires : tie.Need-record-class-requires
 record-class-requires c κs = search needs
 
 returns : tie.Need-returns
-returns c = cc
+returns c = rw (c .record-class .ensures, c .before .names-cell .ensures, c .before .before .record-kind .ensures)
 
 pub unlisted-spec : {M : Type 1} → statement M
 unlisted-spec =

@@ -7,10 +7,10 @@ use borrow.Author.Needs.{needs}
 use lib.ListN.{length}
 use Rattle.answers.specs.Verdict.{Verdict}
 use Rattle.answers.specs.Answers.{verdictOf}
-use Rattle.records.specs.Inner.Notes.{Noted, notedBefore}
-use Rattle.faults.specs.RecordVerdicts.{recordsVerdict}
+use Rattle.notes.specs.Inner.Notes.{Noted, notedBefore}
+use Rattle.record_verdicts.specs.RecordVerdicts.{recordsVerdict}
 use Rattle.amendments.proofs.VerdictLaws.{plain-passed}
-use Rattle.faults.specs.Inner.PlainVerdicts.{firstPlain}
+use Rattle.record_verdicts.specs.Inner.PlainVerdicts.{firstPlain}
 use Rattle.filing.specs.Verdict.{sheetVerdict}
 use Rattle.filing.proofs.ReadLaws.{records-refuse, sheets-refuse, refused-reading}
 use Rattle.filing.proofs.read.Statement.{statement}

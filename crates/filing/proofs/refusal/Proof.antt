@@ -2,11 +2,11 @@
 -- Assumes nothing.
 use mathlib.Core.Path.{refl}
 use Rattle.lists.specs.Tables.{tableFrom}
-use Rattle.records.specs.Bytes.{numberAt}
-use Rattle.records.specs.Records.{searchRecords, firstRecord}
+use Rattle.fields.specs.Bytes.{numberAt}
+use Rattle.fields.specs.Records.{searchRecords, firstRecord}
 use Rattle.records.specs.Items.{firstWith}
-use Rattle.records.specs.Counting.{countsFrom, countingBefore}
-use Rattle.filing.specs.Contents.{cellOffset, cellValue, sheetOffset, rateNumber, tierNumber, tiersAt, contentsOf}
+use Rattle.notes.specs.Counting.{countsFrom, countingBefore}
+use Rattle.decode.specs.Contents.{cellOffset, cellValue, sheetOffset, rateNumber, tierNumber, tiersAt, contentsOf}
 use Rattle.filing.specs.Readings.{emptyContents}
 use Rattle.filing.proofs.refusal.Statement.{statement}
 use Rattle.filing.proofs.refusal.Tie as tie

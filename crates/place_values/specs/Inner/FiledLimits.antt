@@ -2,7 +2,7 @@
 use Prim.Native.Nat.{ℕ, suc, _≤_, _<_}
 use lib.ListN.{getD}
 use Rattle.schedule.specs.Limits.{tierLimit, withdrawalLimit}
-use Rattle.filing.specs.declared.FiledTiers.{FiledTiers}
+use Rattle.contents.specs.declared.FiledTiers.{FiledTiers}
 
 pub record FiledLimits (t : FiledTiers) : Type 0 where
   pub count-le : t .count ≤ tierLimit

@@ -3,8 +3,8 @@
 use native.Mathlib.Omega.{arith}
 use mathlib.Core.Path.{_≡_, sym, subst, _∙_}
 use borrow.Author.Needs.{needs}
-use Rattle.scan.specs.declared.Step.{Step}
-use Rattle.scan.specs.declared.Step.the-variants.{Record, End}
+use Rattle.reader.specs.declared.Step.{Step}
+use Rattle.reader.specs.declared.Step.the-variants.{Record, End}
 use Rattle.scan.proofs.ProgressLaws.{Says, step-says}
 use Rattle.scan.proofs.next_of.Statement.{statement}
 use Rattle.scan.proofs.next_of.Tie as tie

@@ -7,8 +7,8 @@ use borrow.Author.Needs.{needs}
 use lib.ListN.{length}
 use Rattle.answers.specs.Verdict.{accepted}
 use Rattle.answers.specs.Answers.{verdictOf}
-use Rattle.records.specs.Inner.Notes.{notedAs}
-use Rattle.scan.proofs.SearchLaws.{next-lt}
+use Rattle.notes.specs.Inner.Notes.{notedAs}
+use Rattle.fields.proofs.SearchLaws.{next-lt}
 use Rattle.scan.proofs.ProgressLaws.{Scanning, scanning-start, scanning-done, visited-ends, visited-next}
 use Rattle.scan.proofs.scan.Statement.{statement}
 use Rattle.scan.proofs.scan.Tie as tie

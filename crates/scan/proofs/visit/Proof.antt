@@ -3,11 +3,12 @@
 use native.Mathlib.Nat.{le-of-lt}
 use mathlib.Core.Path.{_≡_, sym, ap, _∙_}
 use borrow.Author.Needs.{needs}
-use Rattle.records.specs.Inner.Notes.{Noted}
+use Rattle.notes.specs.Inner.Notes.{Noted}
 use Rattle.answers.specs.Answers.{verdictOf}
 use Rattle.answers.specs.Verdict.{Verdict}
 use Rattle.records.specs.declared.items.Item.the-variants.{Cell}
-use Rattle.faults.specs.Inner.PlainVerdicts.{plainVerdict, SoundCell}
+use Rattle.record_verdicts.specs.Inner.PlainVerdicts.{plainVerdict}
+use Rattle.sound_records.specs.Inner.SoundRecords.{SoundCell}
 use Rattle.scan.proofs.ProgressLaws.{visited-cell, visited-sound, visited-faulty}
 use Rattle.scan.proofs.visit.Statement.{statement}
 use Rattle.scan.proofs.visit.Tie as tie

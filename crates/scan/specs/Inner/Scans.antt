@@ -5,8 +5,8 @@ use mathlib.Core.List.{List}
 use Rattle.answers.specs.declared.Answer.{Answer}
 use Rattle.answers.specs.Answers.{verdictOf}
 use Rattle.records.specs.Items.{recordItem}
-use Rattle.records.specs.Inner.Notes.{Noted, notedBefore, noteItem}
-use Rattle.faults.specs.Inner.PlainVerdicts.{plainVerdict}
+use Rattle.notes.specs.Inner.Notes.{Noted, notedBefore, noteItem}
+use Rattle.record_verdicts.specs.Inner.PlainVerdicts.{plainVerdict}
 
 -- What the record at offset `at` is answered, and what is noted after it: a sound record is noted, and a faulty one is not
 pub record Visited (s : List ℕ) (at : ℕ) (answer : Answer) (after : Noted) : Type 0 where

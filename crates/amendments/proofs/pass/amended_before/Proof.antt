@@ -7,7 +7,7 @@ use mathlib.Core.Path.{sym, _∙_}
 use borrow.Author.Tests.{lt-ltb, le-ltb}
 use Rattle.records.specs.declared.items.Item.the-variants.{Amendment}
 use Rattle.records.specs.Items.{sameItem, recordItem, firstWith}
-use Rattle.scan.proofs.SearchLaws.{next-lt, Ahead, ahead-start, ahead-here, ahead-next, ahead-done}
+use Rattle.fields.proofs.SearchLaws.{next-lt, Ahead, ahead-start, ahead-here, ahead-next, ahead-done}
 use Rattle.amendments.proofs.pass.amended_before.Statement.{statement}
 use Rattle.amendments.proofs.pass.amended_before.Tie as tie
 

@@ -5,10 +5,10 @@ use native.Mathlib.Omega.{arith}
 use mathlib.Core.Path.{_≡_, sym, _∙_}
 use borrow.Author.Tests.{eq-eqb, ne-eqb}
 use borrow.Author.Needs.{needs}
-use Rattle.records.specs.Inner.Notes.{blockSize, blockOf}
-use Rattle.records.proofs.ByteLaws.{number-lt}
+use Rattle.notes.specs.Inner.Notes.{blockSize, blockOf}
+use Rattle.fields.proofs.ByteLaws.{number-lt}
 use Rattle.records.proofs.ItemLaws.{OfAmendment, record-of-amendment}
-use Rattle.records.proofs.NoteLaws.{block-is}
+use Rattle.notes.proofs.NoteLaws.{block-is}
 use Rattle.amendments.specs.Inner.Repetitions.{metAgain, metWith}
 use Rattle.amendments.proofs.pass.meets.Statement.{statement}
 use Rattle.amendments.proofs.pass.meets.Tie as tie

@@ -1,8 +1,8 @@
 -- `next_record` meets its contract: the length of a record is below 65,536.
 -- Assumes nothing.
 use native.Mathlib.Omega.{arith}
-use Rattle.records.specs.Records.{nextRecord}
-use Rattle.records.proofs.ByteLaws.{number-lt}
+use Rattle.fields.specs.Records.{nextRecord}
+use Rattle.fields.proofs.ByteLaws.{number-lt}
 use borrow.Author.Needs.{needs}
 use Rattle.amendments.proofs.pass.next_record.Statement.{statement}
 use Rattle.amendments.proofs.pass.next_record.Tie as tie

@@ -4,7 +4,7 @@
 use Prim.Native.Nat.{_-_}
 use native.Mathlib.Omega.{arith}
 use mathlib.Core.Path.{sym, _∙_}
-use Rattle.scan.proofs.SearchLaws.{Reached, here, next-lt, reached-next, Ahead, ahead-start, ahead-here, ahead-next, ahead-done}
+use Rattle.fields.proofs.SearchLaws.{Reached, here, next-lt, reached-next, Ahead, ahead-start, ahead-here, ahead-next, ahead-done}
 use Rattle.amendments.specs.Inner.Repetitions.{repeats}
 use Rattle.amendments.proofs.MetLaws.{Met, met-start, met-next, again-is}
 use Rattle.amendments.proofs.pass.repetition.Statement.{statement}

@@ -10,9 +10,9 @@ use Rattle.answers.specs.Verdict.{accepted, refused}
 use Rattle.answers.specs.Answers.{verdictOf}
 use Rattle.answers.proofs.VerdictLaws.{condition-holds, condition-passes}
 use Rattle.records.specs.Kinds.{kindCount, flatRatesKind, ratePathKind}
-use Rattle.filing.specs.Contents.{sheetOffset}
+use Rattle.decode.specs.Contents.{sheetOffset}
 use Rattle.filing.specs.Verdict.{sheetMissing, sheetVerdict}
-use Rattle.filing.proofs.ContentsLaws.{sheet-noted}
+use Rattle.decode.proofs.ContentsLaws.{sheet-noted}
 use Rattle.filing.proofs.sheets.check_sheets.Statement.{statement}
 use Rattle.filing.proofs.sheets.check_sheets.Tie as tie
 

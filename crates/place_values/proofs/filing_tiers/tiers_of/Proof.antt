@@ -8,7 +8,7 @@ use Rattle.lists.specs.Tables.{table}
 use Rattle.schedule.specs.Limits.{edgeLimit, withdrawalLimit}
 use Rattle.withdrawal.specs.Inner.TierArrays.{inPlaces, TiersFit}
 use Rattle.withdrawal.proofs.HeldLaws.{places-le, placed-table, placed-usable}
-use Rattle.filing.specs.declared.FiledTiers.{FiledTiers}
+use Rattle.contents.specs.declared.FiledTiers.{FiledTiers}
 use Rattle.place_values.specs.PlaceTerms.{ownTiers, tiersOf}
 use Rattle.place_values.specs.Inner.FiledLimits.{FiledLimits}
 use Rattle.place_values.proofs.FilingTierLaws.{own-falling}

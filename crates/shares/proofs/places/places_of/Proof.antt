@@ -6,7 +6,7 @@ use native.Mathlib.Omega.{arith}
 use lib.Dec.{lit<}
 use borrow.Author.Needs.{needs}
 use Rattle.lists.proofs.FillLaws.{Filled, fill-none, fill-all}
-use Rattle.filing.specs.Valid.{Valid}
+use Rattle.contents.specs.Valid.{Valid}
 use Rattle.shares.specs.Places.{placeAt, placesOf, noPlace}
 use Rattle.shares.specs.Inner.Rows.{RowWithin}
 use Rattle.shares.proofs.RowLaws.{row-within}

@@ -1,0 +1,18 @@
+-- What a filing says, read by cell, by month and by column. Definitions only.
+use Prim.Native.Nat.{ℕ, _-_}
+use lib.ListN.{getD}
+use Rattle.schedule.specs.Shift.{pathRate}
+use Rattle.conditions.specs.Conditions.{cellIn}
+use Rattle.contents.specs.declared.Contents.{Contents}
+
+-- the value of a cell in what a filing says
+abbrev pub cell : Contents → ℕ → ℕ
+cell k n = cellIn (k .cells) n
+
+-- the secondary-market CD yield of a month, 1 to 120, hundredths of a percent a year
+unfoldable pub cdYield : Contents → ℕ → ℕ
+cdYield k month = getD (k .yields) (month - 1) 0
+
+-- the retail rate of a column, 1 to 3, in a month, 1 to 120, hundredths of a percent a year
+abbrev pub retailRate : Contents → ℕ → ℕ → ℕ
+retailRate k column month = pathRate (k .rates) column month

@@ -1,0 +1,17 @@
+// What an accepted filing says: the values of cells 601 to 661, the CD yields of months 1 to 120, the retail rates of months 1 to 120 column by column, and
+// its tiers of annual withdrawal. Cells are in their own units, coupons among them in
+// thousandths of a percent a year, yields and rates in hundredths.
+pub struct Contents {
+    pub cells: [u64; 61],
+    pub yields: [u16; 120],
+    pub rates: [u16; 360],
+    pub tiers: FiledTiers,
+}
+
+// The tiers that a filing carries, lowest edge first: edges in hundredths, annual withdrawals in thousandths. The places past the count are 0, and a
+// filing without tiers has count 0.
+pub struct FiledTiers {
+    pub count: usize,
+    pub edges: [u16; 16],
+    pub withdrawals: [u16; 16],
+}

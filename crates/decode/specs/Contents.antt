@@ -1,0 +1,75 @@
+-- What a filing says: its cells (amended, 02:CR 6; coupons in thousandths, 02:CR 4), its CD yields, its retail rates (01:6-11; by month, 02:CR 3) and its tiers (02:CR 1). Definitions only.
+use Prim.Native.Nat.{ℕ, _+_, _*_, _/_}
+use mathlib.Core.Bool.{cond}
+use mathlib.Core.List.{List}
+use lib.ListN.{length}
+use lib.Dec.{ltb, eqb}
+use Rattle.lists.specs.Tables.{table, tableFrom}
+use Rattle.schedule.specs.Limits.{couponClass, cellClass, monthsLimit, tierLimit}
+use Rattle.fields.specs.Records.{recordKind, recordCell, recordValue, amendmentState, amendmentValue, sheetNumber, tierCount}
+use Rattle.records.specs.Kinds.{flatRatesKind, tiersKind, ratePathKind, fineCouponKind, amendmentKind}
+use Rattle.records.specs.declared.items.Item.the-variants.{Sheet}
+use Rattle.records.specs.Items.{firstWith}
+use Rattle.notes.specs.Counting.{countingBefore}
+use Rattle.contents.specs.declared.Contents.{Contents}
+use Rattle.contents.specs.declared.FiledTiers.{FiledTiers}
+
+-- the offset of the record that counts for a cell (02:CR 6), or the input's length where there is none
+unfoldable pub cellOffset : List ℕ → ℕ → ℕ
+cellOffset s n = countingBefore s n (length s)
+
+-- the value that a record holds for its cell, in the record's unit. An amendment that withdraws its cell holds none, as if the cell were absent
+unfoldable pub filedValue : List ℕ → ℕ → ℕ
+filedValue s at =
+    cond (eqb (recordKind s at) amendmentKind) (cond (eqb (amendmentState s at) 0) (amendmentValue s at) 0)
+    (recordValue s at)
+
+-- the value that a record gives its cell in what the filing says, in the cell's unit. Coupons are in thousandths of a percent a year there (02:CR 4): kind 6
+-- gives them so, and one by another kind, in hundredths, counts tenfold
+unfoldable pub amountAt : List ℕ → ℕ → ℕ
+amountAt s at =
+    cond (eqb (recordKind s at) fineCouponKind) (filedValue s at)
+    (cond (eqb (cellClass (recordCell s at)) couponClass) (10 * filedValue s at) (filedValue s at))
+
+-- the value of a cell; an absent cell is 0
+unfoldable pub cellValue : List ℕ → ℕ → ℕ
+cellValue s n = cond (ltb (cellOffset s n) (length s)) (amountAt s (cellOffset s n)) 0
+
+-- the offset of a kind of sheet, or the input's length where there is none
+unfoldable pub sheetOffset : List ℕ → ℕ → ℕ
+sheetOffset s kind = firstWith s (Sheet kind) (length s)
+
+-- how many retail rates a filing says: three columns of 120 months
+abbrev pub rateCount : ℕ
+rateCount = 360
+
+-- the i-th retail rate, from 0, column by column (02:CR 3): the number of kind 5, or, where there is none, the flat rate of kind 3 in each month of its
+-- column, hundredths of a percent a year
+unfoldable pub rateNumber : List ℕ → ℕ → ℕ
+rateNumber s i =
+    cond (ltb (sheetOffset s ratePathKind) (length s)) (sheetNumber s (sheetOffset s ratePathKind) (i + 1))
+    (sheetNumber s (sheetOffset s flatRatesKind) (i / monthsLimit + 1))
+
+-- of a record of kind 4 with `count` tiers (02:CR 1): every second number from `first` on, one for the i-th tier, from 0; 0 past the last tier
+unfoldable pub tierNumber : List ℕ → ℕ → ℕ → ℕ → ℕ → ℕ
+tierNumber s at count first i = cond (ltb i count) (sheetNumber s at (first + 2 * i)) 0
+
+-- the tiers of a record of kind 4 (02:CR 1), lowest edge first: edges in hundredths, annual withdrawals in thousandths. At the input's length, where no
+-- record stands, there are none
+unfoldable pub tiersAt : List ℕ → ℕ → FiledTiers
+tiersAt s at =
+    record {
+      count = tierCount s at;
+      edges = table tierLimit (tierNumber s at (tierCount s at) 2);
+      withdrawals = table tierLimit (tierNumber s at (tierCount s at) 3);
+    }
+
+-- the cells from 601 on, the yields of kind 2 by month from 1 on, the retail rates of kinds 3 and 5 column by column, the tiers of kind 4
+unfoldable pub contentsOf : List ℕ → Contents
+contentsOf s =
+    record {
+      cells = tableFrom 601 61 (cellValue s);
+      yields = tableFrom 1 120 (sheetNumber s (sheetOffset s 2));
+      rates = table rateCount (rateNumber s);
+      tiers = tiersAt s (sheetOffset s tiersKind);
+    }

@@ -1,0 +1,193 @@
+// What a filing says, read from the noted offsets of its records.
+use contents::Contents;
+use contents::FiledTiers;
+use fields::amendment_state;
+use fields::amendment_value;
+use fields::holds_numbers;
+use fields::number_of;
+use fields::record_cell;
+use fields::record_kind;
+use fields::record_value;
+use fields::sheet_number;
+use fields::tier_count;
+use records::CELLS;
+use records::KINDS;
+use records::kinds::AMENDMENT_KIND;
+use records::kinds::FINE_COUPON_KIND;
+use records::kinds::FLAT_RATES_KIND;
+use records::kinds::RATE_PATH_KIND;
+use records::kinds::TIERS_KIND;
+use schedule::tables::COUPON_CLASS;
+use schedule::tables::cell_class;
+ghost use mathlib.Core.Path.{_≡_};
+ghost use mathlib.Core.Bool.{cond};
+ghost use Prim.Native.Nat.{_+_, _/_, _≤_, _<_};
+ghost use lib.Dec.{ltb};
+ghost use lib.ListN.{length, getD};
+ghost use Rattle.lists.specs.Tables.{table, tableFrom};
+ghost use Rattle.schedule.specs.Limits.{cellClass, heldLimit, monthsLimit, tierLimit};
+ghost use Rattle.fields.specs.Records.{recordCell, sheetNumber};
+ghost use Rattle.records.specs.Kinds.{flatRatesKind, ratePathKind};
+ghost use Rattle.notes.specs.Inner.Notes.{notedBefore};
+ghost use Rattle.record_verdicts.specs.RecordVerdicts.{firstFaulty};
+ghost use Rattle.decode.specs.Contents.{filedValue, amountAt, sheetOffset, rateCount, tierNumber, tiersAt, contentsOf};
+
+// What a filing says whose records are sound, from where all of them stand.
+pub fn contents_of(s: &[u8], sheets: &[usize; KINDS], counting: &[usize; CELLS]) -> Contents
+    requires { ⌜ firstFaulty (now s) ≡ length (now s) ⌝ }
+    requires { ⌜ (now sheets ≡ notedBefore (now s) (length (now s)) .sheets) × (now counting ≡ notedBefore (now s) (length (now s)) .counting) ⌝ }
+    ensures { λ r. ⌜ r ≡ contentsOf (now (s .entry)) ⌝ }
+{
+    let cells = cell_values(s, counting);
+    let mut yields = [0; 120];
+    fill_numbers(s, sheets[2], &mut yields);
+    let rates = rate_numbers(s, sheets[FLAT_RATES_KIND], sheets[RATE_PATH_KIND]);
+    let tiers = tiers_at(s, sheets[TIERS_KIND]);
+    Contents {
+        cells,
+        yields,
+        rates,
+        tiers,
+    }
+}
+
+// The values of cells 601 to 661, from the records that count for them.
+fn cell_values(s: &[u8], offsets: &[usize; CELLS]) -> [u64; CELLS]
+    requires { ⌜ (firstFaulty (now s) ≡ length (now s)) × (now offsets ≡ notedBefore (now s) (length (now s)) .counting) ⌝ }
+    ensures { λ r. ⌜ r ≡ contentsOf (now (s .entry)) .cells ⌝ }
+{
+    let mut cells = [0; CELLS];
+    let mut i = 0;
+    while i < CELLS {
+        cells[i] = amount_at(s, offsets[i]);
+        i += 1;
+    }
+    cells
+}
+
+// The value that the record at an offset gives its cell: a coupon that is not filed in thousandths counts tenfold.
+fn amount_at(s: &[u8], at: usize) -> u64
+    requires { ⌜ amountAt (now s) at ≤ heldLimit (cellClass (recordCell (now s) at)) ⌝ }
+    ensures { λ r. ⌜ r ≡ amountAt (now (s .entry)) at ⌝ }
+{
+    if s.len() <= at {
+        return 0;
+    }
+    let value = filed_value(s, at);
+    if record_kind(s, at) == FINE_COUPON_KIND {
+        return value;
+    }
+    if cell_class(record_cell(s, at)) == COUPON_CLASS {
+        return 10 * value;
+    }
+    value
+}
+
+// The value that the record at an offset holds for its cell, in the record's unit: an amendment that withdraws its cell holds none.
+fn filed_value(s: &[u8], at: usize) -> u64
+    ensures { λ r. ⌜ r ≡ filedValue (now (s .entry)) at ⌝ }
+{
+    if record_kind(s, at) != AMENDMENT_KIND {
+        return record_value(s, at);
+    }
+    if amendment_state(s, at) != 0 {
+        return 0;
+    }
+    amendment_value(s, at)
+}
+
+// Fills in the numbers of the sheet at an offset, from the first on.
+fn fill_numbers(s: &[u8], at: usize, numbers: &mut [u16])
+    ensures { λ r. ⌜ now (numbers .exit) ≡ tableFrom 1 (length (now (numbers .entry))) (sheetNumber (now (s .entry)) at) ⌝ }
+{
+    let within = holds_numbers(s, at, numbers.len());
+    let mut i = 0;
+    while i < numbers.len() {
+        numbers[i] = number_of(s, at, i + 1, within);
+        i += 1;
+    }
+}
+
+// The retail rates column by column, by the sheets of flat ones and of those by month.
+fn rate_numbers(s: &[u8], flat: usize, path: usize) -> [u16; 360]
+    requires { ⌜ (flat ≡ sheetOffset (now s) flatRatesKind) × (path ≡ sheetOffset (now s) ratePathKind) ⌝ }
+    ensures { λ r. ⌜ r ≡ contentsOf (now (s .entry)) .rates ⌝ }
+{
+    if path < s.len() {
+        path_rates(s, path)
+    } else {
+        flat_rates(s, flat)
+    }
+}
+
+// The retail rates of a sheet by month.
+fn path_rates(s: &[u8], path: usize) -> [u16; 360]
+    ensures { λ r. ⌜ r ≡ tableFrom 1 rateCount (sheetNumber (now (s .entry)) path) ⌝ }
+{
+    let mut rates = [0; 360];
+    fill_numbers(s, path, &mut rates);
+    rates
+}
+
+// The retail rates of a sheet of flat ones: each in the 120 months of its column.
+fn flat_rates(s: &[u8], flat: usize) -> [u16; 360]
+    ensures { λ r. ⌜ r ≡ table rateCount (λ i. sheetNumber (now (s .entry)) flat (i / monthsLimit + 1)) ⌝ }
+{
+    let first = sheet_number(s, flat, 1);
+    let second = sheet_number(s, flat, 2);
+    let third = sheet_number(s, flat, 3);
+    let mut rates = [first; 360];
+    fill_from(&mut rates, 120, second);
+    fill_from(&mut rates, 240, third);
+    rates
+}
+
+// Fills in a rate from a place on.
+fn fill_from(rates: &mut [u16; 360], from: usize, rate: u16)
+    requires { ⌜ (from ≤ rateCount) × (length (now rates) ≡ rateCount) ⌝ }
+    ensures { λ _. ⌜ now (rates .exit) ≡ table rateCount (λ i. cond (ltb i from) (getD (now (rates .entry)) i 0) rate) ⌝ }
+{
+    let mut i = from;
+    while i < 360 {
+        rates[i] = rate;
+        i += 1;
+    }
+}
+
+// The tiers of the record at an offset.
+fn tiers_at(s: &[u8], at: usize) -> FiledTiers
+    ensures { λ r. ⌜ r ≡ tiersAt (now (s .entry)) at ⌝ }
+{
+    let count = tier_count(s, at) as usize;
+    FiledTiers {
+        count,
+        edges: tier_numbers(s, at, count, 2),
+        withdrawals: tier_numbers(s, at, count, 3),
+    }
+}
+
+// Every second number of a record of tiers from `first` on, one for each tier: the edges from the second number on, the withdrawals from the third.
+fn tier_numbers(s: &[u8], at: usize, count: usize, first: usize) -> [u16; 16]
+    requires { ⌜ first ≤ 3 ⌝ }
+    ensures { λ r. ⌜ r ≡ table tierLimit (tierNumber (now (s .entry)) at count first) ⌝ }
+{
+    let mut numbers = [0; 16];
+    let mut i = 0;
+    while i < 16 {
+        numbers[i] = tier_number(s, at, count, first, i);
+        i += 1;
+    }
+    numbers
+}
+
+// The number of the i-th tier, from 0; 0 past the last.
+fn tier_number(s: &[u8], at: usize, count: usize, first: usize, i: usize) -> u16
+    requires { ⌜ (first ≤ 3) × (i < tierLimit) ⌝ }
+    ensures { λ r. ⌜ r ≡ tierNumber (now (s .entry)) at count first i ⌝ }
+{
+    if i < count {
+        sheet_number(s, at, first + 2 * i)
+    } else {
+        0
+    }
+}

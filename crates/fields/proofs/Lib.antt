@@ -1,0 +1,4 @@
+pub mod ByteLaws
+pub mod RecordLaws
+pub mod SearchLaws
+pub mod FirstLaws

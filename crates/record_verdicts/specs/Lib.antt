@@ -1,0 +1,2 @@
+pub mod RecordVerdicts
+pub mod Inner

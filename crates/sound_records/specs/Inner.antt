@@ -1,0 +1,2 @@
+-- Definitions for the contracts of inner functions. What a verdict means does not rest on them.
+pub mod SoundRecords
