@@ -1,34 +1,26 @@
 // The records of a filing by all tests: those that the scan makes of each record, and 16, that no amendment of a cell comes with a number that an earlier one
-// has. One pass for a cell, with the set of the numbers met: in linear time for every input, and only for cells whose amendments do not rise.
-
-mod pass;
-
-use crate::pass::amended_before;
-use crate::pass::repetition;
+// has.
 use answers::Answer;
 use answers::first_refusal;
 use record_verdicts::check_body;
 use record_verdicts::check_shape;
 use record_verdicts::refused_if;
 use records::CELLS;
-use records::FIRST_CELL;
 use records::KINDS;
 use records::items::Item;
 use records::items::record_item;
+use repetitions::first_repetition;
+use repetitions::pass::amended_before;
 use scan::Scanned;
 use scan::scan;
 ghost use mathlib.Core.Path.{_≡_};
-ghost use mathlib.Core.Bool.{false};
-ghost use Prim.Native.Nat.{_≤_, _<_};
+ghost use Prim.Native.Nat.{_<_};
 ghost use lib.ListN.{length};
 ghost use Rattle.answers.specs.Answers.{verdictOf};
-ghost use Rattle.fields.specs.Records.{firstRecord};
-ghost use Rattle.records.specs.Items.{cellCount};
 ghost use Rattle.notes.specs.Inner.Notes.{notedAs, notedBefore};
 ghost use Rattle.faults.specs.Faults.{amendmentRepeated};
 ghost use Rattle.record_verdicts.specs.RecordVerdicts.{recordVerdict, firstFaulty, recordsVerdict};
 ghost use Rattle.record_verdicts.specs.Inner.PlainVerdicts.{firstPlain};
-ghost use Rattle.amendments.specs.Inner.Repetitions.{repeats, repetitionsBelow};
 
 // The answer on the records, with the offset of the first faulty one. Those before the first that is faulty but for 16 are noted.
 pub fn check_records(
@@ -83,32 +75,5 @@ fn amendment_repeated(s: &[u8], at: usize) -> bool
         Item::Sheet(_) => false,
         Item::Amendment(cell, number) => amended_before(s, cell, number, at),
         Item::Nothing => false,
-    }
-}
-
-// The first record before `end` that amends a cell with a number that an earlier one has: `end` where there is none.
-fn first_repetition(s: &[u8], falling: &[bool; CELLS], end: usize) -> usize
-    requires { ⌜ (end ≤ length (now s)) × (now falling ≡ notedBefore (now s) end .falling) ⌝ }
-    ensures { λ r. ⌜ r ≡ repetitionsBelow (now (s .entry)) cellCount end ⌝ }
-{
-    let mut first = end;
-    let mut i: usize = 0;
-    while i < CELLS {
-        first = cell_repetition(s, FIRST_CELL + (i as u64), falling[i], first);
-        i += 1;
-    }
-    first
-}
-
-// The first record before `end` that amends a cell with a number that an earlier one has. A cell whose amendments rise has none, and needs no pass.
-fn cell_repetition(s: &[u8], cell: u64, falling: bool, end: usize) -> usize
-    requires { ⌜ end ≤ length (now s) ⌝ }
-    requires { ⌜ (falling ≡ false → firstRecord (now s) (repeats (now s) cell) end ≡ end) ⌝ }
-    ensures { λ r. ⌜ r ≡ firstRecord (now (s .entry)) (repeats (now (s .entry)) cell) end ⌝ }
-{
-    if falling {
-        repetition(s, cell, end)
-    } else {
-        end
     }
 }

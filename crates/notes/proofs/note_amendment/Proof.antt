@@ -1,0 +1,69 @@
+-- `note_amendment` meets its contract: the record's cell is one of those that are noted, and its rank is one more than its number.
+-- Assumes nothing.
+use native.Mathlib.Omega.{arith}
+use mathlib.Core.Path.{sym}
+use Rattle.records.proofs.ItemLaws.{OfAmendment, record-of-amendment}
+use Rattle.notes.specs.Inner.Notes.{outranked, noteCounting}
+use Rattle.notes.proofs.NoteLaws.{rank-of-amendment, counting-by}
+use borrow.Author.Needs.{needs}
+use Rattle.notes.proofs.note_amendment.Statement.{statement}
+use Rattle.notes.proofs.note_amendment.Tie as tie
+
+of-amendment : (c : tie.Start) → OfAmendment (c .args .s .now) (c .args .at) (c .args .cell) (c .args .number)
+of-amendment c = record-of-amendment _ _ _ _ (c .pre)
+
+sub-i : tie.Need-sub-i
+sub-i c = of-amendment (c .before) .from-first
+
+mul-before : tie.Need-mul-before
+mul-before c = omega (arith, of-amendment (c .before) .to-last)
+
+element-copy-out-before : tie.Need-element-copy-out-before
+element-copy-out-before c = omega (arith, of-amendment (c .before) .to-last)
+
+add-own : tie.Need-add-own
+add-own c = search needs
+
+rank-requires : tie.Need-rank-requires
+rank-requires c κs = search needs
+
+counting-of-requires : tie.Need-counting-of-requires
+counting-of-requires c κs = search needs
+
+mul-counting : tie.Need-mul-counting
+mul-counting c = omega (arith, of-amendment (c .before .before .before .before) .to-last)
+
+element-write-counting : tie.Need-element-write-counting
+element-write-counting c = omega (arith, of-amendment (c .before .before .before .before) .to-last)
+
+element-copy-out-falling : tie.Need-element-copy-out-falling
+element-copy-out-falling c = omega (arith, of-amendment (c .before .before .before .before) .to-last)
+
+element-write-falling : tie.Need-element-write-falling
+element-write-falling c = omega (arith, of-amendment (c .before .before .before .before .before) .to-last)
+
+returns : tie.Need-returns
+unfolding outranked noteCounting
+returns c =
+    let counted = c .before in
+    let start = counted .before .before .before .before in
+    let own = sym (rank-of-amendment _ _ _ _ (start .pre)) in (
+      rw (counted .counting-of .ensures, counted .before .rank .ensures, counting-by (start .args .s .now) (start .args .cell) _ (start .args .at) _ own),
+      rw (counted .before .rank .ensures, own),
+    )
+
+pub note-amendment-spec : {M : Type 1} → statement M
+note-amendment-spec =
+    tie.close
+    (tie.spec
+    sub-i
+    mul-before
+    element-copy-out-before
+    add-own
+    rank-requires
+    counting-of-requires
+    mul-counting
+    element-write-counting
+    element-copy-out-falling
+    element-write-falling
+    returns)
