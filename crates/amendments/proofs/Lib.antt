@@ -1,3 +1,1 @@
-pub mod MetLaws
-pub mod RepetitionLaws
 pub mod VerdictLaws

@@ -18,8 +18,8 @@ use Rattle.record_verdicts.specs.RecordVerdicts.{shapeVerdict, bodyVerdict, rec
 use Rattle.record_verdicts.specs.Inner.PlainVerdicts.{plainVerdict, firstPlain}
 use Rattle.scan.proofs.ProgressLaws.{records-passed}
 use Rattle.fields.proofs.FirstLaws.{first-earlier, first-reached, first-same, first-or}
-use Rattle.amendments.specs.Inner.Repetitions.{repetitionsBelow}
-use Rattle.amendments.proofs.RepetitionLaws.{repetitions-first, repetitions-le}
+use Rattle.repetitions.specs.Inner.Repetitions.{repetitionsBelow}
+use Rattle.repetitions.proofs.RepetitionLaws.{repetitions-first, repetitions-le}
 
 -- a refusal between two others: one of the three
 module _ (before after : Verdict) (at : ℕ) where

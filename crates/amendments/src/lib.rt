@@ -1,11 +1,5 @@
 // The records of a filing by all tests: those that the scan makes of each record, and 16, that no amendment of a cell comes with a number that an earlier one
-// has. One pass for a block of numbers, with the set of the cells' numbers met: in linear time for every input, and only for blocks with a number that does not
-// rise.
-
-mod pass;
-
-use crate::pass::amended_before;
-use crate::pass::repetition;
+// has.
 use answers::Answer;
 use answers::first_refusal;
 use notes::BLOCKS;
@@ -16,19 +10,18 @@ use records::CELLS;
 use records::KINDS;
 use records::items::Item;
 use records::items::record_item;
+use repetitions::first_repetition;
+use repetitions::pass::amended_before;
 use scan::Scanned;
 use scan::scan;
 ghost use mathlib.Core.Path.{_≡_};
-ghost use mathlib.Core.Bool.{false};
-ghost use Prim.Native.Nat.{_≤_, _<_};
+ghost use Prim.Native.Nat.{_<_};
 ghost use lib.ListN.{length};
 ghost use Rattle.answers.specs.Answers.{verdictOf};
-ghost use Rattle.fields.specs.Records.{firstRecord};
-ghost use Rattle.notes.specs.Inner.Notes.{blockCount, notedAs, notedBefore};
+ghost use Rattle.notes.specs.Inner.Notes.{notedAs, notedBefore};
 ghost use Rattle.faults.specs.Faults.{amendmentRepeated};
 ghost use Rattle.record_verdicts.specs.RecordVerdicts.{recordVerdict, firstFaulty, recordsVerdict};
 ghost use Rattle.record_verdicts.specs.Inner.PlainVerdicts.{firstPlain};
-ghost use Rattle.amendments.specs.Inner.Repetitions.{repeats, repetitionsBelow};
 
 // The answer on the records, with the offset of the first faulty one. Those before the first that is faulty but for 16 are noted.
 pub fn check_records(
@@ -83,32 +76,5 @@ fn amendment_repeated(s: &[u8], at: usize) -> bool
         Item::Sheet(_) => false,
         Item::Amendment(cell, number) => amended_before(s, cell, number, at),
         Item::Nothing => false,
-    }
-}
-
-// The first record before `end` that amends a cell with a number that an earlier one has: `end` where there is none.
-fn first_repetition(s: &[u8], falling: &[bool; BLOCKS], end: usize) -> usize
-    requires { ⌜ (end ≤ length (now s)) × (now falling ≡ notedBefore (now s) end .falling) ⌝ }
-    ensures { λ r. ⌜ r ≡ repetitionsBelow (now (s .entry)) blockCount end ⌝ }
-{
-    let mut first = end;
-    let mut i: usize = 0;
-    while i < BLOCKS {
-        first = block_repetition(s, i, falling[i], first);
-        i += 1;
-    }
-    first
-}
-
-// The first record before `end` that amends a cell with a number of the block that an earlier one has. Where the numbers rise there is none, and no pass is made.
-fn block_repetition(s: &[u8], block: usize, falling: bool, end: usize) -> usize
-    requires { ⌜ (end ≤ length (now s)) × (block < blockCount) ⌝ }
-    requires { ⌜ (falling ≡ false → firstRecord (now s) (repeats (now s) block) end ≡ end) ⌝ }
-    ensures { λ r. ⌜ r ≡ firstRecord (now (s .entry)) (repeats (now (s .entry)) block) end ⌝ }
-{
-    if falling {
-        repetition(s, block, end)
-    } else {
-        end
     }
 }

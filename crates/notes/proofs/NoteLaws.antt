@@ -5,17 +5,17 @@ use native.Mathlib.Omega.{arith}
 use mathlib.Core.Path.{_≡_, refl, ap, _∙_}
 use mathlib.Core.Bool.{Bool, true, false, cond, _||_}
 use mathlib.Core.List.{List}
-use borrow.Author.Tests.{ltb-false, eq-eqb}
-use lib.Dec.{ltb}
-use lib.ListN.{length, getD, set}
+use borrow.Author.Tests.{ltb-false, eqb-true, eq-eqb, ne-eqb}
+use lib.Dec.{ltb, eqb}
+use lib.ListN.{length, getD}
 use Rattle.lists.proofs.TableLaws.{tableFrom-getD, table-getD}
 use Rattle.records.specs.declared.items.Item.{Item}
 use Rattle.records.specs.declared.items.Item.the-variants.{Cell, Sheet, Amendment}
-use Rattle.records.specs.Kinds.{kindCount}
-use Rattle.records.specs.Items.{sameItem, recordItem, firstWith}
+use Rattle.records.specs.Kinds.{kindCount, amendmentKind, givesCell, namesCell}
+use Rattle.records.specs.Items.{firstCell, cellCount, sameItem, recordClass, recordItem, firstWith}
 use Rattle.notes.specs.Counting.{itemRank, rank, counting, countingBefore}
-use Rattle.records.specs.Items.{firstCell, cellCount}
-use Rattle.notes.specs.Inner.Notes.{offsetBefore, blockSize, blockCount, blockOf, outranked, fallsBefore, notedBefore, notedAs, noteCounting, noteFalling, noteItem}
+use Rattle.notes.specs.Inner.Notes.{offsetBefore, blockSize, blockCount, blockOf, fallsBefore, notedBefore}
+use Rattle.fields.specs.Records.{recordKind, recordCell, amendmentNumber}
 use Rattle.fields.proofs.RecordLaws.{first-le}
 
 -- a number has one of the blocks
@@ -38,16 +38,27 @@ module _ (s : List ℕ) where
   unfolding itemRank
   rank-of-amendment at cell number e = rw e (simp (eq-eqb cell cell refl))
 
-  -- an amendment is noted, by which record counts then and whether it ranks no higher
-  pub note-amendment : (sheets cells numbers : List ℕ) (falling : List Bool) {next block : ℕ} {falls : Bool} (at cell number : ℕ)
+  -- a record of a listed cell, by its kind
+  pub named-cell : (at : ℕ) {cell : ℕ} → namesCell (recordKind s at) ≡ true → (recordKind s at ≡ amendmentKind → ⊥) → (recordClass s at ≡ 0 → ⊥)
+      → cell ≡ recordCell s at
+      → recordItem s at ≡ Cell cell
+  unfolding namesCell recordItem
+  named-cell at {cell} named other class is = by (givesCell (recordKind s at)) refl named
+    where
+      by : (b : Bool) → givesCell (recordKind s at) ≡ b → (b || eqb (recordKind s at) amendmentKind) ≡ true → recordItem s at ≡ Cell cell
+      by true e h = rw (is, e, ne-eqb (recordClass s at) 0 class)
+      by false e h = absurd (other (eqb-true (recordKind s at) amendmentKind h))
+
+  pub named-amendment : (at : ℕ) {cell number : ℕ} → recordKind s at ≡ amendmentKind → (recordClass s at ≡ 0 → ⊥)
+      → cell ≡ recordCell s at → number ≡ amendmentNumber s at
       → recordItem s at ≡ Amendment cell number
-      → next ≡ counting s cell (getD numbers (cell - firstCell) 0) at
-      → block ≡ blockOf number
-      → falls ≡ outranked s cell (getD numbers (cell - firstCell) 0) at
-      → notedAs sheets cells (set numbers (cell - firstCell) next) (set falling block (getD falling block false || falls))
-      ≡ noteItem s (notedAs sheets cells numbers falling) (recordItem s at) at
-  unfolding noteItem noteCounting noteFalling
-  note-amendment sheets cells numbers falling at cell number e p b q = rw (e, p, b, q)
+  unfolding recordItem givesCell
+  named-amendment at kind class p q = rw (p, q) (simp (kind, ne-eqb (recordClass s at) 0 class))
+
+  -- which record counts, by the ranks of two
+  pub counting-by : (cell before at own : ℕ) → own ≡ rank s cell at → cond (ltb (rank s cell before) own) at before ≡ counting s cell before at
+  unfolding counting
+  counting-by cell before at own e = rw e
 
   -- what is noted of a listed cell and of a kind of sheet
   pub noted-cell : (at cell : ℕ) → firstCell ≤ cell → cell < firstCell + cellCount

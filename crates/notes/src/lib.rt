@@ -1,14 +1,23 @@
 // What is noted of the records of a filing.
+use fields::amendment_number;
+use fields::record_cell;
+use fields::record_kind;
 use records::CELLS;
 use records::FIRST_CELL;
 use records::KINDS;
 use records::items::Item;
 use records::items::record_item;
+use records::kinds::AMENDMENT_KIND;
 ghost use mathlib.Core.Path.{_≡_};
-ghost use Prim.Native.Nat.{_-_};
-ghost use lib.ListN.{set};
-ghost use Rattle.records.specs.declared.items.Item.the-variants.{Cell};
-ghost use Rattle.records.specs.Items.{firstCell, recordItem};
+ghost use mathlib.Core.Bool.{true, false, cond, _||_};
+ghost use mathlib.Core.List.{List};
+ghost use Prim.Native.Nat.{ℕ, _-_};
+ghost use lib.Dec.{ltb};
+ghost use lib.ListN.{getD, set};
+ghost use Rattle.fields.specs.Records.{recordKind};
+ghost use Rattle.records.specs.declared.items.Item.the-variants.{Cell, Amendment};
+ghost use Rattle.records.specs.Kinds.{namesCell};
+ghost use Rattle.records.specs.Items.{firstCell, recordClass, recordItem};
 ghost use Rattle.notes.specs.Counting as counts;
 ghost use Rattle.notes.specs.Inner.Notes as notes;
 
@@ -40,19 +49,35 @@ pub fn note(
             sheets[kind] = at;
         }
         Item::Amendment(cell, number) => {
-            let i = (cell - FIRST_CELL) as usize;
-            let before = counting[i];
-            let own = number as u64 + 1;
-            let block = (number / BLOCK) as usize;
-            counting[i] = counting_of(s, cell, own, before, at);
-            falling[block] = falling[block] | (own <= rank(s, cell, before));
+            note_amendment(s, at, cell, number, counting, falling);
         }
         Item::Nothing => {}
     }
 }
 
+// The same of a record whose kind names a cell, and whose cell is listed for it.
+pub fn note_named(
+    s: &[u8],
+    at: usize,
+    cells: &mut [usize; CELLS],
+    counting: &mut [usize; CELLS],
+    falling: &mut [bool; BLOCKS],
+)
+    requires { ⌜ (namesCell (recordKind (now s) at) ≡ true) × (recordClass (now s) at ≡ 0 → ⊥) ⌝ }
+    ensures { λ _. ⌜ ((sheets : List ℕ) → notes.notedAs sheets (now (cells .exit)) (now (counting .exit)) (now (falling .exit))
+        ≡ notes.noteItem (now (s .entry)) (notes.notedAs sheets (now (cells .entry)) (now (counting .entry)) (now (falling .entry)))
+        (recordItem (now (s .entry)) at) at) ⌝ }
+{
+    let cell = record_cell(s, at);
+    if record_kind(s, at) == AMENDMENT_KIND {
+        note_amendment(s, at, cell, amendment_number(s, at), counting, falling);
+    } else {
+        note_cell(s, at, cell, cells, counting);
+    }
+}
+
 // A record of a cell is noted.
-pub fn note_cell(
+fn note_cell(
     s: &[u8],
     at: usize,
     cell: u64,
@@ -64,20 +89,39 @@ pub fn note_cell(
         × (now (counting .exit) ≡ notes.noteCounting (now (s .entry)) (now (counting .entry)) cell at) ⌝ }
 {
     let i = (cell - FIRST_CELL) as usize;
+    let before = counting[i];
     cells[i] = at;
-    counting[i] = counting_of(s, cell, 1, counting[i], at);
+    counting[i] = counting_of(rank(s, cell, before), 1, before, at);
 }
 
-// Which of two records counts for a cell: the later one, of rank `own`, where it ranks higher.
-fn counting_of(s: &[u8], cell: u64, own: u64, before: usize, at: usize) -> usize
-    requires { ⌜ own ≡ counts.rank (now s) cell at ⌝ }
-    ensures { λ r. ⌜ r ≡ counts.counting (now (s .entry)) cell before at ⌝ }
+// An amendment of a cell is noted.
+fn note_amendment(
+    s: &[u8],
+    at: usize,
+    cell: u64,
+    number: u16,
+    counting: &mut [usize; CELLS],
+    falling: &mut [bool; BLOCKS],
+)
+    requires { ⌜ recordItem (now s) at ≡ Amendment cell number ⌝ }
+    ensures { λ _. ⌜ (now (counting .exit) ≡ notes.noteCounting (now (s .entry)) (now (counting .entry)) cell at)
+        × (now (falling .exit) ≡ set (now (falling .entry)) (notes.blockOf number) (getD (now (falling .entry)) (notes.blockOf number) false
+        || notes.outranked (now (s .entry)) cell (getD (now (counting .entry)) (cell - firstCell) 0) at)) ⌝ }
 {
-    if rank(s, cell, before) < own {
-        at
-    } else {
-        before
-    }
+    let i = (cell - FIRST_CELL) as usize;
+    let before = counting[i];
+    let own = number as u64 + 1;
+    let high = rank(s, cell, before);
+    let block = (number / BLOCK) as usize;
+    counting[i] = counting_of(high, own, before, at);
+    falling[block] = falling[block] | (own <= high);
+}
+
+// Which of two records counts for a cell, by their ranks: the later one, of rank `own`, where it ranks higher.
+fn counting_of(high: u64, own: u64, before: usize, at: usize) -> usize
+    ensures { λ r. ⌜ r ≡ cond (ltb high own) at before ⌝ }
+{
+    if high < own { at } else { before }
 }
 
 // The rank of a record for a cell: one more than its number, 0 where it is not of the cell or no record stands there.

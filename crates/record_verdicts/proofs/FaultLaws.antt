@@ -80,7 +80,7 @@ module _ (s : List ℕ) (at : ℕ) where
       ltb-false (length s) (nextRecord s at) (neither (ltb (recordLength s at) 2) (ltb (length s) (nextRecord s at)) rest .1)
 
   -- 2 does not hold: the length is the kind's
-  shaped-length : misshapen s at ≡ false → recordLength s at ≡ dueLength s at
+  pub shaped-length : misshapen s at ≡ false → recordLength s at ≡ dueLength s at
   shaped-length h = eqb-true (recordLength s at) (dueLength s at) (not-false (eqb (recordLength s at) (dueLength s at)) h)
 
   -- the length that a sheet of numbers is to have

@@ -14,8 +14,7 @@ use Rattle.records.specs.declared.items.Item.{Item}
 use Rattle.records.specs.declared.items.Item.the-variants.{Cell, Sheet, Amendment, Nothing}
 use Rattle.fields.specs.Records.{recordKind, recordCell, amendmentNumber}
 use Rattle.records.specs.Kinds.{kindCount, cellKind, fineCouponKind, amendmentKind, givesCell, sheetOf, sheetKinds, sheetKind, sheetLength, tiersKind, dueLength}
-use Rattle.records.specs.Items.{sameItem, recordClass, recordItem, firstWith}
-use Rattle.records.specs.Items.{firstCell, cellCount}
+use Rattle.records.specs.Items.{sameItem, recordClass, recordItem, firstWith, firstCell, cellCount}
 use Rattle.fields.proofs.ByteLaws.{number-past}
 use Rattle.fields.proofs.RecordLaws.{first-passes}
 

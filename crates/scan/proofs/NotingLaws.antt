@@ -14,10 +14,9 @@ use Rattle.records.specs.declared.items.Item.{Item}
 use Rattle.records.specs.declared.items.Item.the-variants.{Cell, Sheet, Amendment, Nothing}
 use Rattle.fields.specs.Records.{nextRecord, searchRecords, firstRecord}
 use Rattle.records.specs.Kinds.{kindCount}
-use Rattle.records.specs.Items.{sameItem, recordItem, firstWith}
+use Rattle.records.specs.Items.{sameItem, recordItem, firstWith, firstCell, cellCount}
 use Rattle.notes.specs.Counting.{itemRank, countsFrom, countingBefore}
 use Rattle.notes.specs.Inner.Notes.{Noted, offsetBefore, blockCount, blockOf, amendsIn, fallsAs, falls, fallsBefore, notedBefore, nothingNoted, noteCounting, noteFalling, noteItem}
-use Rattle.records.specs.Items.{firstCell, cellCount}
 use Rattle.records.proofs.ItemLaws.{record-of-cell, record-of-sheet, record-of-amendment}
 use Rattle.notes.proofs.NoteLaws.{block-lt, noted-counting, noted-falling}
 use Rattle.faults.specs.Faults.{standsBefore, repeated}

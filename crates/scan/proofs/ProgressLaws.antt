@@ -8,21 +8,21 @@ use mathlib.Core.Bool.{Bool, true, false, cond, not}
 use mathlib.Core.List.{List}
 use borrow.Author.Tests.{ltb-true, ltb-false, lt-ltb, le-ltb, leb-true, leb-false, eqb-false, eq-eqb, ne-eqb, not-true}
 use lib.Dec.{leb, ltb, eqb}
-use lib.ListN.{length, set}
+use lib.ListN.{length}
 use Rattle.answers.specs.declared.Answer.{Answer}
 use Rattle.answers.specs.declared.Answer.the-variants.{Accepted}
 use Rattle.answers.specs.Verdict.{Verdict, accepted}
 use Rattle.answers.specs.Answers.{verdictOf}
 use Rattle.reader.specs.declared.Step.{Step}
 use Rattle.reader.specs.declared.Step.the-variants.{Record, End}
-use Rattle.fields.specs.Records.{recordCell, nextRecord}
+use Rattle.fields.specs.Records.{nextRecord}
 use Rattle.records.specs.Items.{recordItem}
 use Rattle.record_verdicts.specs.RecordVerdicts.{firstRefused, verdictBy, firstFaulty, recordVerdict, recordsVerdict}
 use Rattle.record_verdicts.specs.Inner.PlainVerdicts.{plainVerdict, firstPlain, plainsVerdict}
-use Rattle.sound_records.specs.Inner.SoundRecords.{SoundCell}
+use Rattle.sound_records.specs.Inner.SoundRecords.{soundNamed}
+use Rattle.sound_records.proofs.NamedLaws.{passes, sound-told}
 use Rattle.reader.specs.Inner.Steps.{stepAt}
-use Rattle.notes.specs.Inner.Notes.{Noted, notedAs, notedBefore, nothingNoted, noteCounting, noteItem}
-use Rattle.records.specs.Items.{firstCell}
+use Rattle.notes.specs.Inner.Notes.{Noted, notedBefore, nothingNoted, noteItem}
 use Rattle.scan.specs.Inner.Scans.{Visited}
 use Rattle.record_verdicts.proofs.FaultLaws.{faultless, complete-ends}
 use Rattle.fields.proofs.RecordLaws.{first-le, first-passes}
@@ -117,20 +117,6 @@ module _ (s : List ℕ) (noted : Noted) (at : ℕ) (state : Scanning s noted at)
         rw (visited .sound-noted sound, ← state .noted-is) (scanning-next within sound)
 
 module _ (s : List ℕ) (at : ℕ) where
-  -- a record of a cell without a fault is noted
-  pub visited-cell : (sheets cells counting cells′ counting′ : List ℕ) (falling : List Bool) (cell : ℕ) → SoundCell s at → cell ≡ recordCell s at
-      → notedAs sheets cells counting falling ≡ notedBefore s at
-      → cells′ ≡ set cells (cell - firstCell) at
-      → counting′ ≡ noteCounting s counting cell at
-      → Visited s at Accepted (notedAs sheets cells′ counting′ falling)
-  unfolding verdictOf accepted noteItem
-  visited-cell sheets cells counting cells′ counting′ falling cell h e before p q =
-      record {
-        verdict-is = sym (h .sound);
-        sound-noted = λ z. rw (p, q, e, ← before, h .cell-is);
-        faulty-left = λ f. absurd (f (ap (λ (v : Verdict). v .number) (h .sound)));
-      }
-
   module _ (answer : Answer) (noted : Noted) (verdict : verdictOf answer ≡ plainVerdict s at) (before : noted ≡ notedBefore s at) where
     -- a record without a fault is noted, and one with a fault is not
     pub visited-sound : (after : Noted) → plainVerdict s at .number ≡ 0 → after ≡ noteItem s noted (recordItem s at) at → Visited s at answer after
@@ -138,6 +124,14 @@ module _ (s : List ℕ) (at : ℕ) where
 
     pub visited-faulty : (plainVerdict s at .number ≡ 0 → ⊥) → Visited s at answer noted
     visited-faulty h = record { verdict-is = verdict; sound-noted = λ z. absurd (h z); faulty-left = λ f. before }
+
+  -- a record that is told to be sound is noted
+  pub visited-named : (noted after : Noted) → soundNamed s at ≡ true → noted ≡ notedBefore s at → after ≡ noteItem s noted (recordItem s at) at
+      → Visited s at Accepted after
+  unfolding verdictOf accepted
+  visited-named noted after h before e =
+      let sound = passes s at (sound-told s at h .fault-free) in
+      visited-sound Accepted noted (sym sound) before after (ap (λ (v : Verdict). v .number) sound) e
 
 -- no refusal of the records: none of them is faulty
 module _ (s : List ℕ) (verdict : ℕ → Verdict) where

@@ -1,17 +1,16 @@
 // The records of a filing, front to back: a reader moves over them, and each is tested.
 use answers::Answer;
 use answers::number;
-use fields::record_cell;
 use notes::BLOCKS;
 use notes::note;
-use notes::note_cell;
+use notes::note_named;
 use reader::Step;
 use reader::step_at;
 use record_verdicts::check_record;
 use records::CELLS;
 use records::KINDS;
 use schedule::cell_limits::cell_limits;
-use sound_records::sound_cell;
+use sound_records::sound_record;
 ghost use mathlib.Core.Path.{_≡_};
 ghost use Prim.Native.Nat.{_<_};
 ghost use lib.ListN.{length};
@@ -73,8 +72,8 @@ fn visit(
     requires { ⌜ (at < length (now s)) × (notedAs (now sheets) (now cells) (now counting) (now falling) ≡ notedBefore (now s) at) × (now limits ≡ cellLimits) ⌝ }
     ensures { λ r. ⌜ Visited (now (s .entry)) at r (notedAs (now (sheets .exit)) (now (cells .exit)) (now (counting .exit)) (now (falling .exit))) ⌝ }
 {
-    if sound_cell(s, at, cells, limits) {
-        note_cell(s, at, record_cell(s, at), cells, counting);
+    if sound_record(s, at, cells, limits) {
+        note_named(s, at, cells, counting, falling);
         return Answer::Accepted;
     }
     let answer = check_record(s, at, sheets, cells);

@@ -1,16 +1,29 @@
-// A sound record told at once, by one test.
+// The sound records of cells and of amendments, the most frequent ones, told at once by the limits of the cells.
+
+mod limits;
+
+use crate::limits::limit_in;
+use crate::limits::most_in;
 use fields::field_within;
 use records::CELLS;
 use records::FIRST_CELL;
+use records::kinds::AMENDMENT_KIND;
+use records::kinds::FINE_COUPON_KIND;
+use records::kinds::gives_cell;
 ghost use mathlib.Core.Path.{_≡_};
-ghost use mathlib.Core.Bool.{true};
+ghost use mathlib.Core.Bool.{true, cond, not};
+ghost use Prim.Native.Nat.{_+_, _≤_};
+ghost use lib.Dec.{ltb, eqb};
+ghost use lib.ListN.{length};
+ghost use Rattle.fields.specs.Records.{recordKind};
+ghost use Rattle.records.specs.Kinds.{fineCouponKind, amendmentKind, givesCell};
 ghost use Rattle.notes.specs.Inner.Notes.{notedBefore};
-ghost use Rattle.sound_records.specs.Inner.SoundRecords.{SoundCell, cellLimits};
+ghost use Rattle.sound_records.specs.Inner.SoundRecords.{soundNamed, cellLimits};
 
-// A record of kind 1 that has no fault: the most frequent one, tested at once by the limits of the cells.
-pub fn sound_cell(s: &[u8], at: usize, cells: &[usize; CELLS], limits: &[u64; CELLS]) -> bool
+// A record of kind 1, 6 or 7 that has no fault but perhaps 16.
+pub fn sound_record(s: &[u8], at: usize, cells: &[usize; CELLS], limits: &[u64; CELLS]) -> bool
     requires { ⌜ (now cells ≡ notedBefore (now s) at .cells) × (now limits ≡ cellLimits) ⌝ }
-    ensures { λ r. ⌜ (r ≡ true → SoundCell (now (s .entry)) at) ⌝ }
+    ensures { λ r. ⌜ r ≡ soundNamed (now (s .entry)) at ⌝ }
 {
     if s.len() < 14 {
         return false;
@@ -18,26 +31,75 @@ pub fn sound_cell(s: &[u8], at: usize, cells: &[usize; CELLS], limits: &[u64; CE
     if s.len() - 14 < at {
         return false;
     }
+    let kind = field_within(s, at, 2, 2) as usize;
+    if kind == AMENDMENT_KIND {
+        return sound_amendment(s, at, limits);
+    }
+    if !gives_cell(kind) {
+        return false;
+    }
+    sound_value(s, at, kind == FINE_COUPON_KIND, cells, limits)
+}
+
+// The same of a record of kind 1, or of kind 6 where `fine`, that may lie within the bytes.
+fn sound_value(
+    s: &[u8],
+    at: usize,
+    fine: bool,
+    cells: &[usize; CELLS],
+    limits: &[u64; CELLS],
+) -> bool
+    requires { ⌜ (at + 14 ≤ length (now s)) × (givesCell (recordKind (now s) at) ≡ true) × (fine ≡ eqb (recordKind (now s) at) fineCouponKind) ⌝ }
+    requires { ⌜ (now cells ≡ notedBefore (now s) at .cells) × (now limits ≡ cellLimits) ⌝ }
+    ensures { λ r. ⌜ r ≡ soundNamed (now (s .entry)) at ⌝ }
+{
     if field_within(s, at, 0, 2) != 12 {
         return false;
     }
-    if field_within(s, at, 2, 2) != 1 {
-        return false;
-    }
     let cell = field_within(s, at, 4, 2);
-    if cell < FIRST_CELL {
-        return false;
-    }
-    if FIRST_CELL + (CELLS as u64) <= cell {
-        return false;
-    }
-    let i = (cell - FIRST_CELL) as usize;
-    let limit = limits[i];
+    let limit = most_in(limits, cell, fine);
     if limit == 0 {
         return false;
     }
+    let i = (cell - FIRST_CELL) as usize;
     if cells[i] < s.len() {
         return false;
     }
     field_within(s, at, 6, 8) <= limit
+}
+
+// The same of an amendment.
+fn sound_amendment(s: &[u8], at: usize, limits: &[u64; CELLS]) -> bool
+    requires { ⌜ (at + 14 ≤ length (now s)) × (recordKind (now s) at ≡ amendmentKind) × (now limits ≡ cellLimits) ⌝ }
+    ensures { λ r. ⌜ r ≡ soundNamed (now (s .entry)) at ⌝ }
+{
+    if s.len() - at < 18 {
+        return false;
+    }
+    if field_within(s, at, 0, 2) != 16 {
+        return false;
+    }
+    let limit = limit_in(limits, field_within(s, at, 4, 2));
+    if limit == 0 {
+        return false;
+    }
+    fits(
+        limit,
+        field_within(s, at, 6, 2),
+        field_within(s, at, 8, 2),
+        field_within(s, at, 10, 8),
+    )
+}
+
+// An amendment has a number, and a value within its limit, or it withdraws its cell and holds none.
+fn fits(limit: u64, number: u64, state: u64, value: u64) -> bool
+    ensures { λ r. ⌜ r ≡ not (cond (eqb number 0) true (cond (eqb state 0) (ltb limit value) (cond (eqb state 1) (not (eqb value 0)) true))) ⌝ }
+{
+    if number == 0 {
+        return false;
+    }
+    if state == 0 {
+        return value <= limit;
+    }
+    (state == 1) & (value == 0)
 }

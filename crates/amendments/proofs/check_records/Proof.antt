@@ -9,7 +9,7 @@ use Rattle.answers.specs.Answers.{verdictOf}
 use Rattle.notes.specs.Inner.Notes.{Noted, blockCount, notedBefore}
 use Rattle.record_verdicts.specs.RecordVerdicts.{recordVerdict}
 use Rattle.record_verdicts.specs.Inner.PlainVerdicts.{firstPlain}
-use Rattle.amendments.specs.Inner.Repetitions.{repetitionsBelow}
+use Rattle.repetitions.specs.Inner.Repetitions.{repetitionsBelow}
 use Rattle.amendments.proofs.VerdictLaws.{found, plain-le, faulty-first, again-verdict, here-first, none-verdict, here-verdict}
 use borrow.Author.Needs.{needs}
 use Rattle.amendments.proofs.check_records.Statement.{statement}

@@ -6,35 +6,26 @@ use borrow.Author.Needs.{needs}
 use Rattle.notes.specs.Inner.Notes.{Noted}
 use Rattle.answers.specs.Answers.{verdictOf}
 use Rattle.answers.specs.Verdict.{Verdict}
-use Rattle.records.specs.declared.items.Item.the-variants.{Cell}
 use Rattle.record_verdicts.specs.Inner.PlainVerdicts.{plainVerdict}
-use Rattle.sound_records.specs.Inner.SoundRecords.{SoundCell}
-use Rattle.scan.proofs.ProgressLaws.{visited-cell, visited-sound, visited-faulty}
+use Rattle.sound_records.proofs.NamedLaws.{sound-told, told-listed}
+use Rattle.scan.proofs.ProgressLaws.{visited-named, visited-sound, visited-faulty}
 use Rattle.scan.proofs.visit.Statement.{statement}
 use Rattle.scan.proofs.visit.Tie as tie
 
-sound-cell-requires : tie.Need-sound-cell-requires
-sound-cell-requires c κs = (ap (λ (n : Noted). n .cells) (c .before .before .pre .1), c .before .before .pre .2)
+sound-record-requires : tie.Need-sound-record-requires
+sound-record-requires c κs = (ap (λ (n : Noted). n .cells) (c .before .before .pre .1), c .before .before .pre .2)
 
-record-cell-requires : tie.Need-record-cell-requires
-record-cell-requires c κs = search needs
-
--- the record is one of a cell without a fault
-sound-at : (c : tie.Then1) → SoundCell (c .before .before .before .before .args .s .now) (c .before .before .before .before .args .at)
-sound-at c = c .before .sound-cell .ensures (c .if1 .taken)
-
-note-cell-requires : tie.Need-note-cell-requires
-note-cell-requires c κs =
-    let at-cell = c .before .before in
-    sound-at (at-cell .before) .cell-is ∙ ap Cell (sym (at-cell .record-cell .ensures))
+note-named-requires : tie.Need-note-named-requires
+note-named-requires c κs =
+    let tested = c .before .before .before in
+    let t = sound-told _ _ (sym (tested .before .sound-record .ensures) ∙ tested .if1 .taken) in
+    (t .named, told-listed _ _ t)
 
 returns : tie.Need-returns
 returns c =
-    let at-cell = c .before .before .before in
-    let start = at-cell .before .before .before .before .before in
-    let a = start .args in
-    visited-cell _ _ (a .sheets .now) (a .cells .now) (a .counting .now) _ _ (a .falling .now) _ (sound-at (at-cell .before)) (at-cell .record-cell .ensures) (start .pre .1)
-    (c .note-cell .ensures .0) (c .note-cell .ensures .1)
+    let tested = c .before .before .before .before in
+    let start = tested .before .before .before .before in
+    visited-named _ _ _ _ (sym (tested .before .sound-record .ensures) ∙ tested .if1 .taken) (start .pre .1) (c .note-named .ensures (start .args .sheets .now))
 
 check-record-requires : tie.Need-check-record-requires
 check-record-requires c κs =
@@ -70,9 +61,8 @@ pub visit-spec : {M : Type 1} → statement M
 visit-spec =
     tie.close
     (tie.spec
-    sound-cell-requires
-    record-cell-requires
-    note-cell-requires
+    sound-record-requires
+    note-named-requires
     returns
     check-record-requires
     number-requires

@@ -1,20 +1,23 @@
--- A sound record that is told at once. Definitions only.
+-- The records that are told to be sound at once: those that name a cell. Definitions only.
 use Prim.Native.Nat.{ℕ}
-use mathlib.Core.Path.{_≡_}
+use mathlib.Core.Bool.{Bool, cond, _&&_}
 use mathlib.Core.List.{List}
+use lib.Dec.{eqb}
 use Rattle.lists.specs.Tables.{tableFrom}
-use Rattle.schedule.specs.Limits.{cellClass, classLimit}
-use Rattle.answers.specs.Verdict.{accepted}
-use Rattle.fields.specs.Records.{recordCell}
-use Rattle.records.specs.declared.items.Item.the-variants.{Cell}
-use Rattle.records.specs.Items.{firstCell, cellCount, recordItem}
+use Rattle.schedule.specs.Limits.{couponClass, couponLimit, cellClass, classLimit}
+use Rattle.fields.specs.Records.{recordKind}
+use Rattle.records.specs.Kinds.{namesCell}
+use Rattle.records.specs.Items.{firstCell, cellCount}
 use Rattle.record_verdicts.specs.Inner.PlainVerdicts.{plainVerdict}
+
+-- a record of kind 1, 6 or 7 that no test but perhaps 16 refuses
+unfoldable pub soundNamed : List ℕ → ℕ → Bool
+soundNamed s at = namesCell (recordKind s at) && eqb (plainVerdict s at .number) 0
 
 -- the largest values of cells 601 to 661 in a record of kind 1, 0 where a cell is not listed
 abbrev pub cellLimits : List ℕ
 cellLimits = tableFrom firstCell cellCount (λ (cell : ℕ). classLimit (cellClass cell))
 
--- a record of a cell that they do not refuse
-pub record SoundCell (s : List ℕ) (at : ℕ) : Type 0 where
-  pub sound : plainVerdict s at ≡ accepted
-  pub cell-is : recordItem s at ≡ Cell (recordCell s at)
+-- the largest value of a cell in a record of kind 1, or of kind 6 where `fine`; 0 where it is not listed for the kind
+unfoldable pub mostIn : Bool → ℕ → ℕ
+mostIn fine cell = cond fine (cond (eqb (cellClass cell) couponClass) couponLimit 0) (classLimit (cellClass cell))

@@ -1,0 +1,72 @@
+-- `note_named` meets its contract: the item of the record goes by its kind.
+-- Assumes nothing.
+use mathlib.Core.Path.{_≡_, sym, _∙_}
+use Rattle.records.specs.declared.items.Item.the-variants.{Cell, Amendment}
+use Rattle.records.specs.Items.{recordItem}
+use Rattle.notes.specs.Inner.Notes.{noteFalling, noteItem}
+use Rattle.notes.proofs.NoteLaws.{named-cell, named-amendment}
+use borrow.Author.Needs.{needs}
+use Rattle.notes.proofs.note_named.Statement.{statement}
+use Rattle.notes.proofs.note_named.Tie as tie
+
+record-cell-requires : tie.Need-record-cell-requires
+record-cell-requires c κs = search needs
+
+record-kind-requires : tie.Need-record-kind-requires
+record-kind-requires c κs = search needs
+
+amendment-number-requires : tie.Need-amendment-number-requires
+amendment-number-requires c κs = search needs
+
+-- what the function was passed
+abbrev start-of : tie.After-note-amendment-arg2 → tie.Start
+start-of c = c .before .before .before .before .before .before .before
+
+-- the record is of an amendment
+amendment-is : (c : tie.After-note-amendment-arg2)
+    → recordItem (start-of c .args .s .now) (start-of c .args .at)
+    ≡ Amendment (c .before .before .before .before .before .record-cell .result) (c .before .before .amendment-number .result)
+amendment-is c =
+    let at-number = c .before .before in
+    let at-kind = at-number .before .before in
+    named-amendment _ _ (sym (at-kind .record-kind .ensures) ∙ at-number .before .if1 .taken) (start-of c .pre .1)
+    (at-kind .before .record-cell .ensures) (at-number .amendment-number .ensures)
+
+note-amendment-requires : tie.Need-note-amendment-requires
+note-amendment-requires c κs = amendment-is c
+
+-- the record is of a cell
+cell-is : (c : tie.After-note-cell-arg2)
+    → recordItem (c .before .before .before .before .before .before .args .s .now) (c .before .before .before .before .before .before .args .at)
+    ≡ Cell (c .before .before .before .before .record-cell .result)
+cell-is c =
+    let other = c .before .before in
+    let at-kind = other .before in
+    let start = at-kind .before .before .before in
+    named-cell _ _ (start .pre .0) (λ k. other .if1 .left (at-kind .record-kind .ensures ∙ k)) (start .pre .1)
+    (at-kind .before .record-cell .ensures)
+
+note-cell-requires : tie.Need-note-cell-requires
+note-cell-requires c κs = cell-is c
+
+returns : tie.Need-returns
+unfolding noteFalling noteItem
+returns c =
+    λ sheets. rw (amendment-is (c .before), c .note-amendment .ensures .0, c .note-amendment .ensures .1)
+
+returns-2 : tie.Need-returns-2
+unfolding noteItem
+returns-2 c =
+    λ sheets. rw (cell-is (c .before), c .note-cell .ensures .0, c .note-cell .ensures .1)
+
+pub note-named-spec : {M : Type 1} → statement M
+note-named-spec =
+    tie.close
+    (tie.spec
+    record-cell-requires
+    record-kind-requires
+    amendment-number-requires
+    note-amendment-requires
+    note-cell-requires
+    returns
+    returns-2)
