@@ -3,9 +3,9 @@
 mod lines;
 
 use crate::lines::next_line;
+use book_places::Book;
 use book_text::obey;
 use book_text::open_book;
-use books::Book;
 use libc::STDOUT_FILENO;
 
 // One byte more than the 65,536 of a filing is read, so that a longer one shows.

@@ -1,11 +1,11 @@
 // The text of a standing book: what is printed at its opening, and to each line that it obeys.
 mod replies;
 
-use crate::replies::append_answer;
 use crate::replies::reply;
 use answers::number;
 use book_commands::command_of;
-use books::Book;
+use book_lines::append_answer;
+use book_places::Book;
 use standing_book::open;
 use text::append;
 ghost use Rattle.book_commands.specs.Commands.{commandOf};

@@ -16,7 +16,7 @@ use Rattle.conditions.proofs.SumLaws.{column-range}
 use Rattle.filing.specs.Contents.{sheetOffset, rateCount, rateNumber, contentsOf, retailRate}
 use Rattle.filing.specs.Valid.{Valid}
 use Rattle.shares.specs.Places.{placeAt}
-use Rattle.shares.specs.SubBalances.{positionOf}
+use Rattle.sub_balances.specs.PlaceOrder.{positionOf}
 use Rattle.deposits.specs.DepositTerms.{termsOf}
 use Rattle.deposits.proofs.TermsLaws.{flat-terms}
 use Rattle.place_values.specs.PlaceTerms.{depositAt, rateAt, filingTiers, termsHeld}

@@ -12,7 +12,8 @@ use Rattle.answers.proofs.VerdictLaws.{list-short, list-long}
 use Rattle.filing.specs.Verdict.{filingVerdict}
 use Rattle.filing.specs.Contents.{contentsOf}
 use Rattle.split_list.specs.declared.Outcome.{Outcome}
-use Rattle.shares.specs.Places.{placesOf, noPlace}
+use Rattle.sub_balances.specs.Places.{noPlace}
+use Rattle.shares.specs.Places.{placesOf}
 use Rattle.split_list.specs.Split.{splitVerdict, splitAccepts, OutcomeOf}
 
 -- a list under thirty-six places is refused, whatever the filing

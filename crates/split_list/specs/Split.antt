@@ -10,10 +10,11 @@ use Rattle.answers.specs.Verdict.{Verdict, firstRefusal, listVerdict}
 use Rattle.answers.specs.Answers.{verdictOf}
 use Rattle.filing.specs.Verdict.{filingVerdict}
 use Rattle.filing.specs.Contents.{contentsOf}
-use Rattle.shares.specs.declared.SubBalance.{SubBalance}
+use Rattle.sub_balances.specs.declared.SubBalance.{SubBalance}
 use Rattle.split_list.specs.declared.Outcome.{Outcome}
-use Rattle.shares.specs.SubBalances.{subBalanceCount}
-use Rattle.shares.specs.Places.{placesOf, noPlace}
+use Rattle.sub_balances.specs.PlaceOrder.{subBalanceCount}
+use Rattle.sub_balances.specs.Places.{noPlace}
+use Rattle.shares.specs.Places.{placesOf}
 
 -- the verdict on a filing and a list of `size` places: a short list comes first
 unfoldable pub splitVerdict : List ℕ → ℕ → Verdict

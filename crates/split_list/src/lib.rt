@@ -2,14 +2,14 @@
 use answers::Answer;
 use answers::number;
 use filing::read;
-use shares::NO_PLACE;
-use shares::SubBalance;
 use shares::places::places_of;
+use sub_balances::NO_PLACE;
+use sub_balances::SubBalance;
 ghost use mathlib.Core.Path.{_≡_};
 ghost use mathlib.Core.List.{_++_};
 ghost use Prim.Native.Nat.{_≤_};
 ghost use lib.ListN.{length, take, drop, replicate};
-ghost use Rattle.shares.specs.Places.{noPlace};
+ghost use Rattle.sub_balances.specs.Places.{noPlace};
 ghost use Rattle.split_list.specs.Split.{OutcomeOf, SplitOf, SplitFirst};
 
 // What is made of a filing and a list: the answer, the places to be written, and how many of them are, 36 or none.

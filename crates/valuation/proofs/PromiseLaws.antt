@@ -13,10 +13,10 @@ use Rattle.schedule.specs.Cells.{positionAt, totalCell}
 use Rattle.filing.specs.declared.Contents.{Contents}
 use Rattle.filing.specs.Contents.{contentsOf, cell}
 use Rattle.filing.specs.Valid.{Valid}
-use Rattle.shares.specs.SubBalances.{fourOf, positionOf, balanceAt, subBalanceCount}
+use Rattle.sub_balances.specs.PlaceOrder.{positionOf, subBalanceCount, isShort, isLong}
+use Rattle.shares.specs.SubBalances.{fourOf, balanceAt}
 use Rattle.shares.proofs.SubBalanceLaws.{four-sum, balanceAt-total}
 use Rattle.pricing.specs.Rounding.{down, up}
-use Rattle.valuation.specs.Rows.{isShort, isLong}
 use Rattle.valuation.specs.Exact.{exactValueAt, exactTotal}
 use Rattle.valuation.specs.Run.{valueAt, totalBy}
 use Rattle.valuation.specs.Numbers.{scenarioTotals, numbers}

@@ -2,7 +2,7 @@
 use native.Mathlib.Omega.{arith}
 use mathlib.Core.Path.{refl}
 use Rattle.text.specs.Lines.{tooLong}
-use Rattle.book_text.specs.Replies.{openedLine}
+use Rattle.book_lines.specs.BookLines.{openedLine}
 use Rattle.book_text.proofs.OpenLaws.{opened-long, opened-short}
 use borrow.Author.Needs.{needs}
 use Rattle.book_text.proofs.open_book.Statement.{statement}

@@ -43,7 +43,7 @@ use denote.Signature.{plain}
 use Rattle.answers.proofs.Answer as N
 use Rattle.answers.proofs.Answer.Laws as N′
 use Rattle.split_list.specs.Split.{OutcomeOf, SplitOf}
-use Rattle.shares.specs.declared.SubBalance.{SubBalance}
+use Rattle.sub_balances.specs.declared.SubBalance.{SubBalance}
 use Rattle.split_list.specs.declared.Outcome.{Outcome}
 use Rattle.split_list.proofs.PlaceRows.{Place, Places, localType, places-of-field, places-makes}
 use Rattle.split_list.proofs.Outcome as O
