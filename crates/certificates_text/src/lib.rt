@@ -6,7 +6,7 @@ use cell_lines::append_cells;
 use cell_lines::append_unreadable;
 use certificates::to_cells;
 use certificates_input::read_text;
-use text::append;
+use text::append_too_long;
 use text_lines::append_refusal;
 ghost use Prim.Native.Nat.{_≤_};
 ghost use lib.ListN.{length};
@@ -18,7 +18,7 @@ pub fn write_cells(input: &[u8], out: &mut [u8; 1176]) -> usize
     ensures { λ r. ⌜ InFront (printedText (now (input .entry))) (now (out .entry)) (now (out .exit)) r ⌝ }
 {
     if 131072 < input.len() {
-        return append(out, 0, b"too long\n");
+        return append_too_long(out);
     }
     let mut numbers = [0u64; 65537];
     let text = read_text(input, &mut numbers);

@@ -1,7 +1,7 @@
 // The text that the listing prints of a filing.
 use answers::number;
 use answers::place;
-use text::append;
+use text::append_too_long;
 use text_lines::append_refusal;
 use total_lines::append_scenarios;
 use valuation::value;
@@ -13,7 +13,7 @@ pub fn write_listing(filing: &[u8], out: &mut [u8; 623]) -> usize
     ensures { λ r. ⌜ InFront (listingText (now (filing .entry))) (now (out .entry)) (now (out .exit)) r ⌝ }
 {
     if 65536 < filing.len() {
-        return append(out, 0, b"too long\n");
+        return append_too_long(out);
     }
     let mut numbers = [0u64; 568];
     let answer = value(filing, &mut numbers);

@@ -4,6 +4,7 @@ ghost use mathlib.Core.List.{_∷_, []};
 ghost use lib.ListN.{length};
 ghost use Rattle.text.specs.Appended.{Appended};
 ghost use Rattle.text.specs.Decimal.{decimal};
+ghost use Rattle.text.specs.Lines.{tooLong};
 
 // A number in decimal: the digits but the last, and the last.
 pub fn append_number(out: &mut [u8], at: usize, n: u64) -> usize
@@ -28,6 +29,14 @@ pub fn append(out: &mut [u8], at: usize, bytes: &[u8]) -> usize
         i += 1;
     }
     at + i
+}
+
+// The line `too long`, at the front.
+pub fn append_too_long(out: &mut [u8]) -> usize
+    requires { ⌜ 9 ≤ length (now out) ⌝ }
+    ensures { λ r. ⌜ Appended (now (out .entry)) 0 tooLong (now (out .exit)) r ⌝ }
+{
+    append(out, 0, b"too long\n")
 }
 
 // One byte.
