@@ -11,10 +11,10 @@ use Rattle.answers.specs.Answers.{numberOf, verdictOf}
 use Rattle.answers.proofs.VerdictLaws.{list-short, list-long}
 use Rattle.filing.specs.Verdict.{filingVerdict}
 use Rattle.filing.specs.Contents.{contentsOf}
-use Rattle.split_list.specs.declared.Outcome.{Outcome}
+use Rattle.split_outcomes.specs.declared.Outcome.{Outcome}
 use Rattle.sub_balances.specs.Places.{noPlace}
 use Rattle.shares.specs.Places.{placesOf}
-use Rattle.split_list.specs.Split.{splitVerdict, splitAccepts, OutcomeOf}
+use Rattle.split_outcomes.specs.Outcomes.{splitVerdict, splitAccepts, OutcomeOf}
 
 -- a list under thirty-six places is refused, whatever the filing
 pub split-short : (s : List ℕ) (size : ℕ) → size < 36 → verdictOf (ListTooShort size) ≡ splitVerdict s size

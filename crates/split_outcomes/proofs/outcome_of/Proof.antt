@@ -5,9 +5,9 @@ use native.Mathlib.Omega.{arith}
 use Rattle.answers.specs.Answers.{numberOf, verdictOf}
 use Rattle.filing.proofs.ReadingLaws.{reading-accepted}
 use Rattle.shares.specs.Places.{placesOf}
-use Rattle.split_list.proofs.OutcomeLaws.{split-short, split-filing, outcome-refused, outcome-accepted}
-use Rattle.split_list.proofs.outcome_of.Statement.{statement}
-use Rattle.split_list.proofs.outcome_of.Tie as tie
+use Rattle.split_outcomes.proofs.OutcomeLaws.{split-short, split-filing, outcome-refused, outcome-accepted}
+use Rattle.split_outcomes.proofs.outcome_of.Statement.{statement}
+use Rattle.split_outcomes.proofs.outcome_of.Tie as tie
 
 refusal-requires : tie.Need-refusal-requires
 refusal-requires c κs = search needs
