@@ -2,8 +2,8 @@
 use native.Mathlib.Omega.{arith}
 use lib.ListN.{length-set}
 use borrow.Author.Needs.{needs}
-use Rattle.book.proofs.lines.with_byte.Statement.{statement}
-use Rattle.book.proofs.lines.with_byte.Tie as tie
+use Rattle.input_lines.proofs.with_byte.Statement.{statement}
+use Rattle.input_lines.proofs.with_byte.Tie as tie
 
 returns : tie.Need-returns
 returns c = search needs

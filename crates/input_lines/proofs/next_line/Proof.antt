@@ -4,8 +4,8 @@ use native.Mathlib.Omega.{arith}
 use mathlib.Core.Path.{_≡_, refl, sym}
 use lib.ListN.{length}
 use lib.Seq.{length-take-le}
-use Rattle.book.proofs.lines.next_line.Statement.{statement}
-use Rattle.book.proofs.lines.next_line.Tie as tie
+use Rattle.input_lines.proofs.next_line.Statement.{statement}
+use Rattle.input_lines.proofs.next_line.Tie as tie
 
 abbrev Inv-loop : tie.InvT-loop
 Inv-loop line₀ size₀ is-end₀ counter₀ line size is-end counter = (size ≤ length line) × (length line ≡ length line₀)
