@@ -1,11 +1,9 @@
 // A standing book on the command line. The one argument names the file with the filing; then each line of standard input is obeyed, and what is
 // answered to it is printed.
-mod lines;
-
-use crate::lines::next_line;
+use book_places::Book;
 use book_text::obey;
 use book_text::open_book;
-use books::Book;
+use input_lines::next_line;
 use libc::STDOUT_FILENO;
 
 // One byte more than the 65,536 of a filing is read, so that a longer one shows.

@@ -13,8 +13,8 @@ use Rattle.answers.specs.Verdict.{Verdict, accepted}
 use Rattle.answers.proofs.AnswerLaws.{accepted-answer}
 use Rattle.answers.proofs.VerdictLaws.{Untried, tried-start, tried-here, tried-next, tried-all, first-passed, first-refused}
 use Rattle.filing.specs.Verdict.{filingVerdict}
-use Rattle.books.specs.declared.Book.{Book}
-use Rattle.books.specs.declared.Answered.{Answered}
+use Rattle.book_places.specs.declared.Book.{Book}
+use Rattle.book_places.specs.declared.Answered.{Answered}
 use Rattle.books.specs.Changes.{changeVerdict, bookAfterAll}
 use Rattle.books.specs.Promise.{Kept, OpenedOf, ChangedOf}
 use Rattle.book_changes.specs.Changing.{changeCount, changeAt, changesOf, changesVerdict, bookWith, bookVerdict, ChangedAll, BookOf}

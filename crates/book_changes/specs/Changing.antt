@@ -9,8 +9,8 @@ use Rattle.lists.specs.Tables.{table}
 use Rattle.answers.specs.Answers.{verdictOf}
 use Rattle.answers.specs.Verdict.{Verdict, accepted, firstRefusal, firstOf}
 use Rattle.filing.specs.Verdict.{filingVerdict}
-use Rattle.books.specs.declared.Book.{Book}
-use Rattle.books.specs.declared.Answered.{Answered}
+use Rattle.book_places.specs.declared.Book.{Book}
+use Rattle.book_places.specs.declared.Answered.{Answered}
 use Rattle.books.specs.Books.{openedBook}
 use Rattle.books.specs.Changes.{Change, setPlace, clearPlace, changeVerdict, bookAfterAll}
 use Rattle.books.specs.Promise.{Kept}

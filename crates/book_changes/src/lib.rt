@@ -1,8 +1,8 @@
 // A list of changes made in turn on the book that a filing opens (02:CR 7): the totals that it then shows, without a book to keep.
 use answers::Answer;
 use answers::number;
-use books::Answered;
-use books::Book;
+use book_places::Answered;
+use book_places::Book;
 use standing_book::clear;
 use standing_book::open;
 use standing_book::set;

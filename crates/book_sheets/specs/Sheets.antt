@@ -8,8 +8,8 @@ use lib.ListN.{length, getD}
 use Rattle.lists.specs.Tables.{anyBelow}
 use Rattle.schedule.specs.Limits.{rateLimit, tierLimit, withdrawalLimit}
 use Rattle.contents.specs.declared.FiledTiers.{FiledTiers}
-use Rattle.shares.specs.declared.SubBalance.{SubBalance}
-use Rattle.shares.specs.Places.{noValues}
+use Rattle.sub_balances.specs.declared.SubBalance.{SubBalance}
+use Rattle.sub_balances.specs.Places.{noValues}
 use Rattle.pricing.specs.Scales.{par}
 use Rattle.place_values.specs.PlaceTerms.{tiersOf}
 use Rattle.place_values.specs.Inner.PlaceRows.{listedHeld}

@@ -5,8 +5,8 @@ use mathlib.Core.Path.{_≡_, refl, sym, _∙_}
 use mathlib.Core.List.{List, [], _∷_, _++_}
 use lib.ListN.{length}
 use Rattle.answers.specs.Answers.{verdictOf}
-use Rattle.books.specs.declared.Book.{Book}
-use Rattle.books.specs.declared.Answered.{Answered}
+use Rattle.book_places.specs.declared.Book.{Book}
+use Rattle.book_places.specs.declared.Answered.{Answered}
 use Rattle.books.specs.Changes.{Change, setPlace, clearPlace, changeVerdict, bookAfter}
 use Rattle.books.specs.Promise.{ChangedOf}
 use Rattle.text.specs.Appended.{Appended, InFront}
@@ -15,7 +15,8 @@ use Rattle.text.proofs.AppendLaws.{in-front}
 use Rattle.book_commands.specs.declared.Command.{Command}
 use Rattle.book_commands.specs.declared.Command.the-variants.{Set, Clear, Place, Totals, Unreadable}
 use Rattle.book_text.specs.declared.Obeyed.{Obeyed}
-use Rattle.book_text.specs.Replies.{okLine, answerLine, placeText, totalsText, replyTo, bookAfterCommand, ObeyedAs}
+use Rattle.book_lines.specs.BookLines.{okLine, answerLine}
+use Rattle.book_text.specs.Replies.{placeText, totalsText, replyTo, bookAfterCommand, ObeyedAs}
 
 -- the reply and the book after, of a command that changes the book by `change`, and of one that leaves it
 abbrev pub Changes : Book → Command → Change → Type 0

@@ -11,14 +11,14 @@ use Rattle.answers.specs.Answers.{numberOf, verdictOf}
 use Rattle.answers.specs.Verdict.{Verdict}
 use Rattle.answers.proofs.AnswerLaws.{accepted-answer}
 use Rattle.filing.specs.Verdict.{filingVerdict}
-use Rattle.books.specs.declared.Answered.{Answered}
+use Rattle.book_places.specs.declared.Answered.{Answered}
 use Rattle.books.specs.Promise.{OpenedOf}
 use Rattle.text.specs.Appended.{Appended}
-use Rattle.text.specs.Lines.{tooLong}
+use Rattle.text.specs.Lines.{tooLong, filingLimit}
 use Rattle.text.proofs.AppendLaws.{in-front}
-use Rattle.listing_text.specs.Listing.{filingLimit}
 use Rattle.book_text.specs.declared.Opened.{Opened}
-use Rattle.book_text.specs.Replies.{openedLine, answerLine, openingText, opens, OpenedAs}
+use Rattle.book_lines.specs.BookLines.{openedLine, answerLine}
+use Rattle.book_text.specs.Replies.{openingText, opens, OpenedAs}
 
 module _ (s : List ℕ) (a : Answered) (of : OpenedOf s a) (before after : List ℕ) (r : Opened) (book : r .book ≡ a .book) where
   -- too long

@@ -1,40 +1,13 @@
--- The text of a reply in each of its cases, and how long it is. Assumes nothing.
-use Prim.Native.Nat.{ℕ, _+_, _≤_, _<_}
-use mathlib.Core.Path.{_≡_, sym, _∙_}
-use mathlib.Core.List.{List, [], _∷_, _++_, append-assoc}
-use borrow.Author.Tests.{lt-ltb, le-ltb, eq-eqb, ne-eqb}
-use Rattle.answers.specs.declared.Answer.{Answer}
-use Rattle.answers.specs.Answers.{numberOf, placeOf, verdictOf}
-use Rattle.shares.specs.SubBalances.{subBalanceCount}
-use Rattle.books.specs.declared.Book.{Book}
-use Rattle.books.specs.Books.{heldIn}
-use Rattle.text.specs.Decimal.{decimal}
-use Rattle.text.specs.Lines.{spaced, restOfLine, refusalLine}
-use Rattle.book_text.specs.Replies.{answerLine, heldLine, placeText}
-
--- an answer that refuses nothing, and a refusal
-module _ (line : List ℕ) (a : Answer) (number : ℕ) (n : number ≡ numberOf a) where
-  pub answer-taken : number ≡ 0 → line ≡ answerLine line (verdictOf a)
-  unfolding answerLine verdictOf
-  answer-taken h = rw (eq-eqb (numberOf a) 0 (sym n ∙ h))
-
-  pub answer-refused : (place : ℕ) → place ≡ placeOf a → (number ≡ 0 → ⊥) → refusalLine number place ≡ answerLine line (verdictOf a)
-  unfolding answerLine verdictOf
-  answer-refused place p h = rw (n, p, ne-eqb (numberOf a) 0 (λ e. h (n ∙ e)))
-
--- the first number of the rest of a line
-rest-cons : (n : ℕ) (ns : List ℕ) → restOfLine (n ∷ ns) ≡ (32 ∷ decimal n) ++ restOfLine ns
-unfolding restOfLine spaced
-rest-cons n ns = append-assoc (32 ∷ decimal n) (spaced ns) (10 ∷ [])
-
--- a place's numbers, one behind the other
-pub held-text : (b c m p : ℕ) (vs : List ℕ)
-    → (((decimal b ++ (32 ∷ decimal c)) ++ (32 ∷ decimal m)) ++ (32 ∷ decimal p)) ++ restOfLine vs ≡ decimal b ++ restOfLine (c ∷ m ∷ p ∷ vs)
-held-text b c m p vs =
-    rw (rest-cons c (m ∷ p ∷ vs), rest-cons m (p ∷ vs), rest-cons p vs)
-    (append-assoc ((decimal b ++ (32 ∷ decimal c)) ++ (32 ∷ decimal m)) (32 ∷ decimal p) (restOfLine vs)
-    ∙ append-assoc (decimal b ++ (32 ∷ decimal c)) (32 ∷ decimal m) ((32 ∷ decimal p) ++ restOfLine vs)
-    ∙ append-assoc (decimal b) (32 ∷ decimal c) ((32 ∷ decimal m) ++ ((32 ∷ decimal p) ++ restOfLine vs)))
+-- The text of a place of the book, and of one above 35. Assumes nothing.
+use Prim.Native.Nat.{ℕ, _≤_, _<_}
+use mathlib.Core.Path.{_≡_}
+use borrow.Author.Tests.{lt-ltb, le-ltb}
+use Rattle.sub_balances.specs.PlaceOrder.{subBalanceCount}
+use Rattle.book_places.specs.declared.Book.{Book}
+use Rattle.book_places.specs.BookPlaces.{heldIn}
+use Rattle.text.specs.Lines.{refusalLine}
+use Rattle.book_lines.specs.BookLines.{heldLine}
+use Rattle.book_text.specs.Replies.{placeText}
 
 -- a place of the book, and one above 35
 module _ (b : Book) (place : ℕ) where

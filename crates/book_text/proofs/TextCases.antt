@@ -1,17 +1,15 @@
--- Closed cases of the lines that a book obeys and prints, so that a wrong clause of a definition breaks a case. Each is computed. Assumes nothing.
+-- Closed cases of the lines that a book obeys, so that a wrong clause of a definition breaks a case. Each is computed. Assumes nothing.
 use Prim.Native.Nat.{ℕ}
 use mathlib.Core.Path.{_≡_, refl}
 use mathlib.Core.List.{List, [], _∷_, _++_}
 use lib.ListN.{replicate}
 use Rattle.lists.specs.Ranges.{firstFrom}
-use Rattle.answers.specs.Verdict.{accepted, refused}
 use Rattle.text.specs.Decimal.{digit, digitsWithin, decimal}
-use Rattle.text.specs.Lines.{spaced, restOfLine, refusedWord, refusalLine}
+use Rattle.text.specs.Lines.{spaced}
 use Rattle.numerals.specs.Numerals as numerals
 use Rattle.numerals.specs.Forms.{hasForm, formNumbers, formEnd}
 use Rattle.book_commands.specs.declared.Command.the-variants.{Set, Clear, Place, Totals, Unreadable}
 use Rattle.book_commands.specs.Commands.{setWord, clearWord, placeWord, totalsWord, fiveNumbers, oneNumber, beginsWith, says, numberOf, isTotals, shortCommand, commandOf}
-use Rattle.book_text.specs.Replies.{openedLine, okLine, answerLine, heldLine}
 
 -- `set`, `clear`, `place` and `totals`
 abbrev set-word : List ℕ
@@ -53,20 +51,3 @@ unreadable-hold : commandOf []
     ≡ replicate 10 Unreadable
 unfolding commandOf shortCommand says beginsWith numberOf isTotals setWord clearWord placeWord totalsWord fiveNumbers oneNumber hasForm formNumbers formEnd numerals.byteAt numerals.isDigit numerals.numberEnd numerals.decimal numerals.numberAt numerals.isNumber firstFrom spaced decimal digitsWithin digit
 unreadable-hold = refl
-
--- ok; refused 17 36
-answers-hold : answerLine okLine accepted ∷ answerLine okLine (refused 17 36) ∷ []
-    ≡ (111 ∷ 107 ∷ 10 ∷ []) ∷ (114 ∷ 101 ∷ 102 ∷ 117 ∷ 115 ∷ 101 ∷ 100 ∷ 32 ∷ 49 ∷ 55 ∷ 32 ∷ 51 ∷ 54 ∷ 10 ∷ []) ∷ []
-unfolding answerLine okLine accepted refused refusalLine refusedWord restOfLine spaced decimal digitsWithin digit
-answers-hold = refl
-
--- opened
-opened-holds : openedLine ≡ 111 ∷ 112 ∷ 101 ∷ 110 ∷ 101 ∷ 100 ∷ 10 ∷ []
-unfolding openedLine
-opened-holds = refl
-
--- 10 20 3 40 5 6
-held-holds : heldLine (record { balance = 10; coupon = 20; «remaining_months» = 3; penalty = 40; values = 5 ∷ 6 ∷ [] })
-    ≡ 49 ∷ 48 ∷ 32 ∷ 50 ∷ 48 ∷ 32 ∷ 51 ∷ 32 ∷ 52 ∷ 48 ∷ 32 ∷ 53 ∷ 32 ∷ 54 ∷ 10 ∷ []
-unfolding heldLine restOfLine spaced decimal digitsWithin digit
-held-holds = refl

@@ -6,34 +6,22 @@ use mathlib.Core.Bool.{Bool, true, cond, _&&_}
 use mathlib.Core.List.{List, [], _∷_, _++_}
 use lib.Dec.{eqb, leb, ltb}
 use lib.ListN.{length}
-use Rattle.answers.specs.Verdict.{Verdict}
 use Rattle.filing.specs.Verdict.{filingVerdict}
-use Rattle.shares.specs.declared.SubBalance.{SubBalance}
-use Rattle.shares.specs.SubBalances.{subBalanceCount}
-use Rattle.books.specs.declared.Book.{Book}
-use Rattle.books.specs.Books.{openedBook, heldIn}
+use Rattle.sub_balances.specs.PlaceOrder.{subBalanceCount}
+use Rattle.book_places.specs.declared.Book.{Book}
+use Rattle.book_places.specs.BookPlaces.{heldIn}
+use Rattle.books.specs.Books.{openedBook}
 use Rattle.books.specs.Changes.{setPlace, clearPlace, changeVerdict, bookAfter}
 use Rattle.books.specs.Promise.{Kept}
 use Rattle.text.specs.Decimal.{decimal}
-use Rattle.text.specs.Lines.{restOfLine, refusalLine, unreadableWord, tooLong}
+use Rattle.text.specs.Lines.{filingLimit, refusalLine, unreadableWord, tooLong}
 use Rattle.text.specs.Appended.{InFront}
-use Rattle.listing_text.specs.TotalLines.{linesIn}
-use Rattle.listing_text.specs.Listing.{filingLimit}
+use Rattle.total_lines.specs.TotalLines.{linesIn}
+use Rattle.book_lines.specs.BookLines.{openedLine, okLine, answerLine, heldLine}
 use Rattle.book_commands.specs.declared.Command.{Command}
 use Rattle.book_commands.specs.declared.Command.the-variants.{Set, Clear, Place, Totals, Unreadable}
 use Rattle.book_text.specs.declared.Opened.{Opened}
 use Rattle.book_text.specs.declared.Obeyed.{Obeyed}
-
--- the lines `opened` and `ok`
-unfoldable pub openedLine : List ℕ
-openedLine = 111 ∷ 112 ∷ 101 ∷ 110 ∷ 101 ∷ 100 ∷ 10 ∷ []
-
-unfoldable pub okLine : List ℕ
-okLine = 111 ∷ 107 ∷ 10 ∷ []
-
--- a line where nothing is refused, else the line of the refusal
-unfoldable pub answerLine : List ℕ → Verdict → List ℕ
-answerLine line v = cond (eqb (v .number) 0) line (refusalLine (v .number) (v .place))
 
 -- the opening of a book from a filing's bytes: its line, and whether the book is open
 unfoldable pub openingText : List ℕ → List ℕ
@@ -41,10 +29,6 @@ openingText s = cond (ltb filingLimit (length s)) tooLong (answerLine openedLine
 
 unfoldable pub opens : List ℕ → Bool
 opens s = leb (length s) filingLimit && eqb (filingVerdict s .number) 0
-
--- what a place holds: balance, coupon, months, penalty and the fourteen values
-unfoldable pub heldLine : SubBalance → List ℕ
-heldLine held = decimal (held .balance) ++ restOfLine (held .coupon ∷ held .«remaining_months» ∷ held .penalty ∷ held .values)
 
 -- the place asked for; 17 above 35
 unfoldable pub placeText : Book → ℕ → List ℕ

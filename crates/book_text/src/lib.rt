@@ -1,13 +1,13 @@
 // The text of a standing book: what is printed at its opening, and to each line that it obeys.
 mod replies;
 
-use crate::replies::append_answer;
 use crate::replies::reply;
 use answers::number;
-use book_commands::command_of;
-use books::Book;
+use book_lines::append_answer;
+use book_places::Book;
+use line_commands::command_of;
 use standing_book::open;
-use text::append;
+use text::append_too_long;
 ghost use Rattle.book_commands.specs.Commands.{commandOf};
 ghost use Rattle.book_text.specs.Replies.{OpenedAs, ObeyedAs};
 
@@ -19,7 +19,7 @@ pub fn open_book(filing: &[u8], out: &mut [u8; 644]) -> Opened
     let book = opened.book;
     let answer = opened.answer;
     if 65536 < filing.len() {
-        let size = append(out, 0, b"too long\n");
+        let size = append_too_long(out);
         return Opened {
             is_open: false,
             book,

@@ -1,31 +1,22 @@
 // What is printed to a command, put at the front of lent bytes: 644 at most, the balance total and seven lines.
 use crate::Obeyed;
-use answers::Answer;
-use answers::number;
-use answers::place;
 use book_commands::Command;
-use books::Answered;
-use books::Book;
-use listing_text::append_scenarios;
-use shares::SubBalance;
+use book_lines::append_answer;
+use book_lines::append_held;
+use book_lines::append_totals;
+use book_places::Answered;
+use book_places::Book;
 use standing_book::clear;
 use standing_book::set;
 use text::append;
-use text::append_byte;
-use text::append_line;
-use text::append_number;
-use text::append_refusal;
-use text::append_spaced;
+use text_lines::append_refusal;
 ghost use mathlib.Core.Path.{_≡_};
-ghost use mathlib.Core.List.{_++_, _∷_, []};
-ghost use Prim.Native.Nat.{_≤_, _+_};
+ghost use Prim.Native.Nat.{_≤_};
 ghost use lib.ListN.{length};
 ghost use Rattle.answers.specs.Answers.{verdictOf};
 ghost use Rattle.text.specs.Appended.{Appended};
-ghost use Rattle.text.specs.Decimal.{decimal};
-ghost use Rattle.text.specs.Lines.{restOfLine};
-ghost use Rattle.listing_text.specs.TotalLines.{linesIn};
-ghost use Rattle.book_text.specs.Replies.{okLine, answerLine, heldLine, placeText, ObeyedAs};
+ghost use Rattle.book_lines.specs.BookLines.{okLine, answerLine};
+ghost use Rattle.book_text.specs.Replies.{placeText, ObeyedAs};
 
 // Obeys a command.
 pub(crate) fn reply(book: Book, command: Command, out: &mut [u8]) -> Obeyed
@@ -71,18 +62,6 @@ fn reply_change(changed: Answered, out: &mut [u8]) -> Obeyed
     Obeyed { book, size }
 }
 
-// The line of an answer that refuses nothing, or the refusal.
-pub(crate) fn append_answer(out: &mut [u8], answer: Answer, accepted: &[u8]) -> usize
-    requires { ⌜ (50 ≤ length (now out)) × (length (now accepted) ≤ 50) ⌝ }
-    ensures { λ r. ⌜ Appended (now (out .entry)) 0 (answerLine (now (accepted .entry)) (verdictOf answer)) (now (out .exit)) r × (r ≤ 50) ⌝ }
-{
-    let refused = number(answer);
-    if refused == 0 {
-        return append(out, 0, accepted);
-    }
-    append_refusal(out, 0, refused, place(answer) as u64)
-}
-
 // What a place holds; 17 for a place above 35.
 fn append_place(out: &mut [u8], book: Book, at: usize) -> usize
     requires { ⌜ 644 ≤ length (now out) ⌝ }
@@ -93,49 +72,4 @@ fn append_place(out: &mut [u8], book: Book, at: usize) -> usize
     }
     let held = book.places[at];
     append_held(out, held)
-}
-
-// What a place holds.
-fn append_held(out: &mut [u8], held: SubBalance) -> usize
-    requires { ⌜ 644 ≤ length (now out) ⌝ }
-    ensures { λ r. ⌜ Appended (now (out .entry)) 0 (heldLine held) (now (out .exit)) r × (r ≤ 644) ⌝ }
-{
-    let values = held.values;
-    append_numbers(
-        out,
-        held.balance,
-        held.coupon,
-        held.remaining_months,
-        held.penalty,
-        &values,
-    )
-}
-
-// Balance, coupon, months, penalty and fourteen values.
-fn append_numbers(
-    out: &mut [u8],
-    balance: u64,
-    coupon: u64,
-    months: u64,
-    penalty: u64,
-    values: &[u64],
-) -> usize
-    requires { ⌜ (644 ≤ length (now out)) × (length (now values) ≤ 14) ⌝ }
-    ensures { λ r. ⌜ Appended (now (out .entry)) 0 (decimal balance ++ restOfLine (coupon ∷ months ∷ penalty ∷ now (values .entry))) (now (out .exit)) r × (r ≤ 644) ⌝ }
-{
-    let first = append_number(out, 0, balance);
-    let second = append_spaced(out, first, coupon);
-    let third = append_spaced(out, second, months);
-    let fourth = append_spaced(out, third, penalty);
-    append_line(out, fourth, values)
-}
-
-// The balance total and the lines of the seven scenarios.
-fn append_totals(out: &mut [u8], balance: u64, totals: &[u64; 28]) -> usize
-    requires { ⌜ 644 ≤ length (now out) ⌝ }
-    ensures { λ r. ⌜ Appended (now (out .entry)) 0 ((decimal balance ++ (10 ∷ [])) ++ linesIn (now (totals .entry)) 0) (now (out .exit)) r × (r ≤ 644) ⌝ }
-{
-    let behind = append_number(out, 0, balance);
-    let next = append_byte(out, behind, b'\n');
-    append_scenarios(out, next, totals, 0)
 }

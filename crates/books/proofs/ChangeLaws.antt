@@ -12,9 +12,10 @@ use Rattle.decode.specs.Contents.{contentsOf}
 use Rattle.filing.specs.Verdict.{filingVerdict}
 use Rattle.filing.proofs.ReadLaws.{contents-accepted}
 use Rattle.filing.proofs.AcceptedLaws.{accepted-valid}
-use Rattle.books.specs.declared.Book.{Book}
-use Rattle.books.specs.declared.Answered.{Answered}
-use Rattle.books.specs.Books.{emptyBook, openedBook, withPlace}
+use Rattle.book_places.specs.declared.Book.{Book}
+use Rattle.book_places.specs.declared.Answered.{Answered}
+use Rattle.book_places.specs.BookPlaces.{withPlace}
+use Rattle.books.specs.Books.{emptyBook, openedBook}
 use Rattle.books.specs.Changes.{Change, setPlace, clearPlace, changedPlace, fitsChange, heldAfter, changeVerdict, bookAfter, bookAfterAll}
 use Rattle.books.specs.Inner.Standing.{Standing, Within}
 use Rattle.books.specs.Promise.{Kept, ChangedOf, BookPromise}

@@ -14,15 +14,14 @@ use Rattle.fraction.specs.Fraction.{Encloses}
 use Rattle.fraction.proofs.EnclosureLaws.{total-encloses}
 use Rattle.contents.specs.declared.Contents.{Contents}
 use Rattle.decode.specs.Contents.{contentsOf}
-use Rattle.shares.specs.SubBalances.{subBalanceCount}
+use Rattle.sub_balances.specs.PlaceOrder.{subBalanceCount, isShort, isLong}
 use Rattle.pricing.specs.Rounding.{down, up}
 use Rattle.place_values.specs.HeldValues.{valueHeld, boundsHeld, valuesHeld}
 use Rattle.place_values.proofs.HeldLaws.{held-encloses, held-width}
-use Rattle.valuation.specs.Rows.{isShort, isLong}
-use Rattle.valuation.proofs.ValueLaws.{widths-add}
-use Rattle.books.specs.declared.Book.{Book}
+use Rattle.totals.proofs.WidthLaws.{widths-add}
+use Rattle.book_places.specs.declared.Book.{Book}
 use Rattle.kept_totals.specs.KeptTotals.{sumsPlace, valueOfTotal}
-use Rattle.books.specs.Books.{heldIn}
+use Rattle.book_places.specs.BookPlaces.{heldIn}
 use Rattle.books.specs.Inner.Standing.{Standing}
 use Rattle.books.specs.Promise.{balanceIn, lowerIn, upperIn, totalIn, exactIn, exactTotalIn, Kept}
 

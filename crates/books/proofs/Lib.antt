@@ -3,4 +3,3 @@ pub mod StandingLaws
 pub mod KeptLaws
 pub mod ChangeLaws
 pub mod OpeningLaws
-pub mod ShareLaws

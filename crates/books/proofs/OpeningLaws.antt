@@ -20,8 +20,9 @@ use Rattle.filing.proofs.ReadingLaws.{reading-accepted}
 use Rattle.pricing.specs.Rounding.{down, up}
 use Rattle.deposits.specs.Inner.Factors.{factorsBy, WithinRates}
 use Rattle.place_values.proofs.HeldLaws.{yields-within}
-use Rattle.books.specs.declared.Answered.{Answered}
-use Rattle.books.specs.Books.{emptyUnder, emptyBook, openedBook}
+use Rattle.book_places.specs.declared.Answered.{Answered}
+use Rattle.book_places.specs.BookPlaces.{emptyUnder}
+use Rattle.books.specs.Books.{emptyBook, openedBook}
 use Rattle.books.specs.Promise.{OpenedOf}
 use Rattle.books.proofs.ChangeLaws.{opened-kept}
 

@@ -13,8 +13,8 @@ use Rattle.lists.proofs.TestLaws.{either, entries-le}
 use Rattle.schedule.specs.Cells.{withinRow, leastMonths, mostMonths}
 use Rattle.schedule.specs.Limits.{balanceLimit, couponLimit, penaltyLimit, monthsLimit}
 use Rattle.contents.specs.declared.Contents.{Contents}
-use Rattle.shares.specs.SubBalances.{subBalanceCount, positionOf, withPenalty}
-use Rattle.shares.specs.Places.{noPlace, noValues}
+use Rattle.sub_balances.specs.PlaceOrder.{subBalanceCount, positionOf, withPenalty}
+use Rattle.sub_balances.specs.Places.{noPlace, noValues}
 use Rattle.pricing.specs.Scales.{valueScale}
 use Rattle.pricing.specs.Rounding.{down, up}
 use Rattle.pricing.specs.Run.{valueBy}
@@ -23,7 +23,7 @@ use Rattle.deposits.specs.Inner.Prices.{DepositLimits}
 use Rattle.place_values.specs.PlaceTerms.{depositAt, termsHeld}
 use Rattle.place_values.specs.HeldValues.{valueHeld, boundsHeld, valuesHeld}
 use Rattle.place_values.proofs.HeldLaws.{held-are}
-use Rattle.books.specs.declared.Book.{Book}
+use Rattle.book_places.specs.declared.Book.{Book}
 use Rattle.place_limits.specs.PlaceLimits.{penaltyWithin, fitsPlace}
 use Rattle.book_sheets.specs.Sheets.{valuesUnder}
 use Rattle.books.specs.Books.{valuedIn}

@@ -14,15 +14,16 @@ use Rattle.lists.proofs.TableLaws.{table-length, table-getD, joined-le}
 use Rattle.schedule.specs.Limits.{balanceLimit}
 use Rattle.contents.specs.declared.Contents.{Contents}
 use Rattle.contents.specs.Valid.{Valid}
-use Rattle.shares.specs.declared.SubBalance.{SubBalance}
-use Rattle.shares.specs.Places.{noPlace}
+use Rattle.sub_balances.specs.declared.SubBalance.{SubBalance}
+use Rattle.sub_balances.specs.Places.{noPlace}
 use Rattle.totals.specs.RowTotals.{valueLimit}
 use Rattle.pricing.specs.Rounding.{down, up}
 use Rattle.place_values.specs.HeldValues.{boundsHeld, valuesHeld}
 use Rattle.place_values.proofs.HeldLaws.{held-le}
-use Rattle.books.specs.declared.Book.{Book}
+use Rattle.book_places.specs.declared.Book.{Book}
 use Rattle.kept_totals.specs.KeptTotals.{moved, sumsPlace, valueOfTotal, totalAfter, totalsAfter}
-use Rattle.books.specs.Books.{emptyBook, heldIn, withPlace}
+use Rattle.book_places.specs.BookPlaces.{heldIn, withPlace}
+use Rattle.books.specs.Books.{emptyBook}
 use Rattle.books.specs.Inner.Standing.{Within, Standing}
 use Rattle.kept_totals.proofs.ChangedSumLaws.{zeros-sum, sum-small, place-in-sum, sum-changed, moved-is}
 use Rattle.books.proofs.PlaceLaws.{none-within}

@@ -4,12 +4,13 @@ use mathlib.Core.Bool.{Bool, cond, not}
 use mathlib.Core.List.{List, [], _∷_}
 use lib.Dec.{ltb}
 use Rattle.answers.specs.Verdict.{Verdict, refusedIf}
-use Rattle.shares.specs.declared.SubBalance.{SubBalance}
-use Rattle.shares.specs.SubBalances.{subBalanceCount}
-use Rattle.shares.specs.Places.{noPlace, noValues}
-use Rattle.books.specs.declared.Book.{Book}
+use Rattle.sub_balances.specs.declared.SubBalance.{SubBalance}
+use Rattle.sub_balances.specs.PlaceOrder.{subBalanceCount}
+use Rattle.sub_balances.specs.Places.{noPlace, noValues}
+use Rattle.book_places.specs.declared.Book.{Book}
 use Rattle.place_limits.specs.PlaceLimits.{fitsPlace}
-use Rattle.books.specs.Books.{valuedIn, withPlace}
+use Rattle.book_places.specs.BookPlaces.{withPlace}
+use Rattle.books.specs.Books.{valuedIn}
 
 -- a place is set to a balance (thousands of dollars), a coupon (thousandths of a percent a year), months and a penalty (hundredths of a month), in this
 -- order, or it is cleared

@@ -2,4 +2,3 @@ pub mod Books
 pub mod Changes
 pub mod Inner
 pub mod Promise
-pub mod Shares

@@ -12,12 +12,12 @@ use Rattle.answers.specs.Answers.{verdictOf}
 use Rattle.answers.specs.Verdict.{accepted}
 use Rattle.decode.specs.Contents.{contentsOf}
 use Rattle.filing.specs.Verdict.{filingVerdict}
-use Rattle.shares.specs.SubBalances.{subBalanceCount}
+use Rattle.sub_balances.specs.PlaceOrder.{subBalanceCount, isShort, isLong}
 use Rattle.place_values.specs.HeldValues.{exactHeld}
-use Rattle.valuation.specs.Rows.{isShort, isLong}
-use Rattle.books.specs.declared.Book.{Book}
-use Rattle.books.specs.declared.Answered.{Answered}
-use Rattle.books.specs.Books.{openedBook, heldIn}
+use Rattle.book_places.specs.declared.Book.{Book}
+use Rattle.book_places.specs.declared.Answered.{Answered}
+use Rattle.book_places.specs.BookPlaces.{heldIn}
+use Rattle.books.specs.Books.{openedBook}
 use Rattle.books.specs.Changes.{Change, changeVerdict, bookAfter, bookAfterAll}
 use Rattle.books.specs.Inner.Standing.{Standing}
 

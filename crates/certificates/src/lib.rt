@@ -7,7 +7,7 @@ use answers::number;
 use calendar::Date;
 use filled_cells::CellValue;
 use filled_cells::Cells;
-use filled_cells::listed;
+use listed_cells::listed;
 ghost use mathlib.Core.Path.{_≡_};
 ghost use Rattle.certificates.specs.Promise.{Converted};
 ghost use Rattle.certificates.specs.Inner.Answers.{noCells};

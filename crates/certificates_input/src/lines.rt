@@ -1,6 +1,6 @@
 // The two lines of a text: the valuation date, and a certificate.
+use number_lines::read_line;
 use numerals::Line;
-use numerals::read_line;
 ghost use mathlib.Core.Path.{_≡_};
 ghost use Rattle.numerals.specs.Inner.Fields.{lineAt};
 ghost use Rattle.certificates_input.specs.Lines.{dateForm, certificateForm};

@@ -2,38 +2,25 @@
 -- Definitions only.
 use Prim.Native.Nat.{ℕ}
 use mathlib.Core.Bool.{cond}
-use mathlib.Core.List.{List, [], _∷_, map, _++_}
+use mathlib.Core.List.{List}
 use lib.ListN.{length}
 use lib.Dec.{ltb, eqb}
-use Rattle.lists.specs.Tables.{joined}
 use Rattle.calendar.specs.declared.Date.{Date}
-use Rattle.filled_cells.specs.declared.CellValue.{CellValue}
 use Rattle.certificates.specs.Verdict.{certificatesVerdict}
 use Rattle.certificates.specs.Filled.{filledCells}
-use Rattle.text.specs.Decimal.{decimal}
-use Rattle.text.specs.Lines.{restOfLine, refusalLine, unreadableWord, tooLong}
+use Rattle.text.specs.Lines.{refusalLine, tooLong}
+use Rattle.cell_lines.specs.CellLines.{cellLines, unreadableText}
 use Rattle.certificates_input.specs.Texts.{unreadableLine, valuationOf, certificatesOf}
 
 -- the most bytes that an input may have
 abbrev pub inputLimit : ℕ
 inputLimit = 131072
 
--- a cell and its value
-unfoldable pub cellLine : CellValue → List ℕ
-cellLine c = decimal (c .cell) ++ restOfLine (c .value ∷ [])
-
-unfoldable pub cellLines : List CellValue → List ℕ
-cellLines cells = joined (map cellLine cells)
-
 -- the cells that the certificates fill, or the refusal
 unfoldable pub answerText : Date → List ℕ → List ℕ
 answerText valuation s =
     cond (eqb (certificatesVerdict valuation s .number) 0) (cellLines (filledCells valuation s))
     (refusalLine (certificatesVerdict valuation s .number) (certificatesVerdict valuation s .place))
-
--- `unreadable` and the line's number
-unfoldable pub unreadableText : ℕ → List ℕ
-unreadableText line = unreadableWord ++ restOfLine (line ∷ [])
 
 -- the text of any input
 unfoldable pub printedText : List ℕ → List ℕ

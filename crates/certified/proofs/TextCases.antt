@@ -11,7 +11,7 @@ use Rattle.numerals.specs.Numerals as numerals
 use Rattle.numerals.specs.Forms.{hasForm, formNumbers}
 use Rattle.certificates_input.specs.Lines.{dateForm, certificateForm}
 use Rattle.certificates_input.specs.Texts.{lineEnd, lineStart, lineCount, lineForm, isReadable, firstUnreadable, unreadableLine, lineNumbers, valuationOf, certificatesOf}
-use Rattle.certificates_text.specs.Printed.{cellLine, cellLines, unreadableText}
+use Rattle.cell_lines.specs.CellLines.{cellLine, cellLines, unreadableText}
 
 -- numbers, each with the byte behind it
 abbrev written : List (ℕ × ℕ) → List ℕ

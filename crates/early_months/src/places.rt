@@ -1,12 +1,12 @@
 // The places of the months, and the multipliers of the places.
 use crate::PlaceMultipliers;
 use crate::Places;
+use incentives::coupon_parts;
 use month_places::last_place;
 use month_places::month_places;
 use month_places::place_survival;
 use month_steps::multipliers::multipliers_of;
 use withdrawal::TIER_LIMIT;
-use withdrawal::gain::coupon_parts;
 ghost use Prim.Native.Nat.{ℕ, _≤_};
 ghost use lib.ListN.{getD};
 ghost use Rattle.schedule.specs.Limits.{couponLimit, penaltyLimit, monthsLimit, rateLimit, tierLimit};

@@ -8,7 +8,7 @@ use borrow.Author.Tests.{eq-eqb, ne-eqb}
 use Rattle.answers.specs.Answers.{numberOf, placeOf, verdictOf}
 use Rattle.answers.specs.Verdict.{Verdict}
 use Rattle.answers.proofs.AnswerLaws.{accepted-answer}
-use Rattle.books.specs.declared.Answered.{Answered}
+use Rattle.book_places.specs.declared.Answered.{Answered}
 use Rattle.books.specs.Promise.{Kept}
 use Rattle.book_changes.specs.Changing.{bookVerdict, BookOf}
 use Rattle.exports.specs.Changed.{shownOf, bookOf, BookForC}

@@ -13,7 +13,8 @@ use Rattle.certificates.specs.Promise.{Converted}
 use Rattle.certificates.specs.Verdict.{certificatesVerdict}
 use Rattle.certificates.specs.Filled.{filledCells}
 use Rattle.filled_cells.specs.Cells.{inPlaces}
-use Rattle.exports.specs.Converted.{numbersOf, ConvertedForC}
+use Rattle.cell_numbers.specs.CellNumbers.{numbersOf}
+use Rattle.exports.specs.Converted.{ConvertedForC}
 
 module _ (valuation : Date) (s before after : List ℕ) (r : Cells) (number place count : ℕ) (kept : Converted valuation s r)
     (n : number ≡ numberOf (r .answer)) (p : place ≡ placeOf (r .answer)) (m : count ≡ r .count) where

@@ -4,7 +4,7 @@ use mathlib.Core.Path.{_≡_}
 use mathlib.Core.Bool.{cond}
 use mathlib.Core.List.{List, _∷_}
 use lib.Dec.{eqb}
-use Rattle.books.specs.declared.Book.{Book}
+use Rattle.book_places.specs.declared.Book.{Book}
 use Rattle.books.specs.Books.{openedBook}
 use Rattle.books.specs.Changes.{bookAfterAll}
 use Rattle.books.specs.Promise.{Kept}

@@ -2,27 +2,14 @@
 use Prim.Native.Nat.{ℕ}
 use mathlib.Core.Path.{_≡_}
 use mathlib.Core.Bool.{cond}
-use mathlib.Core.List.{List, [], _∷_}
+use mathlib.Core.List.{List}
 use lib.Dec.{eqb}
-use lib.ListN.{length, getD}
-use Rattle.lists.specs.Tables.{table, joined}
+use lib.ListN.{length}
 use Rattle.calendar.specs.declared.Date.{Date}
-use Rattle.filled_cells.specs.declared.CellValue.{CellValue}
 use Rattle.filled_cells.specs.Cells.{inPlaces}
 use Rattle.certificates.specs.Verdict.{certificatesVerdict}
 use Rattle.certificates.specs.Filled.{filledCells}
-
--- no cell
-abbrev pub noCell : CellValue
-noCell = record { cell = 0; value = 0 }
-
--- the cell at a place as two numbers: its number and its value
-unfoldable pub pairAt : List CellValue → ℕ → List ℕ
-pairAt l i = getD l i noCell .cell ∷ getD l i noCell .value ∷ []
-
--- cells in 28 places as numbers, two for each
-unfoldable pub numbersOf : List CellValue → List ℕ
-numbersOf l = joined (table 28 (pairAt l))
+use Rattle.cell_numbers.specs.CellNumbers.{numbersOf}
 
 -- s is the list of certificates, before and after are the cells' list at the call and at the return; number and place are 0 for acceptance
 pub record ConvertedForC (valuation : Date) (s before : List ℕ) (number place count : ℕ) (after : List ℕ) : Type 0 where

@@ -1,8 +1,6 @@
 // The book's call.
 use book_changes::book_of;
-use lists::write;
-ghost use mathlib.Core.Path.{_≡_};
-ghost use mathlib.Core.List.{_∷_};
+use kept_totals::shown;
 ghost use Rattle.exports.specs.Changed.{BookForC};
 
 // Opens a book from a filing and makes changes in turn as `book_changes::book_of` does: answers 0 for acceptance, else the first refusal's number, with its
@@ -26,13 +24,4 @@ pub extern "C" fn spritapricot_book(
         *totals = shown(book.balance, &kept);
     }
     number
-}
-
-// The balance total, and then the totals.
-fn shown(balance: u64, totals: &[u64; 28]) -> [u64; 29]
-    ensures { λ r. ⌜ r ≡ balance ∷ now (totals .entry) ⌝ }
-{
-    let mut numbers = [balance; 29];
-    write(&mut numbers, 1, totals);
-    numbers
 }

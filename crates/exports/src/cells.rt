@@ -1,10 +1,8 @@
 // The certificates' call.
 use calendar::Date;
+use cell_numbers::cell_numbers;
 use certificates::to_cells;
-use filled_cells::CellValue;
-use lists::write;
-ghost use mathlib.Core.Path.{_≡_};
-ghost use Rattle.exports.specs.Converted.{numbersOf, ConvertedForC};
+ghost use Rattle.exports.specs.Converted.{ConvertedForC};
 
 // Turns certificates into cells as `certificates::to_cells` does: answers 0 for acceptance, else the refusal's number, with the refusal's place in `place`;
 // how many cells there are in `count`, and the number and value of each in `cells`.
@@ -31,18 +29,4 @@ pub extern "C" fn spritapricot_cells(
         *cells = cell_numbers(listed);
     }
     number
-}
-
-// The number and the value of each cell.
-fn cell_numbers(cells: [CellValue; 28]) -> [u64; 56]
-    ensures { λ r. ⌜ r ≡ numbersOf cells ⌝ }
-{
-    let mut numbers = [0u64; 56];
-    let mut i: usize = 0;
-    while i < 28 {
-        let c = cells[i];
-        write(&mut numbers, 2 * i, &[c.cell as u64, c.value]);
-        i += 1;
-    }
-    numbers
 }

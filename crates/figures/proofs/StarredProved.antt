@@ -4,7 +4,7 @@ use mathlib.Core.Path.{_≡_, refl}
 use native.Mathlib.Omega.{arith}
 use borrow.Author.Tests.{le-leb, lt-leb}
 use Rattle.lists.specs.Sums.{sum}
-use Rattle.shares.specs.Apportion.{apportion, sharesFrom, cumulativeShare}
+use Rattle.apportion.specs.Apportion.{apportion, sharesFrom, cumulativeShare}
 use Rattle.shares.specs.SubBalances.{accountParts}
 use Rattle.withdrawal.specs.Gain.{gain, cost, atMost}
 use Rattle.withdrawal.specs.Tiers.{houseTiers, tier, reached, firstReached, annualWithdrawal}

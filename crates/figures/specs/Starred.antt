@@ -4,7 +4,7 @@ use mathlib.Core.Path.{_≡_}
 use mathlib.Core.Bool.{Bool, true, false}
 use mathlib.Core.List.{[], _∷_}
 use lib.IntN.{pos, negℤ}
-use Rattle.shares.specs.Apportion.{apportion}
+use Rattle.apportion.specs.Apportion.{apportion}
 use Rattle.shares.specs.SubBalances.{accountParts}
 use Rattle.withdrawal.specs.Gain.{gain, cost}
 use Rattle.withdrawal.specs.Tiers.{houseTiers, annualWithdrawal}

@@ -69,13 +69,13 @@ fn print_input(input: &mut [u8], call: usize, numbers: usize, places: usize) {
 fn print_call(input: &[u8], call: usize, numbers: usize, places: usize) {
     match call {
         0 => {
-            crate::valuing::print_valuing(input, numbers);
-            crate::splitting::print_splitting(input, places);
+            test_values::print_valuing(input, numbers);
+            test_split::print_splitting(input, places);
         }
         1 => crate::listing::print_listing(input),
-        2 => crate::searching::print_search(input),
-        3 => crate::certifying::print_certificates(input),
-        4 => crate::keeping::print_book(input),
+        2 => test_search::print_search(input),
+        3 => test_certificates::print_certificates(input),
+        4 => test_book::print_book(input),
         _ => {
             text(b"no call");
             next_number(call as u64);

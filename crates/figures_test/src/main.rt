@@ -1,13 +1,7 @@
 // Runs the library on the entries of standard input and prints what comes out. An entry is the number of a call, the length of its list of numbers,
 // that of its list of places and that of its input, 4 bytes each, little-endian, and the input. The crate `second` prints the same.
-mod certifying;
 mod entries;
-mod keeping;
 mod listing;
-mod numbers;
-mod searching;
-mod splitting;
-mod valuing;
 
 fn main() {
     entries::print_entries();

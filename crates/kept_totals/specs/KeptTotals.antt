@@ -5,7 +5,7 @@ use mathlib.Core.List.{List}
 use lib.Dec.{leb}
 use lib.ListN.{getD}
 use Rattle.lists.specs.Tables.{table}
-use Rattle.valuation.specs.Rows.{isShort, isLong}
+use Rattle.sub_balances.specs.PlaceOrder.{isShort, isLong}
 
 -- a total that loses the old figure and gains the new one, within 64 bits
 unfoldable pub moved : ℕ → ℕ → ℕ → ℕ

@@ -1,3 +1,2 @@
-pub mod TotalLineLaws
 pub mod ListingLaws
 pub mod TextCases

@@ -1,2 +1,1 @@
-pub mod TotalLines
 pub mod Listing

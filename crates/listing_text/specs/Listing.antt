@@ -13,12 +13,8 @@ use Rattle.decode.specs.Contents.{contentsOf}
 use Rattle.filing.specs.Verdict.{filingVerdict}
 use Rattle.valuation.specs.Numbers.{scenarioTotals}
 use Rattle.text.specs.Decimal.{signed}
-use Rattle.text.specs.Lines.{restOfLine, refusalLine, tooLong}
-use Rattle.listing_text.specs.TotalLines.{shift}
-
--- the most bytes that a filing may have
-abbrev pub filingLimit : ℕ
-filingLimit = 65536
+use Rattle.text.specs.Lines.{filingLimit, restOfLine, refusalLine, tooLong}
+use Rattle.total_lines.specs.TotalLines.{shift}
 
 -- the line of a scenario: shift, short lower, short upper, long lower, long upper
 unfoldable pub scenarioLine : Contents → ℕ → List ℕ

@@ -1,24 +1,19 @@
 // The text that the listing prints of a filing.
 use answers::number;
 use answers::place;
-use schedule::scenarios::Scenario;
-use text::append;
-use text::append_difference;
-use text::append_line;
-use text::append_refusal;
+use text::append_too_long;
+use text_lines::append_refusal;
+use total_lines::append_scenarios;
 use valuation::value;
-ghost use Prim.Native.Nat.{_+_, _≤_, _<_};
-ghost use lib.ListN.{length};
-ghost use Rattle.text.specs.Appended.{Appended, InFront};
+ghost use Rattle.text.specs.Appended.{InFront};
 ghost use Rattle.listing_text.specs.Listing.{listingText};
-ghost use Rattle.listing_text.specs.TotalLines.{lineIn, linesIn};
 
 // Puts the text of a filing at the front of the bytes and answers how many it has: seven lines of 89 bytes at most.
 pub fn write_listing(filing: &[u8], out: &mut [u8; 623]) -> usize
     ensures { λ r. ⌜ InFront (listingText (now (filing .entry))) (now (out .entry)) (now (out .exit)) r ⌝ }
 {
     if 65536 < filing.len() {
-        return append(out, 0, b"too long\n");
+        return append_too_long(out);
     }
     let mut numbers = [0u64; 568];
     let answer = value(filing, &mut numbers);
@@ -27,42 +22,4 @@ pub fn write_listing(filing: &[u8], out: &mut [u8; 623]) -> usize
         return append_refusal(out, 0, refused, place(answer) as u64);
     }
     append_scenarios(out, 0, &numbers, 540)
-}
-
-// The lines of the seven scenarios, whose totals stand in the numbers from a place on.
-pub fn append_scenarios(out: &mut [u8], at: usize, numbers: &[u64], from: usize) -> usize
-    requires { ⌜ (at + 623 ≤ length (now out)) × (from + 28 ≤ length (now numbers)) ⌝ }
-    ensures { λ r. ⌜ Appended (now (out .entry)) at (linesIn (now (numbers .entry)) from) (now (out .exit)) r × (r ≤ at + 623) ⌝ }
-{
-    let mut end = at;
-    let mut scenario: usize = 0;
-    while (scenario as u64) < Scenario::COUNT {
-        end = append_scenario(out, end, numbers, from, scenario);
-        scenario += 1;
-    }
-    end
-}
-
-// The line of a scenario: its shift and its four totals.
-fn append_scenario(
-    out: &mut [u8],
-    at: usize,
-    numbers: &[u64],
-    from: usize,
-    scenario: usize,
-) -> usize
-    requires { ⌜ (at + length (lineIn (now numbers) from scenario) ≤ length (now out)) × (from + 28 ≤ length (now numbers)) × (scenario < 7) ⌝ }
-    ensures { λ r. ⌜ Appended (now (out .entry)) at (lineIn (now (numbers .entry)) from scenario) (now (out .exit)) r ⌝ }
-{
-    let behind = append_difference(out, at, 100 * scenario as u64, 300);
-    let first = from + 4 * scenario;
-    let short_lower = numbers[first];
-    let short_upper = numbers[first + 1];
-    let long_lower = numbers[first + 2];
-    let long_upper = numbers[first + 3];
-    append_line(
-        out,
-        behind,
-        &[short_lower, short_upper, long_lower, long_upper],
-    )
 }

@@ -1,12 +1,12 @@
 // The withdrawal of a deposit in a month before its term's end, in the seven scenarios, as the places of the tiers that are reached.
+use incentives::gain_above_cost;
+use incentives::gain_and_cost;
+use reached_tiers::place_from;
 use schedule::scenarios::Scenario;
 use withdrawal::CouponParts;
 use withdrawal::FULL_SURVIVAL;
 use withdrawal::Incentive;
 use withdrawal::TIER_LIMIT;
-use withdrawal::gain::gain_above_cost;
-use withdrawal::gain::gain_and_cost;
-use withdrawal::tiers::place_from;
 ghost use mathlib.Core.Path.{_≡_};
 ghost use Prim.Native.Nat.{ℕ, _-_, _<_, _≤_};
 ghost use lib.ListN.{getD};

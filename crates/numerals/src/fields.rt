@@ -18,7 +18,7 @@ pub enum Whole {
 }
 
 // The number at a place, where it is followed by its separator.
-pub(crate) fn read_number(text: &[u8], at: usize, separator: u8) -> Field
+pub fn read_number(text: &[u8], at: usize, separator: u8) -> Field
     ensures { λ r. ⌜ r ≡ fieldAt (now (text .entry)) at separator ⌝ }
 {
     let end = number_end(text, at);

@@ -4,7 +4,7 @@ use mathlib.Core.Bool.{Bool, cond, _&&_}
 use lib.Dec.{leb, ltb}
 use Rattle.schedule.specs.Cells.{withinRow}
 use Rattle.schedule.specs.Limits.{balanceLimit, couponLimit, penaltyLimit}
-use Rattle.shares.specs.SubBalances.{subBalanceCount, positionOf, withPenalty}
+use Rattle.sub_balances.specs.PlaceOrder.{subBalanceCount, positionOf, withPenalty}
 
 -- a place with penalty takes one up to the limit, hundredths of a month, a place without only 0
 unfoldable pub penaltyWithin : ℕ → ℕ → Bool

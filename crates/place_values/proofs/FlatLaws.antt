@@ -17,7 +17,7 @@ use Rattle.decode.specs.Contents.{sheetOffset, rateCount, rateNumber, contentsO
 use Rattle.contents.specs.Contents.{retailRate}
 use Rattle.contents.specs.Valid.{Valid}
 use Rattle.shares.specs.Places.{placeAt}
-use Rattle.shares.specs.SubBalances.{positionOf}
+use Rattle.sub_balances.specs.PlaceOrder.{positionOf}
 use Rattle.deposits.specs.DepositTerms.{termsOf}
 use Rattle.deposits.proofs.TermsLaws.{flat-terms}
 use Rattle.place_values.specs.PlaceTerms.{depositAt, rateAt, filingTiers, termsHeld}

@@ -11,8 +11,8 @@ use Rattle.schedule.specs.Shift.{pathRate}
 use Rattle.contents.specs.declared.Contents.{Contents}
 use Rattle.contents.specs.Contents.{cdYield}
 use Rattle.contents.specs.Valid.{Valid}
-use Rattle.shares.specs.declared.SubBalance.{SubBalance}
-use Rattle.shares.specs.SubBalances.{positionOf}
+use Rattle.sub_balances.specs.declared.SubBalance.{SubBalance}
+use Rattle.sub_balances.specs.PlaceOrder.{positionOf}
 use Rattle.totals.specs.RowTotals.{valueLimit}
 use Rattle.pricing.specs.Bounded.{Bounded}
 use Rattle.pricing.specs.Scales.{valueScale}

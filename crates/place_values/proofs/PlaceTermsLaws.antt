@@ -7,7 +7,8 @@ use Rattle.schedule.specs.Limits.{penaltyLimit}
 use Rattle.contents.specs.declared.Contents.{Contents}
 use Rattle.contents.specs.Valid.{Valid}
 use Rattle.shares.specs.Places.{placeAt}
-use Rattle.shares.specs.SubBalances.{positionOf, couponAt, monthsAt, withPenalty, penaltyAt}
+use Rattle.sub_balances.specs.PlaceOrder.{positionOf, withPenalty}
+use Rattle.shares.specs.SubBalances.{couponAt, monthsAt, penaltyAt}
 use Rattle.conditions.proofs.SumLaws.{column-range}
 use Rattle.deposits.specs.Inner.Prices.{DepositLimits}
 use Rattle.place_values.specs.PlaceTerms.{depositAt}

@@ -4,8 +4,8 @@ use mathlib.Core.Path.{_≡_, ap}
 use mathlib.Core.List.{List, _∷_, append-nil}
 use lib.ListN.{length, replicate}
 use Rattle.lists.specs.Runs.{written}
-use Rattle.shares.specs.declared.SubBalance.{SubBalance}
-use Rattle.shares.specs.SubBalances.{positionOf}
+use Rattle.sub_balances.specs.declared.SubBalance.{SubBalance}
+use Rattle.sub_balances.specs.PlaceOrder.{positionOf}
 use Rattle.withdrawal.specs.Tiers.{TierTable}
 use Rattle.deposits.proofs.ValueLaws.{values-length, no-values}
 use Rattle.place_values.specs.PlaceTerms.{depositAt}

@@ -5,7 +5,7 @@ use Rattle.lists.specs.Tables.{table, joined}
 use Rattle.fraction.specs.Fraction.{Fraction}
 use Rattle.schedule.specs.Shift.{scenarioCount}
 use Rattle.contents.specs.declared.Contents.{Contents}
-use Rattle.shares.specs.declared.SubBalance.{SubBalance}
+use Rattle.sub_balances.specs.declared.SubBalance.{SubBalance}
 use Rattle.pricing.specs.Rounding.{Rounding, down, up}
 use Rattle.pricing.specs.Exact.{exactValue}
 use Rattle.pricing.specs.Run.{valueBy}

@@ -8,8 +8,8 @@ use Rattle.schedule.specs.Shift.{shiftedRate}
 use Rattle.contents.specs.declared.Contents.{Contents}
 use Rattle.contents.specs.declared.FiledTiers.{FiledTiers}
 use Rattle.contents.specs.Contents.{cdYield, retailRate}
-use Rattle.shares.specs.declared.SubBalance.{SubBalance}
-use Rattle.shares.specs.SubBalances.{positionOf, isBrokered}
+use Rattle.sub_balances.specs.declared.SubBalance.{SubBalance}
+use Rattle.sub_balances.specs.PlaceOrder.{positionOf, isBrokered}
 use Rattle.withdrawal.specs.Tiers.{TierTable, tier, houseTiers}
 use Rattle.pricing.specs.Terms.{Terms}
 use Rattle.deposits.specs.DepositTerms.{termsOf}

@@ -1,8 +1,8 @@
 // The withdrawal tiers of a filing.
 use contents::FiledTiers;
+use held_tiers::house;
+use held_tiers::with_survivals;
 use withdrawal::WithdrawalTiers;
-use withdrawal::tiers::house;
-use withdrawal::tiers::with_survivals;
 ghost use mathlib.Core.Path.{_≡_};
 ghost use Prim.Native.Nat.{ℕ, _-_, _≤_, _<_};
 ghost use lib.ListN.{getD};

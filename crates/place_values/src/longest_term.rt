@@ -1,5 +1,5 @@
 // The longest term that has to be discounted.
-use shares::SubBalance;
+use sub_balances::SubBalance;
 ghost use mathlib.Core.Path.{_≡_};
 ghost use Prim.Native.Nat.{max};
 ghost use Rattle.place_values.specs.Inner.LongestTerm.{longestTerm, termOf};

@@ -3,9 +3,9 @@ use crate::filing_tiers::tiers_of;
 use answers::Answer;
 use answers::number;
 use filing::read;
+use reached_tiers::reached_tier;
 use withdrawal::Incentive;
 use withdrawal::ReachedTier;
-use withdrawal::tiers::reached_tier;
 ghost use mathlib.Core.Path.{_≡_};
 ghost use Rattle.place_values.specs.TierAnswers.{TierAnswered, tooLarge};
 

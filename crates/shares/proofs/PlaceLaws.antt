@@ -9,11 +9,14 @@ use lib.ListN.{getD, set}
 use Rattle.lists.proofs.FillLaws.{Filled, fill-more}
 use Rattle.contents.specs.declared.Contents.{Contents}
 use Rattle.contents.specs.Valid.{Valid}
-use Rattle.shares.specs.SubBalances.{positionOf, balanceAt, couponAt, monthsAt, withPenalty, penaltyAt}
-use Rattle.shares.specs.declared.Row.{Row}
-use Rattle.shares.specs.declared.SubBalance.{SubBalance}
-use Rattle.shares.specs.Places.{placeAt, noPlace}
-use Rattle.shares.specs.Inner.Rows.{rowAt, rowShares, rowPlace}
+use Rattle.sub_balances.specs.PlaceOrder.{positionOf, withPenalty}
+use Rattle.shares.specs.SubBalances.{balanceAt, couponAt, monthsAt, penaltyAt}
+use Rattle.apportion.specs.declared.Row.{Row}
+use Rattle.sub_balances.specs.declared.SubBalance.{SubBalance}
+use Rattle.sub_balances.specs.Places.{noPlace}
+use Rattle.shares.specs.Places.{placeAt}
+use Rattle.apportion.specs.Inner.Rows.{rowShares}
+use Rattle.shares.specs.Inner.Rows.{rowAt, rowPlace}
 use Rattle.shares.proofs.RowLaws.{four-row}
 
 -- place 4 × i + r has the r-th of its row's four, its row's coupon and remaining months, and the penalty of its column where it is subject to one

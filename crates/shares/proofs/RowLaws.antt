@@ -10,18 +10,19 @@ use Rattle.lists.specs.Tables.{those}
 use Rattle.lists.proofs.EachLaws.{each-lt}
 use Rattle.lists.proofs.SumLaws.{sum-take-suc, sum-take-le}
 use Rattle.schedule.specs.declared.Position.{Position}
-use Rattle.schedule.specs.Cells.{position, positions, positionAt, inColumn, brokeredCell, penaltyBalanceCell}
+use Rattle.schedule.specs.Cells.{position, positions, positionAt, inColumn, brokeredCell}
 use Rattle.contents.specs.declared.Contents.{Contents}
 use Rattle.contents.specs.Contents.{cell}
 use Rattle.conditions.specs.Conditions.{columnBalances}
 use Rattle.contents.specs.Valid.{Valid}
 use Rattle.conditions.specs.Inner.Sums.{columnSum}
 use Rattle.conditions.proofs.SumLaws.{column-range, column-sum, column-limit}
-use Rattle.shares.specs.declared.Row.{Row}
-use Rattle.shares.specs.Apportion.{shareBehind}
+use Rattle.apportion.specs.declared.Row.{Row}
+use Rattle.apportion.specs.Apportion.{shareBehind}
 use Rattle.shares.specs.SubBalances.{brokeredShares, penaltyShares, brokeredIn, retailIn, retailPenalized, brokeredPenalized, fourOf}
-use Rattle.shares.specs.Inner.Rows.{rowAt, RowWithin, accountShares, rowShares}
-use Rattle.shares.proofs.ApportionLaws.{apportion-getD}
+use Rattle.apportion.specs.Inner.Rows.{RowWithin, accountShares, rowShares}
+use Rattle.shares.specs.Inner.Rows.{rowAt}
+use Rattle.apportion.proofs.ApportionLaws.{apportion-getD}
 use Rattle.shares.proofs.PartLaws.{parts-sum, parts-above, parts-through-retail, retail-part, brokered-part}
 use Rattle.shares.proofs.SubBalanceLaws.{brokered-le, brokered-length, row-balance}
 

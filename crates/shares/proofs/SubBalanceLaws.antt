@@ -17,8 +17,9 @@ use Rattle.contents.specs.Contents.{cell}
 use Rattle.conditions.specs.Conditions.{columnBalances, balances}
 use Rattle.contents.specs.Valid.{Valid}
 use Rattle.conditions.proofs.SumLaws.{column-range}
-use Rattle.shares.specs.SubBalances.{brokeredShares, accountParts, penaltyShares, brokeredIn, retailIn, retailPenalized, brokeredPenalized, fourOf, positionOf, balanceAt, subBalanceCount}
-use Rattle.shares.proofs.ApportionLaws.{apportion-sum, apportion-le, apportion-length}
+use Rattle.sub_balances.specs.PlaceOrder.{positionOf, subBalanceCount}
+use Rattle.shares.specs.SubBalances.{brokeredShares, accountParts, penaltyShares, brokeredIn, retailIn, retailPenalized, brokeredPenalized, fourOf, balanceAt}
+use Rattle.apportion.proofs.ApportionLaws.{apportion-sum, apportion-le, apportion-length}
 use Rattle.shares.proofs.PartLaws.{parts-sum, retail-part, brokered-part}
 
 -- a column whose brokered balance is within its sum

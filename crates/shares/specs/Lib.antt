@@ -1,4 +1,3 @@
-pub mod Apportion
 pub mod SubBalances
 pub mod Places
 pub mod Inner

@@ -1,15 +1,15 @@
 -- The thirty-six sub-balances of a filing (01:44-45), thousands of dollars. Definitions only.
-use Prim.Native.Nat.{ℕ, _+_, _*_, _-_, _/_, _%_}
-use mathlib.Core.Bool.{Bool, cond}
+use Prim.Native.Nat.{ℕ, _+_, _*_, _-_, _%_}
+use mathlib.Core.Bool.{cond}
 use mathlib.Core.List.{List, [], _∷_}
-use lib.Dec.{leb, eqb}
 use lib.ListN.{getD}
 use Rattle.schedule.specs.declared.Position.{Position}
-use Rattle.schedule.specs.Cells.{positionAt, brokeredCell, penaltyBalanceCell, penaltyMonthsCell}
+use Rattle.schedule.specs.Cells.{brokeredCell, penaltyBalanceCell, penaltyMonthsCell}
+use Rattle.sub_balances.specs.PlaceOrder.{positionOf, withPenalty}
 use Rattle.contents.specs.declared.Contents.{Contents}
 use Rattle.contents.specs.Contents.{cell}
 use Rattle.conditions.specs.Conditions.{columnBalances}
-use Rattle.shares.specs.Apportion.{apportion}
+use Rattle.apportion.specs.Apportion.{apportion}
 
 -- a column's brokered balance, split over its rows
 unfoldable pub brokeredShares : Contents → ℕ → List ℕ
@@ -48,13 +48,6 @@ fourOf k p =
     ∷ (brokeredIn k p - brokeredPenalized k p)
     ∷ []
 
-abbrev pub subBalanceCount : ℕ
-subBalanceCount = 36
-
--- the position of a place, 0 to 35
-unfoldable pub positionOf : ℕ → Position
-positionOf place = positionAt (place / 4)
-
 -- the balance, and its cell's coupon (thousandths of a percent a year) and remaining months, at a place
 unfoldable pub balanceAt : Contents → ℕ → ℕ
 balanceAt k place = getD (fourOf k (positionOf place)) (place % 4) 0
@@ -64,13 +57,6 @@ couponAt k place = cell k (positionOf place .coupon)
 
 unfoldable pub monthsAt : Contents → ℕ → ℕ
 monthsAt k place = cell k (positionOf place .months)
-
--- the places of each four: retail with and without penalty, then brokered with and without (01:45)
-unfoldable pub isBrokered : ℕ → Bool
-isBrokered place = leb 2 (place % 4)
-
-unfoldable pub withPenalty : ℕ → Bool
-withPenalty place = eqb (place % 2) 0
 
 -- the penalty of a place, hundredths of a month: its column's, or 0 where the place is without penalty (01:49)
 unfoldable pub penaltyAt : Contents → ℕ → ℕ

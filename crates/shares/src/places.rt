@@ -1,13 +1,13 @@
 // The split of a filing's balances into the thirty-six sub-balances.
-use crate::NO_PLACE;
-use crate::Row;
-use crate::SubBalance;
-use crate::apportion::row_shares;
+use apportion::Row;
+use apportion::row_shares;
 use conditions::ColumnSums;
 use conditions::cells::cell_value;
 use conditions::sums::column_sums;
 use contents::Contents;
 use schedule::positions::position;
+use sub_balances::NO_PLACE;
+use sub_balances::SubBalance;
 ghost use mathlib.Core.Path.{_≡_};
 ghost use Prim.Native.Nat.{_<_};
 ghost use Rattle.contents.specs.Valid.{Valid};

@@ -18,9 +18,9 @@ use denote.Laws.{Is, Tells, Makes}
 use denote.Array.{Array, each, array-vals, array-tells, array-typed, array-makes}
 use denote.Struct.Field.{array-field}
 use denote.Struct.Laws as LL
-use Rattle.shares.specs.declared.SubBalance.{SubBalance}
-use Rattle.shares.proofs.SubBalance as T
-use Rattle.shares.proofs.SubBalance.Laws as T′
+use Rattle.sub_balances.specs.declared.SubBalance.{SubBalance}
+use Rattle.sub_balances.proofs.SubBalance as T
+use Rattle.sub_balances.proofs.SubBalance.Laws as T′
 
 -- the type of a local, as a function's table has it
 abbrev typeOf : Local → Ty

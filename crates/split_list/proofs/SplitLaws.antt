@@ -11,10 +11,12 @@ use Rattle.lists.proofs.TableLaws.{table-length}
 use Rattle.answers.proofs.VerdictLaws.{list-none}
 use Rattle.decode.specs.Contents.{contentsOf}
 use Rattle.filing.specs.Verdict.{filingVerdict}
-use Rattle.shares.specs.declared.SubBalance.{SubBalance}
-use Rattle.split_list.specs.declared.Outcome.{Outcome}
-use Rattle.shares.specs.Places.{placeAt, placesOf, noPlace}
-use Rattle.split_list.specs.Split.{splitVerdict, splitAccepts, placesAfter, OutcomeOf, SplitOf}
+use Rattle.sub_balances.specs.declared.SubBalance.{SubBalance}
+use Rattle.split_outcomes.specs.declared.Outcome.{Outcome}
+use Rattle.sub_balances.specs.Places.{noPlace}
+use Rattle.shares.specs.Places.{placeAt, placesOf}
+use Rattle.split_outcomes.specs.Outcomes.{splitVerdict, splitAccepts, OutcomeOf}
+use Rattle.split_list.specs.Split.{placesAfter, SplitOf}
 
 -- a list that is accepted has room for the places
 accepts-size : (s : List ℕ) (size : ℕ) → splitAccepts s size ≡ true → 36 ≤ size

@@ -1,37 +1,20 @@
--- The call that splits a filing into a list of places (01:45): its verdict, and what the list holds after it. Definitions only.
+-- The call that splits a filing into a list of places (01:45): its answer, and what the list holds after it. Definitions only.
 use Prim.Native.Nat.{ℕ}
 use mathlib.Core.Path.{_≡_}
-use mathlib.Core.Bool.{Bool, cond}
+use mathlib.Core.Bool.{cond}
 use mathlib.Core.List.{List, _++_}
-use lib.Dec.{eqb}
-use lib.ListN.{length, take, drop, replicate}
+use lib.ListN.{length, take, drop}
 use Rattle.answers.specs.declared.Answer.{Answer}
-use Rattle.answers.specs.Verdict.{Verdict, firstRefusal, listVerdict}
 use Rattle.answers.specs.Answers.{verdictOf}
-use Rattle.filing.specs.Verdict.{filingVerdict}
 use Rattle.decode.specs.Contents.{contentsOf}
-use Rattle.shares.specs.declared.SubBalance.{SubBalance}
-use Rattle.split_list.specs.declared.Outcome.{Outcome}
-use Rattle.shares.specs.SubBalances.{subBalanceCount}
-use Rattle.shares.specs.Places.{placesOf, noPlace}
-
--- the verdict on a filing and a list of `size` places: a short list comes first
-unfoldable pub splitVerdict : List ℕ → ℕ → Verdict
-splitVerdict s size = firstRefusal (listVerdict subBalanceCount size) (filingVerdict s)
-
--- nothing is refused
-unfoldable pub splitAccepts : List ℕ → ℕ → Bool
-splitAccepts s size = eqb (splitVerdict s size .number) 0
+use Rattle.sub_balances.specs.declared.SubBalance.{SubBalance}
+use Rattle.sub_balances.specs.PlaceOrder.{subBalanceCount}
+use Rattle.shares.specs.Places.{placesOf}
+use Rattle.split_outcomes.specs.Outcomes.{splitVerdict, splitAccepts}
 
 -- the list after the call: as it was on a refusal, else the thirty-six places and then the rest as it was
 unfoldable pub placesAfter : List ℕ → List SubBalance → List SubBalance
 placesAfter s l = cond (splitAccepts s (length l)) (placesOf (contentsOf s) ++ drop subBalanceCount l) l
-
--- what is made of a filing and a list of `size` places: the answer, the places to be written, and how many of them are
-pub record OutcomeOf (s : List ℕ) (size : ℕ) (r : Outcome) : Type 0 where
-  pub verdict : verdictOf (r .answer) ≡ splitVerdict s size
-  pub places : r .places ≡ cond (splitAccepts s size) (placesOf (contentsOf s)) (replicate subBalanceCount noPlace)
-  pub count : r .count ≡ cond (splitAccepts s size) subBalanceCount 0
 
 -- what the call answers on a filing and a list, and what it leaves in the list
 pub record SplitOf (s : List ℕ) (before : List SubBalance) (answer : Answer) (after : List SubBalance) : Type 0 where

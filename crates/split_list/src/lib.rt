@@ -1,23 +1,12 @@
 // The split of a filing into a list of places that the caller lends.
 use answers::Answer;
-use answers::number;
-use filing::read;
-use shares::NO_PLACE;
-use shares::SubBalance;
-use shares::places::places_of;
+use split_outcomes::outcome_of;
+use sub_balances::SubBalance;
 ghost use mathlib.Core.Path.{_≡_};
 ghost use mathlib.Core.List.{_++_};
 ghost use Prim.Native.Nat.{_≤_};
-ghost use lib.ListN.{length, take, drop, replicate};
-ghost use Rattle.shares.specs.Places.{noPlace};
-ghost use Rattle.split_list.specs.Split.{OutcomeOf, SplitOf, SplitFirst};
-
-// What is made of a filing and a list: the answer, the places to be written, and how many of them are, 36 or none.
-pub struct Outcome {
-    pub answer: Answer,
-    pub places: [SubBalance; 36],
-    pub count: usize,
-}
+ghost use lib.ListN.{length, take, drop};
+ghost use Rattle.split_list.specs.Split.{SplitOf, SplitFirst};
 
 // The answer on a filing and the first places of an array, and the array after the call.
 pub struct SplitPlaces {
@@ -57,37 +46,5 @@ fn fill(places: &mut [SubBalance], from: [SubBalance; 36], count: usize)
     while i < count {
         places[i] = from[i];
         i += 1;
-    }
-}
-
-// What is made of a filing and a list of `size` places: a short list is refused before the filing is read.
-fn outcome_of(filing: &[u8], size: usize) -> Outcome
-    ensures { λ r. ⌜ OutcomeOf (now (filing .entry)) size r ⌝ }
-{
-    if size < 36 {
-        return refusal(Answer::ListTooShort(size));
-    }
-    let reading = read(filing);
-    let answer = reading.answer;
-    if number(answer) != 0 {
-        return refusal(answer);
-    }
-    let contents = reading.contents;
-    let places = places_of(contents);
-    Outcome {
-        answer,
-        places,
-        count: 36,
-    }
-}
-
-// A refusal writes no place.
-fn refusal(answer: Answer) -> Outcome
-    ensures { λ r. ⌜ (r .answer ≡ answer) × (r .places ≡ replicate 36 noPlace) × (r .count ≡ 0) ⌝ }
-{
-    Outcome {
-        answer,
-        places: [NO_PLACE; 36],
-        count: 0,
     }
 }

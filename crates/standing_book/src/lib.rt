@@ -1,24 +1,17 @@
 // A standing book (02:CR 7): thirty-six places under a filing's sheets and tiers, set or cleared one at a time, with kept totals.
 use answers::Answer;
+use book_places::Answered;
+use book_places::Book;
+use book_places::empty_book;
+use book_places::refusal;
+use book_places::with_place;
 use book_sheets::values_in;
-use books::Answered;
-use books::Book;
-use contents::FiledTiers;
-use deposits::RatePaths;
-use deposits::factors::FactorTable;
 use deposits::factors::factor_table;
 use filing::read;
-use kept_totals::moved;
-use kept_totals::totals_after;
 use place_limits::fits;
-use shares::NO_PLACE;
-use shares::SubBalance;
-ghost use mathlib.Core.Path.{_≡_};
-ghost use Prim.Native.Nat.{_<_};
-ghost use Rattle.shares.specs.SubBalances.{subBalanceCount};
+use sub_balances::NO_PLACE;
+use sub_balances::SubBalance;
 ghost use Rattle.books.specs.Changes.{setPlace, clearPlace};
-ghost use Rattle.answers.specs.declared.Answer.the-variants.{OutsidePlaceLimits};
-ghost use Rattle.books.specs.Books.{emptyUnder, withPlace};
 ghost use Rattle.books.specs.Promise.{OpenedOf, ChangedOf};
 
 // Opens an empty book under the sheets and tiers of a filing. A refused filing is refused as `read` refuses it.
@@ -84,45 +77,4 @@ pub fn clear(book: Book, place: usize) -> Answered
         answer: Answer::Accepted,
         book: with_place(book, place, NO_PLACE),
     }
-}
-
-// An empty book under rates, tiers and discount factors.
-fn empty_book(rates: RatePaths, tiers: FiledTiers, lower: FactorTable, upper: FactorTable) -> Book
-    ensures { λ r. ⌜ r ≡ emptyUnder rates tiers lower upper ⌝ }
-{
-    Book {
-        places: [NO_PLACE; 36],
-        balance: 0,
-        totals: [0; 28],
-        rates,
-        tiers,
-        lower,
-        upper,
-    }
-}
-
-// A refused change: the book as it was.
-fn refusal(book: Book, place: usize) -> Answered
-    ensures { λ r. ⌜ (r .answer ≡ OutsidePlaceLimits place) × (r .book ≡ book) ⌝ }
-{
-    Answered {
-        answer: Answer::OutsidePlaceLimits(place),
-        book,
-    }
-}
-
-// The book with something else at a place: the totals lose what the old values had and gain the new ones.
-fn with_place(book: Book, place: usize, held: SubBalance) -> Book
-    requires { ⌜ place < subBalanceCount ⌝ }
-    ensures { λ r. ⌜ r ≡ withPlace book place held ⌝ }
-{
-    let old = book.places[place];
-    let old_values = old.values;
-    let values = held.values;
-    let totals = totals_after(&book.totals, place, &old_values, &values);
-    let mut after = book;
-    after.places[place] = held;
-    after.balance = moved(book.balance, old.balance, held.balance);
-    after.totals = totals;
-    after
 }

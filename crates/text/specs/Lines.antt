@@ -24,6 +24,10 @@ refusalLine number place = refusedWord ++ restOfLine (number ∷ place ∷ [])
 unfoldable pub unreadableWord : List ℕ
 unreadableWord = 117 ∷ 110 ∷ 114 ∷ 101 ∷ 97 ∷ 100 ∷ 97 ∷ 98 ∷ 108 ∷ 101 ∷ []
 
+-- the most bytes that a filing may have
+abbrev pub filingLimit : ℕ
+filingLimit = 65536
+
 -- the line `too long`
 unfoldable pub tooLong : List ℕ
 tooLong = 116 ∷ 111 ∷ 111 ∷ 32 ∷ 108 ∷ 111 ∷ 110 ∷ 103 ∷ 10 ∷ []

@@ -6,7 +6,7 @@ ghost use Prim.Native.Nat.{_+_, _≤_, _<_};
 ghost use Rattle.lists.specs.Sums.{sum};
 ghost use Rattle.lists.specs.Tables.{tableFrom, table, joined};
 ghost use Rattle.schedule.specs.Shift.{scenarioCount};
-ghost use Rattle.shares.specs.SubBalances.{subBalanceCount};
+ghost use Rattle.sub_balances.specs.PlaceOrder.{subBalanceCount};
 ghost use Rattle.totals.specs.RowTotals.{WithinRows, numberAt, rowTotals};
 
 // Four totals for each scenario, in dollars: short lower, short upper, long lower, long upper.

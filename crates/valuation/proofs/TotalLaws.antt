@@ -14,9 +14,8 @@ use Rattle.lists.proofs.TableLaws.{table-ext, joined-le}
 use Rattle.schedule.specs.Cells.{positions, position, positionAt}
 use Rattle.contents.specs.declared.Contents.{Contents}
 use Rattle.contents.specs.Valid.{Valid}
-use Rattle.shares.specs.SubBalances.{positionOf}
+use Rattle.sub_balances.specs.PlaceOrder.{positionOf, isShort, isLong}
 use Rattle.pricing.specs.Rounding.{down, up}
-use Rattle.valuation.specs.Rows.{isShort, isLong}
 use Rattle.valuation.specs.Run.{valueAt, totalBy}
 use Rattle.valuation.specs.Numbers.{placeNumbers, scenarioTotals, numbers}
 use Rattle.totals.specs.RowTotals.{valueLimit, WithinRows, numberAt, rowTotals}

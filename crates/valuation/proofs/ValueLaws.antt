@@ -1,21 +1,22 @@
 -- Values and totals of a filing: lower ≤ exact ≤ upper, and their widths (01:58). Assumes nothing.
-use Prim.Native.Nat.{ℕ, zero, suc, _+_, _*_, _≤_, _<_}
+use Prim.Native.Nat.{ℕ, _+_, _*_, _≤_, _<_}
 use mathlib.Core.Path.{_≡_}
 use mathlib.Core.Bool.{Bool}
 use native.Mathlib.Omega.{arith}
-use Rattle.lists.specs.Sums.{sumWhere, everywhere}
-use Rattle.lists.proofs.SumLaws.{sumWhere-mono, sumWhere-add, sumWhere-mul, sumWhere-split}
+use Rattle.lists.specs.Sums.{everywhere}
+use Rattle.lists.proofs.SumLaws.{sumWhere-split}
 use Rattle.fraction.specs.Fraction.{Encloses}
 use Rattle.fraction.proofs.EnclosureLaws.{total-encloses}
 use Rattle.schedule.specs.Cells.{totalCell}
 use Rattle.contents.specs.declared.Contents.{Contents}
 use Rattle.contents.specs.Contents.{cell}
 use Rattle.contents.specs.Valid.{Valid}
-use Rattle.shares.specs.SubBalances.{balanceAt, subBalanceCount}
+use Rattle.sub_balances.specs.PlaceOrder.{subBalanceCount, isShort, isLong}
+use Rattle.shares.specs.SubBalances.{balanceAt}
 use Rattle.shares.specs.Places.{placeAt}
 use Rattle.shares.proofs.SubBalanceLaws.{balanceAt-total}
+use Rattle.totals.proofs.WidthLaws.{widths-add}
 use Rattle.pricing.specs.Rounding.{Rounding, down, up}
-use Rattle.valuation.specs.Rows.{isShort, isLong}
 use Rattle.valuation.specs.Exact.{exactValueAt, exactTotal}
 use Rattle.valuation.specs.Run.{valueAt, totalBy}
 use Rattle.place_values.proofs.PlaceTermsLaws.{deposit-limits}
@@ -39,27 +40,6 @@ pub valueAt-width : (k : Contents) → Valid k → (scenario place : ℕ) → pl
     → 250 * valueAt up k scenario place ≤ 250 * valueAt down k scenario place + (balanceAt k place + 500)
 unfolding valueAt placeAt
 valueAt-width k v scenario place h = held-width k place (placeAt k place) (deposit-limits k v place h) scenario
-
--- c at each of n places
-constant-sum : (c n : ℕ) → sumWhere everywhere (λ _. c) n ≡ c * n
-unfolding sumWhere
-constant-sum c zero = omega arith
-constant-sum c (suc n) = omega (arith, constant-sum c n)
-
--- values that are each within their width are so together
-pub widths-add : (l u b : ℕ → ℕ) (n : ℕ) → ((i : ℕ) → i < n → 250 * u i ≤ 250 * l i + (b i + 500))
-    → 250 * sumWhere everywhere u n ≤ 250 * sumWhere everywhere l n + (sumWhere everywhere b n + 500 * n)
-widths-add l u b n h =
-    omega (
-      arith,
-      sumWhere-mono everywhere (λ (i : ℕ). 250 * u i) (λ (i : ℕ). 250 * l i + (b i + 500)) n h,
-      sumWhere-mul 250 everywhere u n,
-      sumWhere-mul 250 everywhere l n,
-      sumWhere-add everywhere (λ (i : ℕ). 250 * l i)
-          (λ (i : ℕ). b i + 500) n,
-      sumWhere-add everywhere b (λ (_ : ℕ). 500) n,
-      constant-sum 500 n,
-    )
 
 -- over all places: 250 × (sum of upper - sum of lower) ≤ total + 18,000
 pub all-width : (k : Contents) → Valid k → (scenario : ℕ)

@@ -1,4 +1,3 @@
-pub mod Rows
 pub mod Exact
 pub mod Run
 pub mod Numbers

@@ -4,9 +4,9 @@ use mathlib.Core.List.{List, [], _∷_, _++_}
 use Rattle.lists.specs.Tables.{table, joined}
 use Rattle.schedule.specs.Shift.{scenarioCount}
 use Rattle.contents.specs.declared.Contents.{Contents}
-use Rattle.shares.specs.SubBalances.{balanceAt, subBalanceCount}
+use Rattle.sub_balances.specs.PlaceOrder.{subBalanceCount, isShort, isLong}
+use Rattle.shares.specs.SubBalances.{balanceAt}
 use Rattle.pricing.specs.Rounding.{down, up}
-use Rattle.valuation.specs.Rows.{isShort, isLong}
 use Rattle.valuation.specs.Run.{valueAt, totalBy}
 
 abbrev pub numberCount : ℕ

@@ -15,8 +15,7 @@ use Rattle.answers.specs.Verdict.{Verdict, accepted, firstRefusal, listVerdict}
 use Rattle.decode.specs.Contents.{contentsOf}
 use Rattle.contents.specs.Contents.{cell}
 use Rattle.filing.specs.Verdict.{filingVerdict}
-use Rattle.shares.specs.SubBalances.{subBalanceCount}
-use Rattle.valuation.specs.Rows.{isShort, isLong}
+use Rattle.sub_balances.specs.PlaceOrder.{subBalanceCount, isShort, isLong}
 use Rattle.valuation.specs.Exact.{exactValueAt, exactTotal}
 use Rattle.valuation.specs.Numbers.{numbers, numberCount}
 

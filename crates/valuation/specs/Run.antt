@@ -3,7 +3,7 @@ use Prim.Native.Nat.{ℕ}
 use mathlib.Core.Bool.{Bool}
 use Rattle.lists.specs.Sums.{sumWhere}
 use Rattle.contents.specs.declared.Contents.{Contents}
-use Rattle.shares.specs.SubBalances.{subBalanceCount}
+use Rattle.sub_balances.specs.PlaceOrder.{subBalanceCount}
 use Rattle.shares.specs.Places.{placeAt}
 use Rattle.pricing.specs.Rounding.{Rounding}
 use Rattle.place_values.specs.HeldValues.{valueHeld}

@@ -13,7 +13,7 @@ ghost use Prim.Native.Nat.{_≤_};
 ghost use lib.ListN.{length, drop};
 ghost use Rattle.lists.specs.Tables.{table, joined};
 ghost use Rattle.contents.specs.Valid.{Valid};
-ghost use Rattle.shares.specs.SubBalances.{subBalanceCount};
+ghost use Rattle.sub_balances.specs.PlaceOrder.{subBalanceCount};
 ghost use Rattle.valuation.specs.Numbers.{placeNumbers, numbers, numberCount};
 
 // The rows of the places, and then the totals, which are taken from the rows. The rest of the list is left as it was.

@@ -7,7 +7,7 @@ use borrow.Author.Tests.{ltb-true, lt-ltb, le-ltb}
 use native.Mathlib.Numerals.{add-one}
 use native.Mathlib.Omega.{arith}
 use lib.Dec.{T, leb, ltb, leb→le}
-use lib.ListN.{length, getD, set, take, drop, replicate, length-set, length-map, take-append-drop, List·getD-append}
+use lib.ListN.{length, getD, set, drop, replicate, length-map, take-append-drop, List·getD-append}
 use lib.Seq.{drop-set-lt, drop-drop, getD-drop}
 use lib.IntN.{ℤ}
 use Rattle.lists.specs.Tables.{tableFrom, table}

@@ -6,7 +6,7 @@ use native.Mathlib.Omega.{arith}
 use Rattle.schedule.specs.Limits.{couponLimit, penaltyLimit, monthsLimit}
 use Rattle.schedule.specs.Shift.{shiftedLimit}
 use Rattle.withdrawal.specs.declared.CouponParts.{CouponParts}
-use Rattle.withdrawal.specs.Gain.{gainScale, penaltyScale, costScale, gain, cost}
+use Rattle.withdrawal.specs.Gain.{gainScale, costScale, gain, cost}
 use Rattle.withdrawal.specs.Inner.Incentives.{partsOf, incentiveFrom, gainOf, Small, PartsWithin}
 use Rattle.withdrawal.proofs.GainLaws.{difference-pos}
 

@@ -1,13 +1,4 @@
-// Early withdrawal of certificate deposits (01:49-53): what survives a month.
-pub mod gain;
-mod survival_figures;
-pub mod tiers;
-
-ghost use mathlib.Core.Path.{_≡_};
-ghost use Prim.Native.Nat.{_≤_};
-ghost use Rattle.schedule.specs.Limits.{withdrawalLimit};
-ghost use Rattle.withdrawal.specs.Survival as spec;
-ghost use Rattle.withdrawal.specs.Survival.{survivalFigures};
+// Early withdrawal of certificate deposits (01:49-53), with its definitions and their laws. Nothing runs here.
 
 // The most tiers of annual withdrawal.
 pub const TIER_LIMIT: usize = 16;
@@ -47,19 +38,4 @@ pub struct ReachedTier {
     pub withdrawal: u64,
     pub survival: u64,
     pub edges_tried: usize,
-}
-
-// q of an annual withdrawal of w thousandths in billionths, from the figures, which the caller reads once.
-pub(crate) fn survival(figures: &[u64; 601], w: u64) -> u64
-    requires { ⌜ (now figures ≡ survivalFigures) × (w ≤ withdrawalLimit) ⌝ }
-    ensures { λ r. ⌜ r ≡ spec.survival w ⌝ }
-{
-    figures[w as usize]
-}
-
-// All survival figures.
-pub(crate) fn all_survivals() -> [u64; 601]
-    ensures { λ r. ⌜ r ≡ survivalFigures ⌝ }
-{
-    survival_figures::SURVIVAL
 }

@@ -2,7 +2,7 @@
 use native.Mathlib.Omega.{arith}
 use mathlib.Core.Path.{refl}
 use Rattle.text.specs.Lines.{tooLong}
-use Rattle.book_text.specs.Replies.{openedLine}
+use Rattle.book_lines.specs.BookLines.{openedLine}
 use Rattle.book_text.proofs.OpenLaws.{opened-long, opened-short}
 use borrow.Author.Needs.{needs}
 use Rattle.book_text.proofs.open_book.Statement.{statement}
@@ -11,18 +11,15 @@ use Rattle.book_text.proofs.open_book.Tie as tie
 open-requires : tie.Need-open-requires
 open-requires c κs = search needs
 
-slice-aggregate-append : tie.Need-slice-aggregate-append
-slice-aggregate-append c = search needs
-
-append-requires : tie.Need-append-requires
-append-requires c κs = search needs
+append-too-long-requires : tie.Need-append-too-long-requires
+append-too-long-requires c κs = search needs
 
 returns : tie.Need-returns
 unfolding tooLong
 returns c =
-    let t = c .before .before .before in
+    let t = c .before .before in
     let o = t .before .before in
-    opened-long _ (o .open .result) (o .open .ensures) _ _ _ refl (t .if1 .taken) refl (omega arith) (c .append .ensures)
+    opened-long _ (o .open .result) (o .open .ensures) _ _ _ refl (t .if1 .taken) refl (omega arith) (c .append-too-long .ensures)
 
 slice-aggregate-append-answer : tie.Need-slice-aggregate-append-answer
 slice-aggregate-append-answer c = search needs
@@ -47,8 +44,7 @@ open-book-spec =
     tie.close
     (tie.spec
     open-requires
-    slice-aggregate-append
-    append-requires
+    append-too-long-requires
     returns
     slice-aggregate-append-answer
     append-answer-requires

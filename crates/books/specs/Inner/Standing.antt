@@ -7,15 +7,15 @@ use Rattle.lists.specs.Sums.{sumWhere, everywhere}
 use Rattle.schedule.specs.Limits.{balanceLimit, monthsLimit}
 use Rattle.contents.specs.declared.Contents.{Contents}
 use Rattle.contents.specs.Valid.{Valid}
-use Rattle.shares.specs.declared.SubBalance.{SubBalance}
-use Rattle.shares.specs.SubBalances.{subBalanceCount}
+use Rattle.sub_balances.specs.declared.SubBalance.{SubBalance}
+use Rattle.sub_balances.specs.PlaceOrder.{subBalanceCount}
 use Rattle.pricing.specs.Rounding.{down, up}
 use Rattle.deposits.specs.Inner.Factors.{factorsBy}
 use Rattle.deposits.specs.Inner.Prices.{DepositLimits}
 use Rattle.place_values.specs.PlaceTerms.{depositAt}
 use Rattle.place_values.specs.HeldValues.{valuesHeld}
-use Rattle.books.specs.declared.Book.{Book}
-use Rattle.books.specs.Books.{heldIn}
+use Rattle.book_places.specs.declared.Book.{Book}
+use Rattle.book_places.specs.BookPlaces.{heldIn}
 use Rattle.kept_totals.specs.KeptTotals.{sumsPlace, valueOfTotal}
 
 -- the book stands under what a valid filing says

@@ -10,17 +10,14 @@ use borrow.Author.Needs.{needs}
 use Rattle.certificates_text.proofs.write_cells.Statement.{statement}
 use Rattle.certificates_text.proofs.write_cells.Tie as tie
 
-slice-aggregate-append : tie.Need-slice-aggregate-append
-slice-aggregate-append c = search needs
-
-append-requires : tie.Need-append-requires
-append-requires c κs = search needs
+append-too-long-requires : tie.Need-append-too-long-requires
+append-too-long-requires c κs = search needs
 
 returns : tie.Need-returns
 unfolding tooLong
 returns c =
-    let s = c .before .before .before .before .before .args .input .now in
-    rw (sym (text-too-long s (omega arith))) (in-front _ _ _ _ (omega arith) (c .append .ensures))
+    let s = c .before .before .before .before .args .input .now in
+    rw (sym (text-too-long s (omega arith))) (in-front _ _ _ _ (omega arith) (c .append-too-long .ensures))
 
 slice-aggregate-read-text : tie.Need-slice-aggregate-read-text
 slice-aggregate-read-text c = search needs
@@ -67,8 +64,7 @@ pub write-cells-spec : {M : Type 1} → statement M
 write-cells-spec =
     tie.close
     (tie.spec
-    slice-aggregate-append
-    append-requires
+    append-too-long-requires
     returns
     slice-aggregate-read-text
     read-text-requires

@@ -4,8 +4,7 @@ use Prim.Native.Nat.{_/_}
 use mathlib.Core.Path.{_≡_, ap}
 use Rattle.schedule.specs.declared.Position.{Position}
 use Rattle.schedule.specs.Cells.{positionAt}
-use Rattle.shares.specs.SubBalances.{positionOf}
-use Rattle.valuation.specs.Rows.{isShort, isLong}
+use Rattle.sub_balances.specs.PlaceOrder.{positionOf, isShort, isLong}
 use Rattle.kept_totals.specs.KeptTotals.{sumsPlace}
 use borrow.Author.Needs.{needs}
 use Rattle.kept_totals.proofs.sums_place.Statement.{statement}

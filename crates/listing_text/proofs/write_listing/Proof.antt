@@ -11,17 +11,14 @@ use borrow.Author.Needs.{needs}
 use Rattle.listing_text.proofs.write_listing.Statement.{statement}
 use Rattle.listing_text.proofs.write_listing.Tie as tie
 
-slice-aggregate-append : tie.Need-slice-aggregate-append
-slice-aggregate-append c = search needs
-
-append-requires : tie.Need-append-requires
-append-requires c κs = search needs
+append-too-long-requires : tie.Need-append-too-long-requires
+append-too-long-requires c κs = search needs
 
 returns : tie.Need-returns
 unfolding tooLong
 returns c =
-    let s = c .before .before .before .before .before .args .filing .now in
-    rw (sym (text-too-long s (omega arith))) (in-front _ _ _ _ (omega arith) (c .append .ensures))
+    let s = c .before .before .before .before .args .filing .now in
+    rw (sym (text-too-long s (omega arith))) (in-front _ _ _ _ (omega arith) (c .append-too-long .ensures))
 
 slice-aggregate-value : tie.Need-slice-aggregate-value
 slice-aggregate-value c = search needs
@@ -69,8 +66,7 @@ pub write-listing-spec : {M : Type 1} → statement M
 write-listing-spec =
     tie.close
     (tie.spec
-    slice-aggregate-append
-    append-requires
+    append-too-long-requires
     returns
     slice-aggregate-value
     value-requires

@@ -4,7 +4,7 @@ use Prim.Native.Nat.{ℕ}
 use mathlib.Core.Path.{ap, _∙_}
 use Rattle.schedule.specs.declared.Position.{Position}
 use Rattle.schedule.specs.Cells.{withinRow}
-use Rattle.shares.specs.SubBalances.{positionOf}
+use Rattle.sub_balances.specs.PlaceOrder.{positionOf}
 use Rattle.place_limits.specs.PlaceLimits.{fitsPlace}
 use borrow.Author.Needs.{needs}
 use Rattle.place_limits.proofs.fits.Statement.{statement}

@@ -5,7 +5,7 @@ use mathlib.Core.Logic.{⊎-elim}
 use native.Mathlib.Nat.{eq-zero-or-pos, ne-of-gt}
 use lib.Dec.{eqb, leb}
 use borrow.Author.Tests.{eq-eqb, ne-eqb, lt-leb}
-use Rattle.shares.specs.SubBalances.{withPenalty}
+use Rattle.sub_balances.specs.PlaceOrder.{withPenalty}
 use Rattle.place_limits.specs.PlaceLimits.{penaltyWithin}
 use Rattle.place_limits.proofs.penalty_within.Statement.{statement}
 use Rattle.place_limits.proofs.penalty_within.Tie as tie

@@ -3,9 +3,9 @@ use Prim.Native.Nat.{ℕ, zero, suc, max}
 use mathlib.Core.Bool.{cond}
 use mathlib.Core.List.{List}
 use lib.Dec.{eqb}
-use Rattle.shares.specs.declared.SubBalance.{SubBalance}
-use Rattle.shares.specs.SubBalances.{subBalanceCount}
-use Rattle.shares.specs.Places.{placeIn}
+use Rattle.sub_balances.specs.declared.SubBalance.{SubBalance}
+use Rattle.sub_balances.specs.PlaceOrder.{subBalanceCount}
+use Rattle.sub_balances.specs.Places.{placeIn}
 
 -- the remaining months of a place with a balance, 0 of one without
 unfoldable pub termOf : SubBalance → ℕ

@@ -1,8 +1,8 @@
 -- The values of what a place holds, with discount factors from lists (01:60-61). Definitions only.
 use Prim.Native.Nat.{ℕ}
 use mathlib.Core.List.{List, _∷_}
-use Rattle.shares.specs.declared.SubBalance.{SubBalance}
-use Rattle.shares.specs.SubBalances.{positionOf}
+use Rattle.sub_balances.specs.declared.SubBalance.{SubBalance}
+use Rattle.sub_balances.specs.PlaceOrder.{positionOf}
 use Rattle.withdrawal.specs.Tiers.{TierTable}
 use Rattle.deposits.specs.Inner.Values.{listedValues}
 use Rattle.place_values.specs.PlaceTerms.{depositAt}

@@ -39,7 +39,7 @@ use denote.Triple.Table.{entered}
 use denote.Triple.Walked.{needs, walkOf, goes-slice, goes-none, Walks, walked, walk-meets}
 use denote.Exit.{yes}
 use denote.Signature.{plain}
-use Rattle.shares.specs.declared.SubBalance.{SubBalance}
+use Rattle.sub_balances.specs.declared.SubBalance.{SubBalance}
 use Rattle.split_list.proofs.PlaceRows.{Place, Places, placesVals, places-tells, places-typed, places-makes}
 use Rattle.split_list.proofs.fill.Key.{name as #split-list·fill}
 use Rattle.split_list.proofs.fill as fill′

@@ -42,16 +42,17 @@ use denote.Exit.{yes}
 use denote.Signature.{plain}
 use Rattle.answers.proofs.Answer as N
 use Rattle.answers.proofs.Answer.Laws as N′
-use Rattle.split_list.specs.Split.{OutcomeOf, SplitOf}
-use Rattle.shares.specs.declared.SubBalance.{SubBalance}
-use Rattle.split_list.specs.declared.Outcome.{Outcome}
+use Rattle.split_outcomes.specs.Outcomes.{OutcomeOf}
+use Rattle.split_list.specs.Split.{SplitOf}
+use Rattle.sub_balances.specs.declared.SubBalance.{SubBalance}
+use Rattle.split_outcomes.specs.declared.Outcome.{Outcome}
 use Rattle.split_list.proofs.PlaceRows.{Place, Places, localType, places-of-field, places-makes}
-use Rattle.split_list.proofs.Outcome as O
-use Rattle.split_list.proofs.Outcome.Laws as O′
-use Rattle.split_list.proofs.outcome_of as outcome-of
-use Rattle.split_list.proofs.outcome_of.Symbol as outcome-def
-use Rattle.split_list.proofs.outcome_of.Symbol.{name as #split-list·outcome-of}
-use Rattle.split_list.proofs.outcome_of.Met as outcome-thm
+use Rattle.split_outcomes.proofs.Outcome as O
+use Rattle.split_outcomes.proofs.Outcome.Laws as O′
+use Rattle.split_outcomes.proofs.outcome_of as outcome-of
+use Rattle.split_outcomes.proofs.outcome_of.Symbol as outcome-def
+use Rattle.split_outcomes.proofs.outcome_of.Symbol.{name as #split-outcomes·outcome-of}
+use Rattle.split_outcomes.proofs.outcome_of.Met as outcome-thm
 use Rattle.split_list.proofs.fill as fill
 use Rattle.split_list.proofs.fill.Symbol as fill-def
 use Rattle.split_list.proofs.fill.Symbol.{name as #split-list·fill}
@@ -155,7 +156,7 @@ module _ {M : Type 1} (𝓤 : URA M) (H : Heap 𝓤) (A : Atoms 𝓤) (W : Given
       nothing ! $ move ! (2 ∷ 0 ∷ []) $ fjoin ! $ move ! (1 ∷ 0 ∷ []) $ fjoin ! $
       owned ! N.the-row (Is N.the-row) (EL.makes N.the-type N′.the-plain 𝓤 H A) (r .answer) _ (answer-is r u is) $ move ! (1 ∷ 0 ∷ []) $ done !
 
-  module _ (C : Calls 𝓤 H) (Λ : Loops 𝓤 H) (fm : FmC 𝓤 H (W .laws) C) (known-outcome : Triple 𝓤 (C #split-list·outcome-of) (OutcomeFn 𝓤 H A at-mem run)) (known-fill : Triple 𝓤 (C #split-list·fill) (FillFn 𝓤 H A at-mem run)) where
+  module _ (C : Calls 𝓤 H) (Λ : Loops 𝓤 H) (fm : FmC 𝓤 H (W .laws) C) (known-outcome : Triple 𝓤 (C #split-outcomes·outcome-of) (OutcomeFn 𝓤 H A at-mem run)) (known-fill : Triple 𝓤 (C #split-list·fill) (FillFn 𝓤 H A at-mem run)) where
     walk : ent 𝓤 (onEntry 𝓤 H A split′.signature (κ₀, (κ₁, tt)) (q₀, (q₁, tt)) a args) (WpFn 𝓤 H C Λ code.function (sf ∷ s ∷ []) Post)
     walk =
         qed W ((‵ (flft κ₀ q₀) ⊛ (‵ (flft κ₁ q₁) ⊛ ‵ ftrue)) ∷ ‵ (owns (ShrSlice (named 0) κ₀ u8 ∷ MutSlice (named 1) κ₁ Place ∷ []) a args) ∷ []) ∵ enter ! C Λ code.function (sf ∷ s ∷ []) _ $
@@ -197,7 +198,7 @@ module _ {M : Type 1} (𝓤 : URA M) (H : Heap 𝓤) (A : Atoms 𝓤) (W : Given
         by ! (exits r u is (zs .0) (outcome-written (f .now) ys r e (zs .0) e′) l)))))))))))))))))))
 
 module _ {M : Type 1} (𝓤 : URA M) (H : Heap 𝓤) (A : Atoms 𝓤) (W : Given 𝓤 H A) (at-mem : Memory → SProp 𝓤) (run : Routine → Fun 𝓤) (𝓣 : Tables 𝓤 H)
-    (known-outcome : Triple 𝓤 (𝓣 .C #split-list·outcome-of) (OutcomeFn 𝓤 H A at-mem run)) (known-fill : Triple 𝓤 (𝓣 .C #split-list·fill) (FillFn 𝓤 H A at-mem run)) where
+    (known-outcome : Triple 𝓤 (𝓣 .C #split-outcomes·outcome-of) (OutcomeFn 𝓤 H A at-mem run)) (known-fill : Triple 𝓤 (𝓣 .C #split-list·fill) (FillFn 𝓤 H A at-mem run)) where
   split-walks : Walks 𝓤 H A split′.ended stayed (WpFn 𝓤 H (𝓣 .C) (𝓣 .Λ) code.function) (split′.clauses 𝓤 H A at-mem run)
   split-walks = walked 𝓤 H A split′.ended stayed (split′.clauses 𝓤 H A at-mem run) (WpFn 𝓤 H (𝓣 .C) (𝓣 .Λ) code.function)
       (λ κs. (slice-vals, (slice-vals, tt))) (λ κs. (shr-slice-tells (named 0) (κs .0) u8, (mut-slice-tells (named 1) (κs .1 .0) Place, tt)))
@@ -215,5 +216,5 @@ split-spec 𝓤 H 𝓜 𝓖 𝓡 =
     entered 𝓤 H (tripleOf 𝓤 H (𝓖 .A) split′.signature (split′.spec 𝓤 H (𝓖 .A) (𝓜 .mem) (𝓡 .run)))
     (tables 𝓤 H 𝓜 𝓡 code.env .C) (tables 𝓤 H 𝓜 𝓡 code.env .Λ) #split-list·split code.function (code.unfolded 𝓤 H 𝓜 𝓡)
     (split-met 𝓤 H (𝓖 .A) (givenOf 𝓤 H 𝓜 𝓖) (𝓜 .mem) (𝓡 .run) (tablesOf 𝓤 H 𝓜 (tables 𝓤 H 𝓜 𝓡 code.env))
-    (cited 𝓤 H (OutcomeFn 𝓤 H (𝓖 .A) (𝓜 .mem) (𝓡 .run)) 𝓜 𝓡 code.env #split-list·outcome-of outcome-def.routine code.calls-split-list·outcome-of (outcome-thm.met 𝓤 H 𝓜 𝓖 𝓡))
+    (cited 𝓤 H (OutcomeFn 𝓤 H (𝓖 .A) (𝓜 .mem) (𝓡 .run)) 𝓜 𝓡 code.env #split-outcomes·outcome-of outcome-def.routine code.calls-split-outcomes·outcome-of (outcome-thm.met 𝓤 H 𝓜 𝓖 𝓡))
     (cited 𝓤 H (FillFn 𝓤 H (𝓖 .A) (𝓜 .mem) (𝓡 .run)) 𝓜 𝓡 code.env #split-list·fill fill-def.routine code.calls-split-list·fill (fill-thm.met 𝓤 H 𝓜 𝓖 𝓡)))

@@ -54,7 +54,7 @@ use Rattle.answers.specs.declared.Answer.{Answer}
 use Rattle.answers.proofs.Answer as N
 use Rattle.answers.proofs.Answer.Laws as N′
 use Rattle.split_list.specs.Split.{SplitOf, SplitFirst}
-use Rattle.shares.specs.declared.SubBalance.{SubBalance}
+use Rattle.sub_balances.specs.declared.SubBalance.{SubBalance}
 use Rattle.split_list.specs.declared.SplitPlaces.{SplitPlaces}
 use Rattle.split_list.proofs.SplitPlaces as L
 use Rattle.split_list.proofs.SplitPlaces.Laws as L′

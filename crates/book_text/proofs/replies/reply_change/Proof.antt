@@ -1,6 +1,6 @@
 -- `reply_change` meets its contract. Assumes nothing.
 use mathlib.Core.Path.{refl}
-use Rattle.book_text.specs.Replies.{okLine}
+use Rattle.book_lines.specs.BookLines.{okLine}
 use borrow.Author.Needs.{needs}
 use Rattle.book_text.proofs.replies.reply_change.Statement.{statement}
 use Rattle.book_text.proofs.replies.reply_change.Tie as tie

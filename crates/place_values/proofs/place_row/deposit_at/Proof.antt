@@ -1,5 +1,5 @@
 -- `place_values::place_row::deposit_at` meets its contract. Assumes nothing.
-use Rattle.shares.specs.SubBalances.{isBrokered}
+use Rattle.sub_balances.specs.PlaceOrder.{isBrokered}
 use Rattle.place_values.specs.PlaceTerms.{depositAt}
 use mathlib.Core.Path.{refl}
 use Rattle.place_values.proofs.place_row.deposit_at.Statement.{statement}

@@ -3,7 +3,7 @@ use Prim.Native.Nat.{_/_}
 use native.Mathlib.Omega.{arith}
 use borrow.Author.Needs.{needs}
 use Rattle.conditions.proofs.SumLaws.{column-range}
-use Rattle.shares.specs.SubBalances.{positionOf}
+use Rattle.sub_balances.specs.PlaceOrder.{positionOf}
 use Rattle.place_values.specs.Inner.PlaceRows.{listedHeld}
 use Rattle.place_values.proofs.place_row.held_values.Statement.{statement}
 use Rattle.place_values.proofs.place_row.held_values.Tie as tie

@@ -7,8 +7,9 @@ use lib.Dec.{lit<}
 use borrow.Author.Needs.{needs}
 use Rattle.lists.proofs.FillLaws.{Filled, fill-none, fill-all}
 use Rattle.contents.specs.Valid.{Valid}
-use Rattle.shares.specs.Places.{placeAt, placesOf, noPlace}
-use Rattle.shares.specs.Inner.Rows.{RowWithin}
+use Rattle.sub_balances.specs.Places.{noPlace}
+use Rattle.shares.specs.Places.{placeAt, placesOf}
+use Rattle.apportion.specs.Inner.Rows.{RowWithin}
 use Rattle.shares.proofs.RowLaws.{row-within}
 use Rattle.shares.proofs.PlaceLaws.{place-of, fill-place}
 use Rattle.shares.proofs.places.places_of.Statement.{statement}

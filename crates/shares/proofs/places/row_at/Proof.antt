@@ -78,7 +78,18 @@ returns : tie.Need-returns
 unfolding rowAt brokeredCell penaltyBalanceCell penaltyMonthsCell
 returns c =
     let at = c .before .before .before .before .before .before .before .before .before .before .before .before in
-    cc (total-is at, above-is (at .before), column-is at)
+    let two = c .before .before .before .before .before .before in
+    rw (
+      total-is at,
+      above-is (at .before),
+      two .before .before .cell-value .ensures,
+      two .cell-value2 .ensures,
+      c .before .before .before .before .cell-value3 .ensures,
+      c .before .before .before .cell-value4 .ensures,
+      c .before .before .cell-value5 .ensures,
+      c .cell-value6 .ensures,
+      at .position .ensures,
+    )
 
 pub row-at-spec : {M : Type 1} → statement M
 row-at-spec =

@@ -39,8 +39,8 @@ use denote.Steps.{only, owned, peeks, nothing}
 use denote.Triple.Walked.{says, Stays, stay-slice, stay-none, walkOf, ends-at}
 use denote.Exit.{yes}
 use denote.Signature.{plain}
-use Rattle.shares.specs.declared.SubBalance.{SubBalance}
-use Rattle.shares.specs.Places.{noPlace}
+use Rattle.sub_balances.specs.declared.SubBalance.{SubBalance}
+use Rattle.sub_balances.specs.Places.{noPlace}
 use Rattle.split_list.proofs.PlaceRows.{Place, Places, localType, placeSize, placeVals, placesVals, place-tells, places-tells, place-typed, place-makes, places-makes}
 use Rattle.split_list.proofs.OverwriteLaws.{overwrite-length, overwrite-suc}
 use Rattle.split_list.proofs.fill as fill′

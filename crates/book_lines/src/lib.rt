@@ -1,0 +1,78 @@
+// The lines that a book prints: the answer on a change, what a place holds, and the totals.
+use answers::Answer;
+use answers::number;
+use answers::place;
+use sub_balances::SubBalance;
+use text::append;
+use text::append_byte;
+use text::append_number;
+use text_lines::append_line;
+use text_lines::append_refusal;
+use text_lines::append_spaced;
+use total_lines::append_scenarios;
+ghost use mathlib.Core.List.{_++_, _∷_, []};
+ghost use Prim.Native.Nat.{_≤_};
+ghost use lib.ListN.{length};
+ghost use Rattle.answers.specs.Answers.{verdictOf};
+ghost use Rattle.text.specs.Appended.{Appended};
+ghost use Rattle.text.specs.Decimal.{decimal};
+ghost use Rattle.text.specs.Lines.{restOfLine};
+ghost use Rattle.total_lines.specs.TotalLines.{linesIn};
+ghost use Rattle.book_lines.specs.BookLines.{answerLine, heldLine};
+
+// The line of an answer that refuses nothing, or the refusal.
+pub fn append_answer(out: &mut [u8], answer: Answer, accepted: &[u8]) -> usize
+    requires { ⌜ (50 ≤ length (now out)) × (length (now accepted) ≤ 50) ⌝ }
+    ensures { λ r. ⌜ Appended (now (out .entry)) 0 (answerLine (now (accepted .entry)) (verdictOf answer)) (now (out .exit)) r × (r ≤ 50) ⌝ }
+{
+    let refused = number(answer);
+    if refused == 0 {
+        return append(out, 0, accepted);
+    }
+    append_refusal(out, 0, refused, place(answer) as u64)
+}
+
+// What a place holds.
+pub fn append_held(out: &mut [u8], held: SubBalance) -> usize
+    requires { ⌜ 644 ≤ length (now out) ⌝ }
+    ensures { λ r. ⌜ Appended (now (out .entry)) 0 (heldLine held) (now (out .exit)) r × (r ≤ 644) ⌝ }
+{
+    let values = held.values;
+    append_numbers(
+        out,
+        held.balance,
+        held.coupon,
+        held.remaining_months,
+        held.penalty,
+        &values,
+    )
+}
+
+// Balance, coupon, months, penalty and fourteen values.
+fn append_numbers(
+    out: &mut [u8],
+    balance: u64,
+    coupon: u64,
+    months: u64,
+    penalty: u64,
+    values: &[u64],
+) -> usize
+    requires { ⌜ (644 ≤ length (now out)) × (length (now values) ≤ 14) ⌝ }
+    ensures { λ r. ⌜ Appended (now (out .entry)) 0 (decimal balance ++ restOfLine (coupon ∷ months ∷ penalty ∷ now (values .entry))) (now (out .exit)) r × (r ≤ 644) ⌝ }
+{
+    let first = append_number(out, 0, balance);
+    let second = append_spaced(out, first, coupon);
+    let third = append_spaced(out, second, months);
+    let fourth = append_spaced(out, third, penalty);
+    append_line(out, fourth, values)
+}
+
+// The balance total and the lines of the seven scenarios.
+pub fn append_totals(out: &mut [u8], balance: u64, totals: &[u64; 28]) -> usize
+    requires { ⌜ 644 ≤ length (now out) ⌝ }
+    ensures { λ r. ⌜ Appended (now (out .entry)) 0 ((decimal balance ++ (10 ∷ [])) ++ linesIn (now (totals .entry)) 0) (now (out .exit)) r × (r ≤ 644) ⌝ }
+{
+    let behind = append_number(out, 0, balance);
+    let next = append_byte(out, behind, b'\n');
+    append_scenarios(out, next, totals, 0)
+}

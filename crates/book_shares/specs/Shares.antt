@@ -1,0 +1,39 @@
+-- The changes that set a book to the thirty-six shares of a filing (02:CR 7), those with a balance; what the book then shows. Definitions only.
+use Prim.Native.Nat.{ℕ, zero, suc}
+use mathlib.Core.Path.{_≡_}
+use mathlib.Core.Bool.{cond}
+use mathlib.Core.List.{List, [], _∷_, _++_}
+use lib.Dec.{eqb}
+use Rattle.lists.specs.Tables.{table, joined}
+use Rattle.schedule.specs.Cells.{totalCell}
+use Rattle.schedule.specs.Shift.{scenarioCount}
+use Rattle.answers.specs.Verdict.{accepted}
+use Rattle.contents.specs.declared.Contents.{Contents}
+use Rattle.decode.specs.Contents.{contentsOf}
+use Rattle.contents.specs.Contents.{cell}
+use Rattle.filing.specs.Verdict.{filingVerdict}
+use Rattle.sub_balances.specs.PlaceOrder.{subBalanceCount}
+use Rattle.shares.specs.SubBalances.{balanceAt, couponAt, monthsAt, penaltyAt}
+use Rattle.valuation.specs.Numbers.{scenarioTotals}
+use Rattle.book_places.specs.declared.Book.{Book}
+use Rattle.books.specs.Books.{openedBook}
+use Rattle.books.specs.Changes.{Change, setPlace, bookAfterAll}
+
+-- the share of a place as a change; none where it has no balance
+unfoldable pub shareChange : Contents → ℕ → List Change
+shareChange k place =
+    cond (eqb (balanceAt k place) 0) [] (setPlace place (balanceAt k place) (couponAt k place) (monthsAt k place) (penaltyAt k place) ∷ [])
+
+-- those of the first n places, one place after the other
+unfoldable pub shareChanges : Contents → ℕ → List Change
+shareChanges k zero = []
+shareChanges k (suc n) = shareChanges k n ++ shareChange k n
+
+-- the book of an accepted filing with its thirty-six shares set
+unfoldable pub bookOfShares : List ℕ → Book
+bookOfShares s = bookAfterAll (openedBook s) (shareChanges (contentsOf s) subBalanceCount)
+
+-- it shows the totals that the valuing call gives for that filing, and its total balance
+unfoldable pub ShowsTotals : Type 0
+ShowsTotals = (s : List ℕ) → filingVerdict s ≡ accepted
+    → (bookOfShares s .totals ≡ joined (table scenarioCount (scenarioTotals (contentsOf s)))) × (bookOfShares s .balance ≡ cell (contentsOf s) totalCell)

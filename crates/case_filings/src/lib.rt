@@ -1,0 +1,1 @@
+// Filings written byte by byte, for closed cases. Nothing runs here.

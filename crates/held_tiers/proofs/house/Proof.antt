@@ -1,0 +1,19 @@
+-- `withdrawal::tiers::house` meets its contract: the arrays hold the tiers of the definition. Assumes nothing.
+use mathlib.Core.Path.{refl}
+use Rattle.lists.specs.Tables.{tableFrom}
+use Rattle.withdrawal.specs.Tiers.{tier, houseTiers}
+use Rattle.withdrawal.specs.Inner.TierArrays.{tierTable, tierTableOf, withSurvivals, inPlaces, held}
+use Rattle.withdrawal.proofs.FallingLaws.{house-falling}
+use Rattle.withdrawal.proofs.HeldLaws.{tiers-fit-of-tests, fit-usable}
+use Rattle.held_tiers.proofs.house.Statement.{statement}
+use Rattle.held_tiers.proofs.house.Tie as tie
+
+with-survivals-requires : tie.Need-with-survivals-requires
+with-survivals-requires c κs = tiers-fit-of-tests _ _ _ _ tt tt tt tt
+
+returns : tie.Need-returns
+unfolding houseTiers tier tierTable tierTableOf withSurvivals inPlaces held tableFrom
+returns c = rw (c .with-survivals .ensures) (refl, fit-usable _ _ _ _ (tiers-fit-of-tests _ _ _ _ tt tt tt tt) refl house-falling)
+
+pub house-spec : {M : Type 1} → statement M
+house-spec = tie.close (tie.spec with-survivals-requires returns)

@@ -1,0 +1,28 @@
+-- `with_byte` meets its contract. Assumes nothing.
+use native.Mathlib.Omega.{arith}
+use lib.ListN.{length-set}
+use borrow.Author.Needs.{needs}
+use Rattle.input_lines.proofs.with_byte.Statement.{statement}
+use Rattle.input_lines.proofs.with_byte.Tie as tie
+
+returns : tie.Need-returns
+returns c = search needs
+
+cast-line : tie.Need-cast-line
+cast-line c = search needs
+
+slice-write-line : tie.Need-slice-write-line
+slice-write-line c = search needs
+
+add-result : tie.Need-add-result
+add-result c = search needs
+
+same-length : tie.Need-same-length
+same-length c = search needs
+
+returns-2 : tie.Need-returns-2
+returns-2 c = rw length-set (omega arith)
+
+pub with-byte-spec : {M : Type 1} → statement M
+with-byte-spec =
+    tie.close (tie.spec returns cast-line slice-write-line add-result same-length returns-2)

@@ -1,0 +1,36 @@
+// The cells that sums of positions fill, listed.
+use answers::Answer;
+use cell_means::is_present;
+use cell_means::value_of;
+use filled_cells::CellValue;
+use filled_cells::Cells;
+use filled_cells::Totals;
+use form_cells::form_cell;
+ghost use mathlib.Core.Path.{_≡_};
+ghost use Rattle.filled_cells.specs.Inner.Listing.{Bounded, listedCells};
+
+// The cells of some sums, by ascending number.
+pub fn listed(totals: Totals) -> Cells
+    requires { ⌜ Bounded totals ⌝ }
+    ensures { λ r. ⌜ r ≡ listedCells totals ⌝ }
+{
+    let mut cells = [CellValue { cell: 0, value: 0 }; 28];
+    let mut count = 0;
+    let mut place = 0;
+    while place < 28 {
+        let e = form_cell(place);
+        if is_present(totals, e) {
+            cells[count] = CellValue {
+                cell: e.cell,
+                value: value_of(totals, e),
+            };
+            count += 1;
+        }
+        place += 1;
+    }
+    Cells {
+        answer: Answer::Accepted,
+        count,
+        cells,
+    }
+}

@@ -1,0 +1,2 @@
+pub mod RefusalCases
+pub mod AmendmentCases

@@ -1,0 +1,2 @@
+pub mod PlaceOrder
+pub mod Places

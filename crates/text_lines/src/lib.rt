@@ -1,0 +1,55 @@
+// Lines of numbers in a list of bytes that the caller lends: each function puts its text at a place, where it must fit, and answers the place behind it.
+use text::append;
+use text::append_byte;
+use text::append_number;
+ghost use Prim.Native.Nat.{_+_, _≤_};
+ghost use mathlib.Core.List.{_∷_};
+ghost use lib.ListN.{length};
+ghost use lib.IntN.{subℕ};
+ghost use Rattle.text.specs.Appended.{Appended};
+ghost use Rattle.text.specs.Decimal.{decimal, signed};
+ghost use Rattle.text.specs.Lines.{restOfLine, refusalLine};
+
+// The line of a refusal: `refused`, number and place.
+pub fn append_refusal(out: &mut [u8], at: usize, number: u64, place: u64) -> usize
+    requires { ⌜ at + length (refusalLine number place) ≤ length (now out) ⌝ }
+    ensures { λ r. ⌜ Appended (now (out .entry)) at (refusalLine number place) (now (out .exit)) r ⌝ }
+{
+    let word = append(out, at, b"refused");
+    append_line(out, word, &[number, place])
+}
+
+// The rest of a line: the numbers of a list, each behind a space, and the line feed.
+pub fn append_line(out: &mut [u8], at: usize, numbers: &[u64]) -> usize
+    requires { ⌜ at + length (restOfLine (now numbers)) ≤ length (now out) ⌝ }
+    ensures { λ r. ⌜ Appended (now (out .entry)) at (restOfLine (now (numbers .entry))) (now (out .exit)) r ⌝ }
+{
+    let mut end = at;
+    let mut i: usize = 0;
+    while i < numbers.len() {
+        end = append_spaced(out, end, numbers[i]);
+        i += 1;
+    }
+    append_byte(out, end, b'\n')
+}
+
+// A space and a number.
+pub fn append_spaced(out: &mut [u8], at: usize, n: u64) -> usize
+    requires { ⌜ at + length (32 ∷ decimal n) ≤ length (now out) ⌝ }
+    ensures { λ r. ⌜ Appended (now (out .entry)) at (32 ∷ decimal n) (now (out .exit)) r ⌝ }
+{
+    let behind = append_byte(out, at, b' ');
+    append_number(out, behind, n)
+}
+
+// The difference of two numbers, with its sign where that is a minus.
+pub fn append_difference(out: &mut [u8], at: usize, a: u64, b: u64) -> usize
+    requires { ⌜ at + length (signed (subℕ a b)) ≤ length (now out) ⌝ }
+    ensures { λ r. ⌜ Appended (now (out .entry)) at (signed (subℕ a b)) (now (out .exit)) r ⌝ }
+{
+    if a < b {
+        let behind = append_byte(out, at, b'-');
+        return append_number(out, behind, b - a);
+    }
+    append_number(out, at, a - b)
+}
