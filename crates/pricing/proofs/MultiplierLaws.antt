@@ -12,7 +12,7 @@ use Rattle.schedule.specs.Shift.{shiftedLimit, scenarioCount}
 use Rattle.pricing.specs.Scales.{par, rateScale}
 use Rattle.pricing.specs.Rounding.{Rounding, down, up, quotient}
 use Rattle.pricing.specs.Run.{discountBy}
-use Rattle.pricing.specs.Inner.Multipliers.{multiplierScale, multiplierBy, multipliersBy, scaledBy, raisedBy, twiceBy, twiceAllBy, twiceEach, halfEach, discountsBy, AtMost, billionthsLimit}
+use Rattle.pricing.specs.Inner.Multipliers.{multiplierScale, multiplierBy, multipliersBy, onePartMore, scaledBy, inChain, inChains, factorIn, factorsIn, nextBy, nextAllBy, chainedBy, discountsBy, AtMost, billionthsLimit}
 use Rattle.pricing.proofs.RoundingLaws.{ceiling-ge, ceiling-lt}
 use Rattle.pricing.proofs.LimitLaws.{discount-limit}
 
@@ -78,7 +78,7 @@ by-billion x h =
     ∙ ap (λ (n : ℕ). n / par) (mul-one x)
 
 -- an upper factor is never 0
-discount-pos : (z n : ℕ) → 0 < discountBy up z n
+pub discount-pos : (z n : ℕ) → 0 < discountBy up z n
 unfolding discountBy
 discount-pos z zero = lit< tt
 discount-pos z (suc n) =
@@ -100,47 +100,83 @@ pub halved : (x m : ℕ) → 2 * x * m / 2 ^ 64 ≡ x * m / multiplierScale
 halved x m = rw (mul-assoc 2 x m) (mul-div-mul-left (x * m) multiplierScale (lit< tt))
 
 -- seven rates
-pub discounts-at-most : (ρ : Rounding) (rates : List ℕ) (n : ℕ) → AtMost par (discountsBy ρ rates n)
+discounts-at-most : (ρ : Rounding) (rates : List ℕ) (n : ℕ) → AtMost par (discountsBy ρ rates n)
 unfolding discountsBy
 discounts-at-most ρ rates n = table-le 0 scenarioCount _ par (λ j l u. discount-limit (getD rates j 0) n ρ)
 
--- no double is above twice par
-pub doubles-at-most : (ρ : Rounding) (rates : List ℕ) (n : ℕ) → AtMost (2 * par) (twiceEach (discountsBy ρ rates n))
-unfolding twiceEach
-doubles-at-most ρ rates n = table-le 0 scenarioCount _ (2 * par) (λ j l u. mul-le-mul-left 2 (discounts-at-most ρ rates n j))
+-- no chain holds more than twice par
+in-chain-le : (ρ : Rounding) (x : ℕ) → x ≤ par → inChain ρ x ≤ 2 * par
+unfolding inChain
+in-chain-le down x h = omega arith
+in-chain-le up x h = omega arith
 
-pub doubles-zero : (ρ : Rounding) (rates : List ℕ) → replicate scenarioCount (2 * par) ≡ twiceEach (discountsBy ρ rates 0)
-unfolding twiceEach discountsBy tableFrom discountBy
-doubles-zero ρ rates = refl
+in-chains-le : (ρ : Rounding) (rates : List ℕ) (n : ℕ) → AtMost (2 * par) (inChains ρ (discountsBy ρ rates n))
+unfolding inChains
+in-chains-le ρ rates n = table-le 0 scenarioCount _ (2 * par) (λ j l u. in-chain-le ρ _ (discounts-at-most ρ rates n j))
 
--- twice a factor times its multiplier
-twice-scaled : (ρ : Rounding) (x m : ℕ) → twiceBy (raisedBy ρ) (2 * x) m ≡ 2 * scaledBy ρ x m
-unfolding raisedBy twiceBy scaledBy
-twice-scaled down x m = omega (arith, halved x m)
-twice-scaled up x m = omega (arith, halved x m)
+chained-zero : (ρ : Rounding) (rates : List ℕ) → replicate scenarioCount (inChain ρ par) ≡ inChains ρ (discountsBy ρ rates 0)
+unfolding inChains discountsBy tableFrom discountBy
+chained-zero ρ rates = refl
 
--- one factor more at each of them
-pub doubles-suc : (ρ : Rounding) (rates : List ℕ) (n : ℕ) → AtMost shiftedLimit rates
-    → twiceAllBy (raisedBy ρ) (twiceEach (discountsBy ρ rates n)) (multipliersBy ρ rates) ≡ twiceEach (discountsBy ρ rates (suc n))
-unfolding twiceAllBy twiceEach discountsBy multipliersBy
-doubles-suc ρ rates n h =
+-- the next in a chain holds the factor times its multiplier
+next-scaled : (ρ : Rounding) (x m : ℕ) → nextBy ρ (inChain ρ x) m ≡ inChain ρ (scaledBy ρ x m)
+unfolding inChain nextBy scaledBy
+next-scaled down x m = halved x m
+next-scaled up x m = omega (arith, halved x m)
+
+-- one factor more in each of them
+chained-suc : (ρ : Rounding) (rates : List ℕ) (n : ℕ) → AtMost shiftedLimit rates
+    → nextAllBy ρ (inChains ρ (discountsBy ρ rates n)) (multipliersBy ρ rates) ≡ inChains ρ (discountsBy ρ rates (suc n))
+unfolding nextAllBy inChains discountsBy multipliersBy
+chained-suc ρ rates n h =
     table-ext scenarioCount _ _
     (λ i l. rw (
-      table-getD scenarioCount (λ (j : ℕ). 2 * getD (discountsBy ρ rates n) j 0) i 0 l,
+      table-getD scenarioCount (λ (j : ℕ). inChain ρ (getD (discountsBy ρ rates n) j 0)) i 0 l,
       table-getD scenarioCount (λ (j : ℕ). discountBy ρ (getD rates j 0) n) i 0 l,
       table-getD scenarioCount (λ (j : ℕ). discountBy ρ (getD rates j 0) (suc n)) i 0 l,
       table-getD scenarioCount (λ (j : ℕ). multiplierBy ρ (getD rates j 0)) i 0 l,
-      twice-scaled ρ (discountBy ρ (getD rates i 0) n) (multiplierBy ρ (getD rates i 0)),
+      next-scaled ρ (discountBy ρ (getD rates i 0) n) (multiplierBy ρ (getD rates i 0)),
       factor-scaled ρ (getD rates i 0) n (h i),
     ))
 
--- the halves are the factors
-pub doubles-half : (ρ : Rounding) (rates : List ℕ) (n : ℕ) → halfEach (twiceEach (discountsBy ρ rates n)) ≡ discountsBy ρ rates n
-unfolding halfEach twiceEach discountsBy
-doubles-half ρ rates n =
-    table-ext scenarioCount _ _
+-- so the chains hold the factors
+chained-holds : (ρ : Rounding) (rates : List ℕ) → AtMost shiftedLimit rates → (n : ℕ)
+    → chainedBy ρ (multipliersBy ρ rates) n ≡ inChains ρ (discountsBy ρ rates n)
+unfolding chainedBy
+chained-holds ρ rates h zero = chained-zero ρ rates
+chained-holds ρ rates h (suc n) = rw (chained-holds ρ rates h n) (chained-suc ρ rates n h)
+
+pub chained-at-most : (ρ : Rounding) (rates : List ℕ) → AtMost shiftedLimit rates → (n : ℕ) → AtMost (2 * par) (chainedBy ρ (multipliersBy ρ rates) n)
+chained-at-most ρ rates h n = rw (chained-holds ρ rates h n) (in-chains-le ρ rates n)
+
+factor-back : (ρ : Rounding) (x : ℕ) → factorIn ρ (inChain ρ x) ≡ x
+unfolding factorIn inChain
+factor-back down x = refl
+factor-back up x = mul-div-cancel-left x {n = 2} (lit< tt)
+
+pub chained-is : (ρ : Rounding) (rates : List ℕ) → AtMost shiftedLimit rates → (n : ℕ)
+    → factorsIn ρ (chainedBy ρ (multipliersBy ρ rates) n) ≡ discountsBy ρ rates n
+unfolding factorsIn inChains discountsBy
+chained-is ρ rates h n =
+    rw (chained-holds ρ rates h n)
+    (table-ext scenarioCount _ _
     (λ i l. rw (
-      table-getD scenarioCount (λ (j : ℕ). 2 * getD (discountsBy ρ rates n) j 0) i 0 l,
+      table-getD scenarioCount (λ (j : ℕ). inChain ρ (getD (discountsBy ρ rates n) j 0)) i 0 l,
       table-getD scenarioCount (λ (j : ℕ). discountBy ρ (getD rates j 0) n) i 0 l,
-      mul-div-cancel-left (discountBy ρ (getD rates i 0) n) {n = 2} (lit< tt),
-    ))
+      factor-back ρ (discountBy ρ (getD rates i 0) n),
+    )))
+
+-- the multipliers of the lower factors from those of the upper ones, which are at most the whole
+upper-multiplier-le : (z : ℕ) → multiplierBy up z ≤ multiplierScale
+unfolding multiplierBy
+upper-multiplier-le z = omega (arith, div-mul-le-self (2 ^ 64 - 1) (rateScale + z))
+
+pub upper-multipliers-le : (rates : List ℕ) → AtMost multiplierScale (multipliersBy up rates)
+unfolding multipliersBy
+upper-multipliers-le rates = table-le 0 scenarioCount _ multiplierScale (λ j l u. upper-multiplier-le (getD rates j 0))
+
+pub lower-from-upper : (rates : List ℕ) → onePartMore (multipliersBy up rates) ≡ multipliersBy down rates
+unfolding onePartMore multipliersBy multiplierBy
+lower-from-upper rates =
+    table-ext scenarioCount _ _
+    (λ i l. rw (table-getD scenarioCount (λ (j : ℕ). multiplierBy up (getD rates j 0)) i 0 l) (omega arith))

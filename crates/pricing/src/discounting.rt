@@ -3,11 +3,11 @@ use crate::PAR;
 use crate::products::upper_half;
 use schedule::scenarios::Scenario;
 ghost use mathlib.Core.Path.{_≡_};
-ghost use Prim.Native.Nat.{_*_, _≤_};
+ghost use Prim.Native.Nat.{ℕ, _*_, _≤_};
 ghost use Rattle.schedule.specs.Shift.{shiftedLimit};
 ghost use Rattle.pricing.specs.Scales.{par};
-ghost use Rattle.pricing.specs.Rounding.{roundingOf};
-ghost use Rattle.pricing.specs.Inner.Multipliers.{multiplierBy, multipliersBy, raisedBy, twiceBy, twiceAllBy, halfEach, discountsBy, AtMost};
+ghost use Rattle.pricing.specs.Rounding.{down, up, roundingOf};
+ghost use Rattle.pricing.specs.Inner.Multipliers.{multiplierScale, multiplierBy, multipliersBy, onePartMore, inChain, factorIn, factorsIn, nextBy, nextAllBy, chainedBy, discountsBy, AtMost};
 
 // The scale of a yield as a month's rate (01:58).
 const RATE_SCALE: u64 = 120_000;
@@ -18,85 +18,121 @@ const HALF_RATE: u64 = RATE_SCALE / 2;
 // 2^64 - 1.
 const LARGEST: u64 = 18_446_744_073_709_551_615;
 
-// The discount factors of seven rates after n monthly factors each, in billionths. The rates, CD yields, are in hundredths of a percent a year.
-pub fn discount_factors(rates: &[u64; 7], n: u64, up: bool) -> [u64; 7]
-    requires { ⌜ AtMost shiftedLimit (now rates) ⌝ }
-    ensures { λ r. ⌜ r ≡ discountsBy (roundingOf up) (now (rates .entry)) n ⌝ }
-{
-    let multipliers = multipliers_of(rates, up);
-    let raised = raised_by(up);
-    let mut doubled = [2 * PAR; 7];
-    for _ in 0..n {
-        doubled = next_factors(&doubled, &multipliers, raised);
-    }
-    halves(&doubled)
+// Lower and upper discount factors of seven rates, in billionths.
+pub struct DiscountFactors {
+    pub lower: [u64; 7],
+    pub upper: [u64; 7],
 }
 
-// Twice each of seven factors times its multiplier, from twice each factor.
-fn next_factors(doubled: &[u64; 7], multipliers: &[u64; 7], raised: u64) -> [u64; 7]
-    requires { ⌜ AtMost (2 * par) (now doubled) × (raised ≤ 2) ⌝ }
-    ensures { λ r. ⌜ r ≡ twiceAllBy raised (now (doubled .entry)) (now (multipliers .entry)) ⌝ }
+// The discount factors of seven rates after n monthly factors each. The rates, CD yields, are in hundredths of a percent a year; each is divided by once.
+pub fn discount_factors(rates: &[u64; 7], n: u64) -> DiscountFactors
+    requires { ⌜ AtMost shiftedLimit (now rates) ⌝ }
+    ensures { λ r. ⌜ (r .lower ≡ discountsBy down (now (rates .entry)) n) × (r .upper ≡ discountsBy up (now (rates .entry)) n) ⌝ }
+{
+    let above = upper_multipliers(rates);
+    let below = lower_multipliers(&above);
+    let lower = chained(&below, n, false);
+    let upper = chained(&above, n, true);
+    DiscountFactors { lower, upper }
+}
+
+// Seven chains of n multiplications each, from par.
+fn chained(multipliers: &[u64; 7], n: u64, up: bool) -> [u64; 7]
+    requires { ⌜ ((i : ℕ) → AtMost (2 * par) (chainedBy (roundingOf up) (now multipliers) i)) ⌝ }
+    ensures { λ r. ⌜ r ≡ factorsIn (roundingOf up) (chainedBy (roundingOf up) (now (multipliers .entry)) n) ⌝ }
+{
+    let mut chain = [in_chain(PAR, up); 7];
+    for _ in 0..n {
+        chain = next_in_chain(&chain, multipliers, up);
+    }
+    factors_in(&chain, up)
+}
+
+// The next of each of seven chains.
+fn next_in_chain(chain: &[u64; 7], multipliers: &[u64; 7], up: bool) -> [u64; 7]
+    requires { ⌜ AtMost (2 * par) (now chain) ⌝ }
+    ensures { λ r. ⌜ r ≡ nextAllBy (roundingOf up) (now (chain .entry)) (now (multipliers .entry)) ⌝ }
 {
     let mut next = [0; 7];
     let mut i: usize = 0;
     while (i as u64) < Scenario::COUNT {
-        next[i] = next_factor(doubled[i], multipliers[i], raised);
+        next[i] = next_factor(chain[i], multipliers[i], up);
         i += 1;
     }
     next
 }
 
-// Twice a factor times a multiplier, from twice the factor: twice the product's floor, and what is added to it.
-fn next_factor(doubled: u64, multiplier: u64, raised: u64) -> u64
-    requires { ⌜ (doubled ≤ 2 * par) × (raised ≤ 2) ⌝ }
-    ensures { λ r. ⌜ r ≡ twiceBy raised doubled multiplier ⌝ }
+// A factor in a chain times a multiplier: the product's floor, and 1 more for an upper factor, whose multiplier is too low by less than a factor can bring out.
+fn next_factor(held: u64, multiplier: u64, up: bool) -> u64
+    requires { ⌜ held ≤ 2 * par ⌝ }
+    ensures { λ r. ⌜ r ≡ nextBy (roundingOf up) held multiplier ⌝ }
 {
-    2 * upper_half(doubled, multiplier) + raised
+    if up {
+        2 * upper_half(held, multiplier) + 2
+    } else {
+        upper_half(2 * held, multiplier)
+    }
 }
 
-// What is added: an upper factor is 1 more than the product's floor, as an upper multiplier is too low by less than a factor can bring out.
-fn raised_by(up: bool) -> u64
-    ensures { λ r. ⌜ (r ≡ raisedBy (roundingOf up)) × (r ≤ 2) ⌝ }
+// What a chain holds of a factor: twice an upper factor, so that 1 more is added with the doubling.
+fn in_chain(factor: u64, up: bool) -> u64
+    requires { ⌜ factor ≤ par ⌝ }
+    ensures { λ r. ⌜ r ≡ inChain (roundingOf up) factor ⌝ }
 {
-    if up { 2 } else { 0 }
+    if up { 2 * factor } else { factor }
 }
 
-// The halves of seven numbers.
-fn halves(doubled: &[u64; 7]) -> [u64; 7]
-    ensures { λ r. ⌜ r ≡ halfEach (now (doubled .entry)) ⌝ }
+// The factors that seven chains hold.
+fn factors_in(chain: &[u64; 7], up: bool) -> [u64; 7]
+    ensures { λ r. ⌜ r ≡ factorsIn (roundingOf up) (now (chain .entry)) ⌝ }
 {
     let mut factors = [0; 7];
     let mut i: usize = 0;
     while (i as u64) < Scenario::COUNT {
-        factors[i] = doubled[i] / 2;
+        factors[i] = factor_in(chain[i], up);
         i += 1;
     }
     factors
 }
 
-// The multipliers of seven rates.
-fn multipliers_of(rates: &[u64; 7], up: bool) -> [u64; 7]
+fn factor_in(held: u64, up: bool) -> u64
+    ensures { λ r. ⌜ r ≡ factorIn (roundingOf up) held ⌝ }
+{
+    if up { held / 2 } else { held }
+}
+
+// The multipliers of seven rates for their upper factors: too low by less than a factor can bring out.
+fn upper_multipliers(rates: &[u64; 7]) -> [u64; 7]
     requires { ⌜ AtMost shiftedLimit (now rates) ⌝ }
-    ensures { λ r. ⌜ r ≡ multipliersBy (roundingOf up) (now (rates .entry)) ⌝ }
+    ensures { λ r. ⌜ r ≡ multipliersBy up (now (rates .entry)) ⌝ }
 {
     let mut multipliers = [0; 7];
     let mut i: usize = 0;
     while (i as u64) < Scenario::COUNT {
-        multipliers[i] = multiplier(rates[i], up);
+        multipliers[i] = upper_multiplier(rates[i]);
         i += 1;
     }
     multipliers
 }
 
-// The multiplier of a rate: too high by less than a factor can bring out for the lower factors, too low for the upper ones.
-fn multiplier(rate: u64, up: bool) -> u64
+// The multiplier of a rate for its upper factors.
+fn upper_multiplier(rate: u64) -> u64
     requires { ⌜ rate ≤ shiftedLimit ⌝ }
-    ensures { λ r. ⌜ r ≡ multiplierBy (roundingOf up) rate ⌝ }
+    ensures { λ r. ⌜ r ≡ multiplierBy up rate ⌝ }
 {
-    let part = LARGEST / (RATE_SCALE + rate);
-    if up {
-        HALF_RATE * part
-    } else {
-        HALF_RATE * (part + 1)
+    HALF_RATE * (LARGEST / (RATE_SCALE + rate))
+}
+
+// The multipliers for the lower factors, one part more each: too high by less than a factor can bring out.
+fn lower_multipliers(upper: &[u64; 7]) -> [u64; 7]
+    requires { ⌜ AtMost multiplierScale (now upper) ⌝ }
+    ensures { λ r. ⌜ r ≡ onePartMore (now (upper .entry)) ⌝ }
+{
+    let mut multipliers = [0; 7];
+    let mut i: usize = 0;
+    while (i as u64) < Scenario::COUNT {
+        multipliers[i] = upper[i] + HALF_RATE;
+        i += 1;
     }
+    multipliers
 }

@@ -5,7 +5,7 @@ use books::Answered;
 use books::Book;
 use deposits::RatePaths;
 use deposits::factors::FactorTable;
-use deposits::factors::factor_table;
+use deposits::factors::fill_factors;
 use filing::FiledTiers;
 use filing::read;
 use kept_totals::moved;
@@ -27,8 +27,9 @@ pub fn open(filing: &[u8]) -> Answered
 {
     let reading = read(filing);
     let k = reading.contents;
-    let lower = factor_table(&k.yields, 120, false);
-    let upper = factor_table(&k.yields, 120, true);
+    let mut lower = [0u64; 840];
+    let mut upper = [0u64; 840];
+    fill_factors(&k.yields, 120, &mut lower, &mut upper);
     let rates = k.rates;
     let tiers = k.tiers;
     let answer = reading.answer;

@@ -1,11 +1,11 @@
 -- Discount factors of seven rates in step, each division by 120,000 + z as a multiplication and a division by 2^63. Definitions only.
 -- Rates, CD yields, are in hundredths of a percent a year, discount factors in billionths.
-use Prim.Native.Nat.{ℕ, suc, _+_, _*_, _-_, _/_, _^_, _≤_}
+use Prim.Native.Nat.{ℕ, zero, suc, _+_, _*_, _-_, _/_, _^_, _≤_}
 use mathlib.Core.List.{List}
-use lib.ListN.{getD}
+use lib.ListN.{getD, replicate}
 use Rattle.lists.specs.Tables.{table}
 use Rattle.schedule.specs.Shift.{scenarioCount}
-use Rattle.pricing.specs.Scales.{rateScale}
+use Rattle.pricing.specs.Scales.{par, rateScale}
 use Rattle.pricing.specs.Rounding.{Rounding, down, up}
 use Rattle.pricing.specs.Run.{discountBy}
 
@@ -28,24 +28,38 @@ scaledBy up x m = suc (x * m / multiplierScale)
 unfoldable pub multipliersBy : Rounding → List ℕ → List ℕ
 multipliersBy ρ rates = table scenarioCount (λ (i : ℕ). multiplierBy ρ (getD rates i 0))
 
--- what is added to twice a product's floor: the upper factors are 1 more than it
-unfoldable pub raisedBy : Rounding → ℕ
-raisedBy down = 0
-raisedBy up = 2
+-- one part more at each: from the multipliers of the upper factors those of the lower ones
+unfoldable pub onePartMore : List ℕ → List ℕ
+onePartMore ms = table scenarioCount (λ (i : ℕ). getD ms i 0 + 60000)
 
--- twice the factor that follows, from twice a factor
-unfoldable pub twiceBy : ℕ → ℕ → ℕ → ℕ
-twiceBy raised y m = 2 * (y * m / 2 ^ 64) + raised
+-- what a chain of factors holds of one: an upper one twice; and the factor of what it holds
+unfoldable pub inChain : Rounding → ℕ → ℕ
+inChain down x = x
+inChain up x = 2 * x
 
-unfoldable pub twiceAllBy : ℕ → List ℕ → List ℕ → List ℕ
-twiceAllBy raised ys ms = table scenarioCount (λ (i : ℕ). twiceBy raised (getD ys i 0) (getD ms i 0))
+unfoldable pub factorIn : Rounding → ℕ → ℕ
+factorIn down y = y
+factorIn up y = y / 2
 
--- twice each of seven factors, and their halves
-unfoldable pub twiceEach : List ℕ → List ℕ
-twiceEach xs = table scenarioCount (λ (i : ℕ). 2 * getD xs i 0)
+unfoldable pub factorsIn : Rounding → List ℕ → List ℕ
+factorsIn ρ ys = table scenarioCount (λ (i : ℕ). factorIn ρ (getD ys i 0))
 
-unfoldable pub halfEach : List ℕ → List ℕ
-halfEach ys = table scenarioCount (λ (i : ℕ). getD ys i 0 / 2)
+-- the next in a chain, by the upper half of a product
+unfoldable pub nextBy : Rounding → ℕ → ℕ → ℕ
+nextBy down y m = 2 * y * m / 2 ^ 64
+nextBy up y m = 2 * (y * m / 2 ^ 64) + 2
+
+unfoldable pub nextAllBy : Rounding → List ℕ → List ℕ → List ℕ
+nextAllBy ρ ys ms = table scenarioCount (λ (i : ℕ). nextBy ρ (getD ys i 0) (getD ms i 0))
+
+-- seven chains from par, after n multiplications each
+unfoldable pub chainedBy : Rounding → List ℕ → ℕ → List ℕ
+chainedBy ρ ms zero = replicate scenarioCount (inChain ρ par)
+chainedBy ρ ms (suc n) = nextAllBy ρ (chainedBy ρ ms n) ms
+
+-- seven factors in their chains
+unfoldable pub inChains : Rounding → List ℕ → List ℕ
+inChains ρ xs = table scenarioCount (λ (i : ℕ). inChain ρ (getD xs i 0))
 
 -- the discount factors of seven rates after n factors each
 unfoldable pub discountsBy : Rounding → List ℕ → ℕ → List ℕ

@@ -23,7 +23,9 @@ discount-factors-requires c κs = rw (c .before .shifted-rates .ensures) (shifte
 
 returns : tie.Need-returns
 unfolding yieldFactors
-returns c = rw (c .discount-factors .ensures, c .before .before .shifted-rates .ensures, add-one)
+returns c =
+    let shifted = c .before .before .shifted-rates .ensures in
+    (rw (c .discount-factors .ensures .0, shifted, add-one), rw (c .discount-factors .ensures .1, shifted, add-one))
 
 pub month-factors-spec : {M : Type 1} → statement M
 month-factors-spec =

@@ -1,12 +1,11 @@
 -- `valuation::filing_numbers::write_rows` meets its contract: the rows of the places passed are written. Assumes nothing.
 use Prim.Native.Nat.{_+_, _*_, _-_, _≤_}
 use mathlib.Core.List.{[]}
-use mathlib.Core.Path.{_≡_, ap, _∙_}
+use mathlib.Core.Path.{_≡_, refl, ap, _∙_}
 use native.Mathlib.Omega.{arith}
 use lib.ListN.{length}
 use Rattle.lists.specs.Tables.{tableFrom, table, joined}
 use Rattle.lists.proofs.RunLaws.{Overwritten, overwritten-none, overwritten-row}
-use Rattle.pricing.specs.Rounding.{roundingOf}
 use Rattle.valuation.specs.Numbers.{placeNumbers}
 use Rattle.place_values.specs.Inner.LongestTerm.{longestTerm}
 use Rattle.place_values.proofs.FilingTierLaws.{filed-limits}
@@ -32,21 +31,15 @@ places-of-requires c κs = c .before .before .before .pre .0
 longest-term-requires : tie.Need-longest-term-requires Inv-loop μ-loop
 longest-term-requires c κs = tt
 
-factor-table-requires : tie.Need-factor-table-requires Inv-loop μ-loop
-factor-table-requires c κs =
-    let start = c .before .before .before .before .before .before .before in
-    yields-within (start .args .t1) (start .pre .0)
-
-factor-table-requires-2 : tie.Need-factor-table-requires-2 Inv-loop μ-loop
-factor-table-requires-2 c κs =
-    let start = c .before .before .before .before .before .before .before .before .before .before in
-    yields-within (start .args .t1) (start .pre .0)
+fill-factors-requires : tie.Need-fill-factors-requires Inv-loop μ-loop
+fill-factors-requires c κs =
+    let start = c .before .before .before .before .before .before .before .before .before in
+    (yields-within (start .args .t1) (start .pre .0), refl, refl)
 
 loop-holds : tie.Need-loop-holds Inv-loop μ-loop
-unfolding tableFrom joined roundingOf
+unfolding tableFrom joined
 loop-holds c =
-    let lower = c .before .before .before in
-    let term = lower .before .before .before in
+    let term = c .before .before .before .before .before in
     let places = term .before in
     let tiers = places .before in
     let start = tiers .before .before .before in
@@ -58,8 +51,8 @@ loop-holds c =
         tiers-are = tiers .tiers-of .ensures .0;
         usable = tiers .tiers-of .ensures .1;
         places-are = places .places-of .ensures;
-        lower-is = rw longest at (lower .factor-table .ensures);
-        upper-is = rw longest at (c .factor-table2 .ensures);
+        lower-is = rw longest at (c .fill-factors .ensures .0);
+        upper-is = rw longest at (c .fill-factors .ensures .1);
       },
       overwritten-none _,
     )
@@ -125,8 +118,7 @@ write-rows-spec =
     tiers-of-requires
     places-of-requires
     longest-term-requires
-    factor-table-requires
-    factor-table-requires-2
+    fill-factors-requires
     loop-holds
     mul-row-of
     array-copy-out-row-of

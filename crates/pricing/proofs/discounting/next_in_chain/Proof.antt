@@ -1,19 +1,20 @@
--- `pricing::discounting::next_factors` meets its contract: the factors before i are filled. Assumes nothing.
+-- `pricing::discounting::next_in_chain` meets its contract: the factors before i are filled. Assumes nothing.
 use Prim.Native.Nat.{ℕ, _-_, _≤_}
 use mathlib.Core.Path.{_≡_}
 use native.Mathlib.Omega.{arith}
 use lib.ListN.{getD}
 use Rattle.lists.proofs.FillLaws.{Filled, fill-none, fill-more, fill-all}
-use Rattle.pricing.specs.Inner.Multipliers.{twiceBy, twiceAllBy}
-use Rattle.pricing.proofs.discounting.next_factors.Statement.{statement}
-use Rattle.pricing.proofs.discounting.next_factors.Tie as tie
+use Rattle.pricing.specs.Rounding.{roundingOf}
+use Rattle.pricing.specs.Inner.Multipliers.{nextBy, nextAllBy}
+use Rattle.pricing.proofs.discounting.next_in_chain.Statement.{statement}
+use Rattle.pricing.proofs.discounting.next_in_chain.Tie as tie
 
 abbrev Inv-loop : tie.InvT-loop
-Inv-loop doubled multipliers raised next₀ i₀ next i =
-    (i ≤ 7) × Filled (λ (j : ℕ). twiceBy raised (getD doubled j 0) (getD multipliers j 0)) 0 7 i next
+Inv-loop chain multipliers up next₀ i₀ next i =
+    (i ≤ 7) × Filled (λ (j : ℕ). nextBy (roundingOf up) (getD chain j 0) (getD multipliers j 0)) 0 7 i next
 
 abbrev μ-loop : tie.MeasureT-loop
-μ-loop doubled multipliers raised next₀ i₀ next i = 7 - i
+μ-loop chain multipliers up next₀ i₀ next i = 7 - i
 
 loop-holds : tie.Need-loop-holds Inv-loop μ-loop
 loop-holds c = (omega arith, fill-none _ 0 0 7)
@@ -31,9 +32,7 @@ element-copy-out-next-factor-2 : tie.Need-element-copy-out-next-factor-2 Inv-loo
 element-copy-out-next-factor-2 c = omega arith
 
 next-factor-requires : tie.Need-next-factor-requires Inv-loop μ-loop
-next-factor-requires c κs =
-    let start = c .before .before .before .before in
-    (start .pre .0 (c .before .before .before .loop .i), start .pre .1)
+next-factor-requires c κs = c .before .before .before .before .pre (c .before .before .before .loop .i)
 
 mul-next : tie.Need-mul-next Inv-loop μ-loop
 mul-next c = omega arith
@@ -51,13 +50,13 @@ loop-again : tie.Need-loop-again Inv-loop μ-loop
 loop-again c = (omega arith, fill-more _ 0 7 _ _ _ (omega arith) (c .next-factor .ensures) (c .before .before .before .before .loop .inv .1))
 
 returns : tie.Need-returns Inv-loop μ-loop
-unfolding twiceAllBy
+unfolding nextAllBy
 returns c =
     let e : c .before .loop .i ≡ 7 = omega arith in
     fill-all _ 0 7 (c .before .loop .next) (rw e at (c .before .loop .inv .1))
 
-pub next-factors-spec : {M : Type 1} → statement M
-next-factors-spec =
+pub next-in-chain-spec : {M : Type 1} → statement M
+next-in-chain-spec =
     tie.close
     (tie.spec
     Inv-loop
