@@ -1,6 +1,6 @@
 /*
  * The proved library beside the plain C versions. Without arguments: checks that all give the same answers and numbers on every filing used, and
- * prints times. `bench once VERSION FILING` runs one valuation, for counting instructions; VERSION 0 is a, 1 b, 2 c, 3 d, 4 the library.
+ * prints times. `bench once VERSION FILING` runs one valuation, for counting instructions; VERSION 0 is a, 1 b, 2 c, 3 d, 4 e, 5 the library.
  * `bench random COUNT SEED` only compares all versions on random filings, and the calls of certificates and books on random lists.
  */
 #define _POSIX_C_SOURCE 200809L
@@ -17,8 +17,8 @@
 
 enum { B = 1, PROVED = PLAIN, VERSIONS, LIST = 570 };
 
-static value_function *const version[VERSIONS] = {value_recomputed, value_tabled, value_multiplied, value_in_runs, spritapricot_value};
-static const char *const version_name[VERSIONS] = {"a recomputed", "b tabled", "c multiplied", "d in runs", "proved"};
+static value_function *const version[VERSIONS] = {value_recomputed, value_tabled, value_multiplied, value_in_runs, value_in_step, spritapricot_value};
+static const char *const version_name[VERSIONS] = {"a recomputed", "b tabled", "c multiplied", "d in runs", "e in step", "proved"};
 
 /* The filings that are timed. */
 enum { WORST, WORST_TIERS, WORST_PATH, WORST_FINE, WORST_AMENDED, WORST_ALL, TYPICAL, TYPICAL_ALL, FULLEST, ONE_BALANCE, NO_BALANCES, FILINGS };
@@ -116,7 +116,7 @@ static void compare(double least[FILINGS][VERSIONS])
     measure(f, FILINGS, 150, least);
     printf("%-16s", "ns a filing");
     for (int v = 0; v < VERSIONS; v++) printf("%14s", version_name[v]);
-    printf("%10s%10s%10s%10s\n", "proved/a", "proved/b", "proved/c", "proved/d");
+    printf("%10s%10s%10s%10s%10s\n", "proved/a", "proved/b", "proved/c", "proved/d", "proved/e");
     for (int i = 0; i < FILINGS; i++) {
         printf("%-16s", f[i].name);
         for (int v = 0; v < VERSIONS; v++) printf("%14.0f", least[i][v]);

@@ -1,6 +1,7 @@
 /*
- * Plain C with 128-bit products (gcc, clang), for the same numbers as plain.c. Compiled twice: with EACH_MONTH every month tries the tiers from the
- * top, without it a tier is kept for as many months as it holds, which is as fast as it was made here. VALUE and BOOK are the functions' names. No month and no
+ * Plain C with 128-bit products (gcc, clang), for the same numbers as plain.c. Compiled three times: with EACH_MONTH every month tries the tiers from the
+ * top, with IN_STEP too, the seven scenarios of a month one after the other before the next month; with neither a tier is kept for as many months as it
+ * holds, which is as fast as it was made here. VALUE and BOOK are the functions' names. No month and no
  * factor divides: x * n / d rounded down is the upper half of x * m, where m is 2^64 * n / d rounded up; rounded up it is 1 more than the upper half of
  * x * (m - 1), for x from 1 on. Both are exact where x * d is at most 2^64: balances and flows stay under 4.6 * 10^9, and d is at most 3 * 10^9.
  */
@@ -112,6 +113,60 @@ struct deposit {
     struct month tier[17], kept;
 };
 
+static void open(struct deposit *d, const struct contents *k, const struct place *p, int is_brokered)
+{
+    uint64_t servicing = is_brokered ? 19000 : 175000, interest = 2500 * p->coupon;
+    d->months = p->months;
+#ifdef EACH_MONTH
+    d->flat = 0;
+#else
+    d->flat = k->flat;
+#endif
+    d->tiers = k->tiers.count;
+    d->rate = k->rate[p->column];
+    d->scale = (int64_t)(120000000 - p->coupon * p->penalty);
+    d->loss = (int64_t)(120000 * p->coupon * p->penalty);
+    d->cost = (int64_t)(12000000 * p->coupon);
+    d->kept = (struct month){of_par(servicing), of_three_par(interest + 3 * PAR)};
+    if (is_brokered) return;
+    for (int i = 0; i < d->tiers; i++) d->edge_cost[i] = k->tiers.edge[i] * d->cost;
+    for (int i = 0; i <= d->tiers; i++) {
+        uint64_t q = k->tiers.survival[i];
+        d->tier[i] = (struct month){of_par(servicing + PAR - q), of_three_par(interest + 3 * q)};
+    }
+}
+
+#ifdef IN_STEP
+
+/* The prices in the seven scenarios, month by month. `walked` counts the months of a scenario that have a flow. */
+static void prices(const struct deposit *d, int is_brokered, struct pair factor[7][120], struct pair to[7])
+{
+    struct run run[7];
+    int walked[7] = {0};
+    int64_t loss = is_brokered ? d->loss : 100 * d->loss;
+    for (int s = 0; s < 7; s++) run[s] = at_par;
+    for (int t = 0, n = d->months - 1; n > 0; t++, n--)
+        for (int s = 0; s < 7; s++) {
+            int64_t gain = d->scale * (int64_t)shifted(d->rate[t], s);
+            int i = 0;
+            if (run[s].balance.upper == 0) continue;
+            walked[s]++;
+            if (!is_brokered) {
+                while (i < d->tiers && n * (100 * gain - d->edge_cost[i]) < loss) i++;
+                step(&run[s], d->tier[i], &factor[s][t]);
+            } else if (n * (gain - d->cost) > loss) {
+                step_withdrawn(&run[s], d->kept, &factor[s][t]);
+                if (d->cost == 0) run[s].balance = (struct pair){0, 0};
+            } else
+                step(&run[s], d->kept, &factor[s][t]);
+        }
+    for (int s = 0; s < 7; s++)
+        to[s] = run[s].balance.upper == 0 ? (struct pair){run[s].price.lower, run[s].price.upper + (uint64_t)walked[s]}
+                                          : step_last(&run[s], d->kept, &factor[s][d->months - 1], d->months);
+}
+
+#else
+
 /* The least n with n * rise >= loss, for a rise above 0. */
 static inline int months_to(int64_t rise, int64_t loss) { return loss <= rise ? 1 : (int)((loss + rise - 1) / rise); }
 
@@ -171,44 +226,29 @@ static struct pair brokered(const struct deposit *d, int s, const struct pair *f
     return step_last(&run, d->kept, factor, d->months);
 }
 
-static void open(struct deposit *d, const struct contents *k, const struct place *p, int is_brokered)
-{
-    uint64_t servicing = is_brokered ? 19000 : 175000, interest = 2500 * p->coupon;
-    d->months = p->months;
-#ifdef EACH_MONTH
-    d->flat = 0;
-#else
-    d->flat = k->flat;
-#endif
-    d->tiers = k->tiers.count;
-    d->rate = k->rate[p->column];
-    d->scale = (int64_t)(120000000 - p->coupon * p->penalty);
-    d->loss = (int64_t)(120000 * p->coupon * p->penalty);
-    d->cost = (int64_t)(12000000 * p->coupon);
-    d->kept = (struct month){of_par(servicing), of_three_par(interest + 3 * PAR)};
-    if (is_brokered) return;
-    for (int i = 0; i < d->tiers; i++) d->edge_cost[i] = k->tiers.edge[i] * d->cost;
-    for (int i = 0; i <= d->tiers; i++) {
-        uint64_t q = k->tiers.survival[i];
-        d->tier[i] = (struct month){of_par(servicing + PAR - q), of_three_par(interest + 3 * q)};
-    }
-}
-
 static struct pair price(const struct deposit *d, int is_brokered, int s, const struct pair *factor)
 {
     if (is_brokered) return brokered(d, s, factor);
     return d->flat ? retail_flat(d, s, factor) : retail_path(d, s, factor);
 }
 
+static void prices(const struct deposit *d, int is_brokered, struct pair factor[7][120], struct pair to[7])
+{
+    for (int s = 0; s < 7; s++) to[s] = price(d, is_brokered, s, factor[s]);
+}
+
+#endif
+
 /* Lower and upper value in the seven scenarios of a place that holds a balance. */
 static void value_place(const struct contents *k, const struct place *p, int i, struct pair factor[7][120], uint64_t to[14])
 {
     struct deposit d;
+    struct pair price_of[7];
     open(&d, k, p, i % 4 >= 2);
+    prices(&d, i % 4 >= 2, factor, price_of);
     for (int s = 0; s < 7; s++) {
-        struct pair price_of = price(&d, i % 4 >= 2, s, factor[s]);
-        to[2 * s] = p->balance * price_of.lower / 1000000;
-        to[2 * s + 1] = (p->balance * price_of.upper + 999999) / 1000000;
+        to[2 * s] = p->balance * price_of[s].lower / 1000000;
+        to[2 * s + 1] = (p->balance * price_of[s].upper + 999999) / 1000000;
     }
 }
 

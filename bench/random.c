@@ -39,10 +39,15 @@ static void put_any_tiers(struct input *f)
 }
 
 /* Amends some of the cells, and now and then one without regard to the rules. */
+/* Numbers of amendments about the bounds of what a set of them holds. */
+static const unsigned some_number[9] = {1, 2, 511, 512, 513, 1023, 1024, 65024, 65535};
+
 static void put_any_amendments(struct input *f)
 {
     size_t cells = f->size / 14;
     for (uint64_t i = 1 + below(6); i > 0; i--) amend(f, 14 * below(cells));
+    for (uint64_t i = below(3) == 0 ? 1 + below(4) : 0; i > 0; i--)
+        put_amendment(f, below(8) ? balance_cell[below(9)] : 600 + (unsigned)below(64), some_number[below(9)], (unsigned)below(10) / 5, 0);
     if (below(3) == 0) put_amendment(f, below(8) ? balance_cell[below(9)] : 600 + (unsigned)below(64), (unsigned)below(4), (unsigned)below(3), below(2));
 }
 

@@ -1,4 +1,7 @@
-/* The plain C versions: a recomputes discount factors, b keeps them in a table (plain.c); c multiplies by reciprocals, d has tiers in runs too (fast.c). */
+/*
+ * The plain C versions: a recomputes discount factors, b keeps them in a table (plain.c); c multiplies by reciprocals, d has tiers in runs too, and e is c
+ * with the months of the seven scenarios in step (fast.c).
+ */
 #ifndef VERSIONS_H
 #define VERSIONS_H
 
@@ -7,10 +10,10 @@
 
 typedef uint64_t value_function(const uint8_t *, size_t, uint64_t *, size_t, uint64_t *);
 
-value_function value_recomputed, value_tabled, value_multiplied, value_in_runs;
+value_function value_recomputed, value_tabled, value_multiplied, value_in_runs, value_in_step;
 
-enum { PLAIN = 4 };
-static value_function *const plain_version[PLAIN] = {value_recomputed, value_tabled, value_multiplied, value_in_runs};
+enum { PLAIN = 5 };
+static value_function *const plain_version[PLAIN] = {value_recomputed, value_tabled, value_multiplied, value_in_runs, value_in_step};
 
 /* A book after a list of changes, of versions c and d. */
 typedef uint64_t book_function(const uint8_t *, size_t, const uint64_t *, size_t, uint64_t *, uint64_t *);

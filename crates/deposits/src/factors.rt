@@ -1,11 +1,13 @@
 // Discount factors of every month and scenario.
 use lists::write;
-use pricing::discounting::DiscountFactors;
-use pricing::discounting::discount_factors;
+use pricing::discounting::lower_factors;
+use pricing::discounting::upper_factors;
+use pricing::discounting::upper_multipliers;
 use schedule::scenarios::shifted_rates;
 ghost use mathlib.Core.Path.{_≡_};
-ghost use Prim.Native.Nat.{_<_};
+ghost use Prim.Native.Nat.{_*_, _<_};
 ghost use lib.ListN.{replicate};
+ghost use Rattle.lists.specs.Runs.{written};
 ghost use Rattle.schedule.specs.Limits.{monthsLimit};
 ghost use Rattle.pricing.specs.Rounding.{down, up};
 ghost use Rattle.deposits.specs.Inner.Factors.{yieldFactors, factorsBy, WithinRates};
@@ -28,18 +30,22 @@ pub fn fill_factors(
         if longest <= month as u64 {
             return;
         }
-        let seven = month_factors(yields, month);
-        write(lower, 7 * month, &seven.lower);
-        write(upper, 7 * month, &seven.upper);
+        fill_month(yields, month, lower, upper);
         month += 1;
     }
 }
 
-// The factors of a month, counted from 0, in the seven scenarios.
-fn month_factors(yields: &[u16; 120], month: usize) -> DiscountFactors
+// The factors of a month, counted from 0, in the seven scenarios. The lower ones are written before the upper ones are made, so that both are made in registers.
+fn fill_month(yields: &[u16; 120], month: usize, lower: &mut FactorTable, upper: &mut FactorTable)
     requires { ⌜ WithinRates (now yields) × (month < monthsLimit) ⌝ }
-    ensures { λ r. ⌜ (r .lower ≡ yieldFactors down (now (yields .entry)) month) × (r .upper ≡ yieldFactors up (now (yields .entry)) month) ⌝ }
+    ensures { λ _. ⌜ (now (lower .exit) ≡ written (now (lower .entry)) (7 * month) (yieldFactors down (now (yields .entry)) month))
+        × (now (upper .exit) ≡ written (now (upper .entry)) (7 * month) (yieldFactors up (now (yields .entry)) month)) ⌝ }
 {
+    let n = month as u64 + 1;
     let rates = shifted_rates(yields[month]);
-    discount_factors(&rates, month as u64 + 1)
+    let above = upper_multipliers(&rates);
+    let below = lower_factors(&rates, &above, n);
+    write(lower, 7 * month, &below);
+    let seven = upper_factors(&above, n);
+    write(upper, 7 * month, &seven);
 }

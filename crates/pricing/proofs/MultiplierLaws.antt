@@ -1,18 +1,18 @@
 -- A division by an unchanging number is a multiplication and a division by a power of 2. Assumes nothing.
 use Prim.Native.Nat.{ℕ, zero, suc, _+_, _*_, _-_, _/_, _^_, _≤_, _<_}
-use mathlib.Core.Path.{_≡_, refl, ap, _∙_}
+use mathlib.Core.Path.{_≡_, refl, sym, ap, _∙_}
 use mathlib.Core.List.{List}
 use lib.Dec.{lit<, lit≤}
 use lib.ListN.{getD, replicate}
-use native.Mathlib.Nat.{le-antisymm, mul-assoc, mul-le-mul, mul-le-mul-left, mul-le-mul-right, mul-lt-mul-of-pos-left, mul-lt-mul-of-pos-right, lt-of-mul-lt-mul-right, le-of-suc-le-suc, div-mul-le-self, lt-div-mul-add, mul-div-mul-left, div-div-eq-div-mul, mul-div-cancel-left, mul-one}
+use native.Mathlib.Nat.{le-refl, le-antisymm, mul-zero, mul-assoc, mul-le-mul, mul-le-mul-left, mul-le-mul-right, mul-lt-mul-of-pos-left, mul-lt-mul-of-pos-right, lt-of-mul-lt-mul-right, le-of-suc-le-suc, div-mul-le-self, lt-div-mul-add, mul-div-mul-left, div-div-eq-div-mul, mul-one}
 use native.Mathlib.Omega.{arith}
-use Rattle.lists.specs.Tables.{tableFrom}
+use Rattle.lists.specs.Tables.{table, tableFrom}
 use Rattle.lists.proofs.TableLaws.{table-getD, table-ext, table-le}
 use Rattle.schedule.specs.Shift.{shiftedLimit, scenarioCount}
 use Rattle.pricing.specs.Scales.{par, rateScale}
 use Rattle.pricing.specs.Rounding.{Rounding, down, up, quotient}
 use Rattle.pricing.specs.Run.{discountBy}
-use Rattle.pricing.specs.Inner.Multipliers.{multiplierScale, multiplierBy, multipliersBy, onePartMore, scaledBy, inChain, inChains, factorIn, factorsIn, nextBy, nextAllBy, chainedBy, discountsBy, AtMost, billionthsLimit}
+use Rattle.pricing.specs.Inner.Multipliers.{multiplierScale, multiplierBy, multipliersBy, nextBy, nextAllBy, chainBy, chainedBy, factorBy, discountsBy, AtMost, billionthsLimit}
 use Rattle.pricing.proofs.RoundingLaws.{ceiling-ge, ceiling-lt}
 use Rattle.pricing.proofs.LimitLaws.{discount-limit}
 
@@ -57,16 +57,14 @@ module _ (x z : ℕ) (hx : x ≤ par) (hz : z ≤ shiftedLimit) where
   brought-le : x * (rateScale + z) ≤ par * (rateScale + shiftedLimit)
   brought-le = let h : rateScale + z ≤ rateScale + shiftedLimit = omega arith in mul-le-mul hx h
 
-  lower-scaled : scaledBy down x (multiplierBy down z) ≡ quotient down (x * rateScale) (rateScale + z)
-  unfolding scaledBy multiplierBy
+  lower-scaled : x * (rateScale * suc part) / multiplierScale ≡ quotient down (x * rateScale) (rateScale + z)
   lower-scaled =
-      floor-near x rateScale (rateScale + z) multiplierScale (60000 * suc part) (omega arith) (omega arith) (omega (arith, part-gt))
+      floor-near x rateScale (rateScale + z) multiplierScale (rateScale * suc part) (omega arith) (omega arith) (omega (arith, part-gt))
       (omega (arith, mul-le-mul-left x part-le, brought-le))
 
-  upper-scaled : 0 < x → scaledBy up x (multiplierBy up z) ≡ quotient up (x * rateScale) (rateScale + z)
-  unfolding scaledBy multiplierBy
+  upper-scaled : 0 < x → suc (x * (rateScale * part) / multiplierScale) ≡ quotient up (x * rateScale) (rateScale + z)
   upper-scaled more =
-      ceiling-near x rateScale (rateScale + z) multiplierScale (60000 * part) (omega arith) (omega arith) more (omega (arith, part-le))
+      ceiling-near x rateScale (rateScale + z) multiplierScale (rateScale * part) (omega arith) (omega arith) more (omega (arith, part-le))
       (omega (arith, mul-le-mul-left x part-gt, brought-le))
 
 -- a division by 10^9: the multiplier is too high by 807,006,208 / 10^9
@@ -90,93 +88,89 @@ discount-pos z (suc n) =
     pos-of-mul zero w h = absurd (omega arith)
     pos-of-mul (suc q) w h = omega arith
 
-factor-scaled : (ρ : Rounding) (z n : ℕ) → z ≤ shiftedLimit → scaledBy ρ (discountBy ρ z n) (multiplierBy ρ z) ≡ discountBy ρ z (suc n)
-unfolding discountBy
-factor-scaled down z n hz = lower-scaled (discountBy down z n) z (discount-limit z n down) hz
-factor-scaled up z n hz = upper-scaled (discountBy up z n) z (discount-limit z n up) hz (discount-pos z n)
+-- a chain by the multiplier of a rate has its factors; a rate of 0 leaves a lower factor at par
+lower-chain : (z n : ℕ) → suc z ≤ shiftedLimit → chainBy down (multiplierBy down (suc z)) n ≡ discountBy down (suc z) n
+unfolding chainBy nextBy multiplierBy discountBy
+lower-chain z zero h = refl
+lower-chain z (suc n) h = rw (lower-chain z n h) (lower-scaled (discountBy down (suc z) n) (suc z) (discount-limit (suc z) n down) h)
+
+upper-chain : (z n : ℕ) → z ≤ shiftedLimit → chainBy up (multiplierBy up z) n ≡ discountBy up z n
+unfolding chainBy nextBy multiplierBy discountBy
+upper-chain z zero h = refl
+upper-chain z (suc n) h = rw (upper-chain z n h) (upper-scaled (discountBy up z n) z (discount-limit z n up) h (discount-pos z n))
+
+at-par : (n : ℕ) → discountBy down 0 n ≡ par
+unfolding discountBy quotient
+at-par zero = refl
+at-par (suc n) = rw (at-par n)
+
+factor-is : (ρ : Rounding) (z n : ℕ) → z ≤ shiftedLimit → factorBy ρ z (chainBy ρ (multiplierBy ρ z) n) ≡ discountBy ρ z n
+unfolding factorBy
+factor-is down zero n h = sym (at-par n)
+factor-is down (suc z) n h = lower-chain z n h
+factor-is up z n h = upper-chain z n h
+
+-- no chain is above par
+no-chain : (n : ℕ) → chainBy down 0 n ≤ par
+unfolding chainBy nextBy
+no-chain zero = le-refl par
+no-chain (suc n) = rw (mul-zero (chainBy down 0 n)) (lit≤ tt)
+
+chain-le : (ρ : Rounding) (z n : ℕ) → z ≤ shiftedLimit → chainBy ρ (multiplierBy ρ z) n ≤ par
+unfolding multiplierBy
+chain-le down zero n h = no-chain n
+chain-le down (suc z) n h = rw (lower-chain z n h) (discount-limit (suc z) n down)
+chain-le up z n h = rw (upper-chain z n h) (discount-limit z n up)
 
 -- 2 x m / 2^64 is x m / 2^63
-pub halved : (x m : ℕ) → 2 * x * m / 2 ^ 64 ≡ x * m / multiplierScale
-halved x m = rw (mul-assoc 2 x m) (mul-div-mul-left (x * m) multiplierScale (lit< tt))
+pub halved : (x m : ℕ) → 2 * x * m / 2 ^ 64 ≡ x * m / 2 ^ 63
+halved x m = rw (mul-assoc 2 x m) (mul-div-mul-left (x * m) (2 ^ 63) (lit< tt))
 
 -- seven rates
-discounts-at-most : (ρ : Rounding) (rates : List ℕ) (n : ℕ) → AtMost par (discountsBy ρ rates n)
-unfolding discountsBy
-discounts-at-most ρ rates n = table-le 0 scenarioCount _ par (λ j l u. discount-limit (getD rates j 0) n ρ)
+pub chained-at-most : (ρ : Rounding) (rates : List ℕ) → AtMost shiftedLimit rates → (n : ℕ) → AtMost par (chainedBy ρ (multipliersBy ρ rates) n)
+unfolding chainedBy multipliersBy
+chained-at-most ρ rates h n =
+    table-le 0 scenarioCount _ par
+    (λ j l u. rw (table-getD scenarioCount (λ (i : ℕ). multiplierBy ρ (getD rates i 0)) j 0 (omega arith)) (chain-le ρ (getD rates j 0) n (h j)))
 
--- no chain holds more than twice par
-in-chain-le : (ρ : Rounding) (x : ℕ) → x ≤ par → inChain ρ x ≤ 2 * par
-unfolding inChain
-in-chain-le down x h = omega arith
-in-chain-le up x h = omega arith
-
-in-chains-le : (ρ : Rounding) (rates : List ℕ) (n : ℕ) → AtMost (2 * par) (inChains ρ (discountsBy ρ rates n))
-unfolding inChains
-in-chains-le ρ rates n = table-le 0 scenarioCount _ (2 * par) (λ j l u. in-chain-le ρ _ (discounts-at-most ρ rates n j))
-
-chained-zero : (ρ : Rounding) (rates : List ℕ) → replicate scenarioCount (inChain ρ par) ≡ inChains ρ (discountsBy ρ rates 0)
-unfolding inChains discountsBy tableFrom discountBy
-chained-zero ρ rates = refl
-
--- the next in a chain holds the factor times its multiplier
-next-scaled : (ρ : Rounding) (x m : ℕ) → nextBy ρ (inChain ρ x) m ≡ inChain ρ (scaledBy ρ x m)
-unfolding inChain nextBy scaledBy
-next-scaled down x m = halved x m
-next-scaled up x m = omega (arith, halved x m)
+pub chained-zero : (ρ : Rounding) (ms : List ℕ) → replicate scenarioCount par ≡ chainedBy ρ ms 0
+unfolding chainedBy chainBy tableFrom
+chained-zero ρ ms = refl
 
 -- one factor more in each of them
-chained-suc : (ρ : Rounding) (rates : List ℕ) (n : ℕ) → AtMost shiftedLimit rates
-    → nextAllBy ρ (inChains ρ (discountsBy ρ rates n)) (multipliersBy ρ rates) ≡ inChains ρ (discountsBy ρ rates (suc n))
-unfolding nextAllBy inChains discountsBy multipliersBy
-chained-suc ρ rates n h =
-    table-ext scenarioCount _ _
-    (λ i l. rw (
-      table-getD scenarioCount (λ (j : ℕ). inChain ρ (getD (discountsBy ρ rates n) j 0)) i 0 l,
-      table-getD scenarioCount (λ (j : ℕ). discountBy ρ (getD rates j 0) n) i 0 l,
-      table-getD scenarioCount (λ (j : ℕ). discountBy ρ (getD rates j 0) (suc n)) i 0 l,
-      table-getD scenarioCount (λ (j : ℕ). multiplierBy ρ (getD rates j 0)) i 0 l,
-      next-scaled ρ (discountBy ρ (getD rates i 0) n) (multiplierBy ρ (getD rates i 0)),
-      factor-scaled ρ (getD rates i 0) n (h i),
-    ))
+pub chained-suc : (ρ : Rounding) (ms : List ℕ) (n : ℕ) → nextAllBy ρ (chainedBy ρ ms n) ms ≡ chainedBy ρ ms (suc n)
+unfolding nextAllBy chainedBy chainBy
+chained-suc ρ ms n =
+    table-ext scenarioCount _ _ (λ i l. rw (table-getD scenarioCount (λ (j : ℕ). chainBy ρ (getD ms j 0) n) i 0 l))
 
--- so the chains hold the factors
-chained-holds : (ρ : Rounding) (rates : List ℕ) → AtMost shiftedLimit rates → (n : ℕ)
-    → chainedBy ρ (multipliersBy ρ rates) n ≡ inChains ρ (discountsBy ρ rates n)
-unfolding chainedBy
-chained-holds ρ rates h zero = chained-zero ρ rates
-chained-holds ρ rates h (suc n) = rw (chained-holds ρ rates h n) (chained-suc ρ rates n h)
-
-pub chained-at-most : (ρ : Rounding) (rates : List ℕ) → AtMost shiftedLimit rates → (n : ℕ) → AtMost (2 * par) (chainedBy ρ (multipliersBy ρ rates) n)
-chained-at-most ρ rates h n = rw (chained-holds ρ rates h n) (in-chains-le ρ rates n)
-
-factor-back : (ρ : Rounding) (x : ℕ) → factorIn ρ (inChain ρ x) ≡ x
-unfolding factorIn inChain
-factor-back down x = refl
-factor-back up x = mul-div-cancel-left x {n = 2} (lit< tt)
-
+-- the factors that seven chains have
 pub chained-is : (ρ : Rounding) (rates : List ℕ) → AtMost shiftedLimit rates → (n : ℕ)
-    → factorsIn ρ (chainedBy ρ (multipliersBy ρ rates) n) ≡ discountsBy ρ rates n
-unfolding factorsIn inChains discountsBy
+    → table scenarioCount (λ (i : ℕ). factorBy ρ (getD rates i 0) (getD (chainedBy ρ (multipliersBy ρ rates) n) i 0)) ≡ discountsBy ρ rates n
+unfolding chainedBy multipliersBy discountsBy
 chained-is ρ rates h n =
-    rw (chained-holds ρ rates h n)
-    (table-ext scenarioCount _ _
-    (λ i l. rw (
-      table-getD scenarioCount (λ (j : ℕ). inChain ρ (getD (discountsBy ρ rates n) j 0)) i 0 l,
-      table-getD scenarioCount (λ (j : ℕ). discountBy ρ (getD rates j 0) n) i 0 l,
-      factor-back ρ (discountBy ρ (getD rates i 0) n),
-    )))
-
--- the multipliers of the lower factors from those of the upper ones, which are at most the whole
-upper-multiplier-le : (z : ℕ) → multiplierBy up z ≤ multiplierScale
-unfolding multiplierBy
-upper-multiplier-le z = omega (arith, div-mul-le-self (2 ^ 64 - 1) (rateScale + z))
-
-pub upper-multipliers-le : (rates : List ℕ) → AtMost multiplierScale (multipliersBy up rates)
-unfolding multipliersBy
-upper-multipliers-le rates = table-le 0 scenarioCount _ multiplierScale (λ j l u. upper-multiplier-le (getD rates j 0))
-
-pub lower-from-upper : (rates : List ℕ) → onePartMore (multipliersBy up rates) ≡ multipliersBy down rates
-unfolding onePartMore multipliersBy multiplierBy
-lower-from-upper rates =
     table-ext scenarioCount _ _
-    (λ i l. rw (table-getD scenarioCount (λ (j : ℕ). multiplierBy up (getD rates j 0)) i 0 l) (omega arith))
+    (λ i l. rw (
+      table-getD scenarioCount (λ (j : ℕ). chainBy ρ (getD (multipliersBy ρ rates) j 0) n) i 0 l,
+      table-getD scenarioCount (λ (j : ℕ). multiplierBy ρ (getD rates j 0)) i 0 l,
+    )
+    (factor-is ρ (getD rates i 0) n (h i)))
+
+pub upper-chained : (rates : List ℕ) → AtMost shiftedLimit rates → (n : ℕ) → chainedBy up (multipliersBy up rates) n ≡ discountsBy up rates n
+unfolding chainedBy multipliersBy discountsBy
+upper-chained rates h n =
+    table-ext scenarioCount _ _
+    (λ i l. rw (table-getD scenarioCount (λ (j : ℕ). multiplierBy up (getD rates j 0)) i 0 l) (upper-chain (getD rates i 0) n (h i)))
+
+-- the multiplier of a lower factor from that of the upper one: 120,000 more, which is below 2^64. With p the quotient 120,000 p + p ≤ (120,000 + z) p < 2^64,
+-- and p is above 120,000
+pub one-part-more : (z : ℕ) → multiplierBy up (suc z) + rateScale ≡ multiplierBy down (suc z)
+unfolding multiplierBy
+one-part-more z = omega arith
+
+pub lower-fits : (z : ℕ) → suc z ≤ shiftedLimit → multiplierBy up (suc z) + rateScale < 2 ^ 64
+unfolding multiplierBy
+lower-fits z h =
+    let p = (2 ^ 64 - 1) / (rateScale + suc z) in
+    let least : 1 ≤ suc z = omega arith in
+    let most : rateScale + suc z ≤ rateScale + shiftedLimit = omega arith in
+    omega (arith, part-le 0 (suc z) (lit≤ tt) h, part-gt 0 (suc z) (lit≤ tt) h, mul-le-mul-left p least, mul-le-mul-left p most)

@@ -3,54 +3,65 @@ use crate::PAR;
 use crate::products::upper_half;
 use schedule::scenarios::Scenario;
 ghost use mathlib.Core.Path.{_≡_};
-ghost use Prim.Native.Nat.{ℕ, _*_, _≤_};
+ghost use Prim.Native.Nat.{ℕ, _≤_};
 ghost use Rattle.schedule.specs.Shift.{shiftedLimit};
 ghost use Rattle.pricing.specs.Scales.{par};
 ghost use Rattle.pricing.specs.Rounding.{down, up, roundingOf};
-ghost use Rattle.pricing.specs.Inner.Multipliers.{multiplierScale, multiplierBy, multipliersBy, onePartMore, inChain, factorIn, factorsIn, nextBy, nextAllBy, chainedBy, discountsBy, AtMost};
+ghost use Rattle.pricing.specs.Inner.Multipliers.{multiplierBy, multipliersBy, nextBy, nextAllBy, chainedBy, factorBy, discountsBy, AtMost};
 
 // The scale of a yield as a month's rate (01:58).
 const RATE_SCALE: u64 = 120_000;
 
-// Half of it, as multipliers are in units of 1 / 2^63.
-const HALF_RATE: u64 = RATE_SCALE / 2;
-
 // 2^64 - 1.
 const LARGEST: u64 = 18_446_744_073_709_551_615;
 
-// Lower and upper discount factors of seven rates, in billionths.
-pub struct DiscountFactors {
-    pub lower: [u64; 7],
-    pub upper: [u64; 7],
+// The lower discount factors of seven rates after n monthly factors each, in billionths, from the multipliers of the upper ones. The rates, CD yields, are in
+// hundredths of a percent a year.
+pub fn lower_factors(rates: &[u64; 7], above: &[u64; 7], n: u64) -> [u64; 7]
+    requires { ⌜ AtMost shiftedLimit (now rates) × (now above ≡ multipliersBy up (now rates)) ⌝ }
+    ensures { λ r. ⌜ r ≡ discountsBy down (now (rates .entry)) n ⌝ }
+{
+    let below = lower_multipliers(rates, above);
+    let chain = chained(&below, n, false);
+    let mut factors = [0; 7];
+    let mut i: usize = 0;
+    while (i as u64) < Scenario::COUNT {
+        factors[i] = lower_factor(rates[i], chain[i]);
+        i += 1;
+    }
+    factors
 }
 
-// The discount factors of seven rates after n monthly factors each. The rates, CD yields, are in hundredths of a percent a year; each is divided by once.
-pub fn discount_factors(rates: &[u64; 7], n: u64) -> DiscountFactors
-    requires { ⌜ AtMost shiftedLimit (now rates) ⌝ }
-    ensures { λ r. ⌜ (r .lower ≡ discountsBy down (now (rates .entry)) n) × (r .upper ≡ discountsBy up (now (rates .entry)) n) ⌝ }
+// The upper discount factors of seven rates after n monthly factors each, in billionths, from their multipliers.
+pub fn upper_factors(above: &[u64; 7], n: u64) -> [u64; 7]
+    requires { ⌜ ((i : ℕ) → AtMost par (chainedBy up (now above) i)) ⌝ }
+    ensures { λ r. ⌜ r ≡ chainedBy up (now (above .entry)) n ⌝ }
 {
-    let above = upper_multipliers(rates);
-    let below = lower_multipliers(&above);
-    let lower = chained(&below, n, false);
-    let upper = chained(&above, n, true);
-    DiscountFactors { lower, upper }
+    chained(above, n, true)
+}
+
+// A lower factor, from its chain: a rate of 0 leaves par.
+fn lower_factor(rate: u64, held: u64) -> u64
+    ensures { λ r. ⌜ r ≡ factorBy down rate held ⌝ }
+{
+    if rate == 0 { PAR } else { held }
 }
 
 // Seven chains of n multiplications each, from par.
 fn chained(multipliers: &[u64; 7], n: u64, up: bool) -> [u64; 7]
-    requires { ⌜ ((i : ℕ) → AtMost (2 * par) (chainedBy (roundingOf up) (now multipliers) i)) ⌝ }
-    ensures { λ r. ⌜ r ≡ factorsIn (roundingOf up) (chainedBy (roundingOf up) (now (multipliers .entry)) n) ⌝ }
+    requires { ⌜ ((i : ℕ) → AtMost par (chainedBy (roundingOf up) (now multipliers) i)) ⌝ }
+    ensures { λ r. ⌜ r ≡ chainedBy (roundingOf up) (now (multipliers .entry)) n ⌝ }
 {
-    let mut chain = [in_chain(PAR, up); 7];
+    let mut chain = [PAR; 7];
     for _ in 0..n {
         chain = next_in_chain(&chain, multipliers, up);
     }
-    factors_in(&chain, up)
+    chain
 }
 
 // The next of each of seven chains.
 fn next_in_chain(chain: &[u64; 7], multipliers: &[u64; 7], up: bool) -> [u64; 7]
-    requires { ⌜ AtMost (2 * par) (now chain) ⌝ }
+    requires { ⌜ AtMost par (now chain) ⌝ }
     ensures { λ r. ⌜ r ≡ nextAllBy (roundingOf up) (now (chain .entry)) (now (multipliers .entry)) ⌝ }
 {
     let mut next = [0; 7];
@@ -62,47 +73,20 @@ fn next_in_chain(chain: &[u64; 7], multipliers: &[u64; 7], up: bool) -> [u64; 7]
     next
 }
 
-// A factor in a chain times a multiplier: the product's floor, and 1 more for an upper factor, whose multiplier is too low by less than a factor can bring out.
-fn next_factor(held: u64, multiplier: u64, up: bool) -> u64
-    requires { ⌜ held ≤ 2 * par ⌝ }
-    ensures { λ r. ⌜ r ≡ nextBy (roundingOf up) held multiplier ⌝ }
+// A factor times a multiplier: the product's floor, and 1 more for an upper factor, whose multiplier is too low by less than a factor can bring out.
+fn next_factor(factor: u64, multiplier: u64, up: bool) -> u64
+    requires { ⌜ factor ≤ par ⌝ }
+    ensures { λ r. ⌜ r ≡ nextBy (roundingOf up) factor multiplier ⌝ }
 {
     if up {
-        2 * upper_half(held, multiplier) + 2
+        upper_half(factor, multiplier) + 1
     } else {
-        upper_half(2 * held, multiplier)
+        upper_half(factor, multiplier)
     }
 }
 
-// What a chain holds of a factor: twice an upper factor, so that 1 more is added with the doubling.
-fn in_chain(factor: u64, up: bool) -> u64
-    requires { ⌜ factor ≤ par ⌝ }
-    ensures { λ r. ⌜ r ≡ inChain (roundingOf up) factor ⌝ }
-{
-    if up { 2 * factor } else { factor }
-}
-
-// The factors that seven chains hold.
-fn factors_in(chain: &[u64; 7], up: bool) -> [u64; 7]
-    ensures { λ r. ⌜ r ≡ factorsIn (roundingOf up) (now (chain .entry)) ⌝ }
-{
-    let mut factors = [0; 7];
-    let mut i: usize = 0;
-    while (i as u64) < Scenario::COUNT {
-        factors[i] = factor_in(chain[i], up);
-        i += 1;
-    }
-    factors
-}
-
-fn factor_in(held: u64, up: bool) -> u64
-    ensures { λ r. ⌜ r ≡ factorIn (roundingOf up) held ⌝ }
-{
-    if up { held / 2 } else { held }
-}
-
-// The multipliers of seven rates for their upper factors: too low by less than a factor can bring out.
-fn upper_multipliers(rates: &[u64; 7]) -> [u64; 7]
+// The multipliers of seven rates for their upper factors: too low by less than a factor can bring out. Each rate is divided by once.
+pub fn upper_multipliers(rates: &[u64; 7]) -> [u64; 7]
     requires { ⌜ AtMost shiftedLimit (now rates) ⌝ }
     ensures { λ r. ⌜ r ≡ multipliersBy up (now (rates .entry)) ⌝ }
 {
@@ -120,19 +104,27 @@ fn upper_multiplier(rate: u64) -> u64
     requires { ⌜ rate ≤ shiftedLimit ⌝ }
     ensures { λ r. ⌜ r ≡ multiplierBy up rate ⌝ }
 {
-    HALF_RATE * (LARGEST / (RATE_SCALE + rate))
+    RATE_SCALE * (LARGEST / (RATE_SCALE + rate))
 }
 
-// The multipliers for the lower factors, one part more each: too high by less than a factor can bring out.
-fn lower_multipliers(upper: &[u64; 7]) -> [u64; 7]
-    requires { ⌜ AtMost multiplierScale (now upper) ⌝ }
-    ensures { λ r. ⌜ r ≡ onePartMore (now (upper .entry)) ⌝ }
+// The multipliers for the lower factors, from those for the upper ones.
+fn lower_multipliers(rates: &[u64; 7], above: &[u64; 7]) -> [u64; 7]
+    requires { ⌜ AtMost shiftedLimit (now rates) × (now above ≡ multipliersBy up (now rates)) ⌝ }
+    ensures { λ r. ⌜ r ≡ multipliersBy down (now (rates .entry)) ⌝ }
 {
     let mut multipliers = [0; 7];
     let mut i: usize = 0;
     while (i as u64) < Scenario::COUNT {
-        multipliers[i] = upper[i] + HALF_RATE;
+        multipliers[i] = lower_multiplier(rates[i], above[i]);
         i += 1;
     }
     multipliers
+}
+
+// The multiplier of a rate for its lower factors: one part more, too high by less than a factor can bring out. That of a rate of 0 would be 2^64, and is not used.
+fn lower_multiplier(rate: u64, above: u64) -> u64
+    requires { ⌜ (rate ≤ shiftedLimit) × (above ≡ multiplierBy up rate) ⌝ }
+    ensures { λ r. ⌜ r ≡ multiplierBy down rate ⌝ }
+{
+    if rate == 0 { 0 } else { above + RATE_SCALE }
 }

@@ -5,6 +5,7 @@ use native.Mathlib.Numerals.{add-one}
 use native.Mathlib.Omega.{arith}
 use Rattle.pricing.specs.Rounding.{roundingOf}
 use Rattle.pricing.specs.Inner.Multipliers.{chainedBy}
+use Rattle.pricing.proofs.MultiplierLaws.{chained-zero, chained-suc}
 use Rattle.pricing.proofs.discounting.chained.Statement.{statement}
 use Rattle.pricing.proofs.discounting.chained.Tie as tie
 
@@ -14,17 +15,13 @@ Inv-loop multipliers n up chain₀ counter₀ chain counter = (counter ≤ n) ×
 abbrev μ-loop : tie.MeasureT-loop
 μ-loop multipliers n up chain₀ counter₀ chain counter = n - counter
 
-in-chain-requires : tie.Need-in-chain-requires Inv-loop μ-loop
-in-chain-requires c κs = omega arith
-
 loop-holds : tie.Need-loop-holds Inv-loop μ-loop
-unfolding chainedBy
-loop-holds c = (omega arith, rw (c .in-chain .ensures))
+loop-holds c = (omega arith, chained-zero _ _)
 
 next-in-chain-requires : tie.Need-next-in-chain-requires Inv-loop μ-loop
 next-in-chain-requires c κs =
     let at = c .before .before in
-    rw (at .loop .inv .1) (at .before .before .pre _)
+    rw (at .loop .inv .1) (at .before .pre _)
 
 add-counter : tie.Need-add-counter Inv-loop μ-loop
 add-counter c = omega arith
@@ -33,31 +30,16 @@ loop-less : tie.Need-loop-less Inv-loop μ-loop
 loop-less c = omega arith
 
 loop-again : tie.Need-loop-again Inv-loop μ-loop
-unfolding chainedBy
 loop-again c =
     let at = c .before .before .before in
-    (omega arith, rw (c .next-in-chain .ensures, at .loop .inv .1, add-one))
-
-factors-in-requires : tie.Need-factors-in-requires Inv-loop μ-loop
-factors-in-requires c κs = tt
+    (omega arith, rw (c .next-in-chain .ensures, at .loop .inv .1, add-one) (chained-suc _ _ _))
 
 returns : tie.Need-returns Inv-loop μ-loop
 returns c =
-    let at = c .before .before .before in
-    let e : at .loop .counter ≡ at .before .before .args .n = omega arith in
-    rw (c .factors-in .ensures, at .loop .inv .1, e)
+    let at = c .before in
+    let e : at .loop .counter ≡ at .before .args .n = omega arith in
+    rw (at .loop .inv .1, e)
 
 pub chained-spec : {M : Type 1} → statement M
 chained-spec =
-    tie.close
-    (tie.spec
-    Inv-loop
-    μ-loop
-    in-chain-requires
-    loop-holds
-    next-in-chain-requires
-    add-counter
-    loop-less
-    loop-again
-    factors-in-requires
-    returns)
+    tie.close (tie.spec Inv-loop μ-loop loop-holds next-in-chain-requires add-counter loop-less loop-again returns)
