@@ -1,10 +1,10 @@
 -- A division by an unchanging number is a multiplication and a division by a power of 2. Assumes nothing.
 use Prim.Native.Nat.{ℕ, zero, suc, _+_, _*_, _-_, _/_, _^_, _≤_, _<_}
-use mathlib.Core.Path.{_≡_, refl, sym, ap, _∙_}
+use mathlib.Core.Path.{_≡_, refl, sym}
 use mathlib.Core.List.{List}
 use lib.Dec.{lit<, lit≤}
 use lib.ListN.{getD, replicate}
-use native.Mathlib.Nat.{le-refl, le-antisymm, mul-zero, mul-assoc, mul-le-mul, mul-le-mul-left, mul-le-mul-right, mul-lt-mul-of-pos-left, mul-lt-mul-of-pos-right, lt-of-mul-lt-mul-right, le-of-suc-le-suc, div-mul-le-self, lt-div-mul-add, mul-div-mul-left, div-div-eq-div-mul, mul-one}
+use native.Mathlib.Nat.{le-refl, le-antisymm, mul-zero, mul-assoc, mul-le-mul, mul-le-mul-left, mul-le-mul-right, mul-lt-mul-of-pos-left, mul-lt-mul-of-pos-right, lt-of-mul-lt-mul-right, le-of-suc-le-suc, div-mul-le-self, lt-div-mul-add, mul-div-mul-left}
 use native.Mathlib.Omega.{arith}
 use Rattle.lists.specs.Tables.{table, tableFrom}
 use Rattle.lists.proofs.TableLaws.{table-getD, table-ext, table-le}
@@ -12,7 +12,7 @@ use Rattle.schedule.specs.Shift.{shiftedLimit, scenarioCount}
 use Rattle.pricing.specs.Scales.{par, rateScale}
 use Rattle.pricing.specs.Rounding.{Rounding, down, up, quotient}
 use Rattle.pricing.specs.Run.{discountBy}
-use Rattle.pricing.specs.Inner.Multipliers.{multiplierScale, multiplierBy, multipliersBy, nextBy, nextAllBy, chainBy, chainedBy, factorBy, discountsBy, AtMost, billionthsLimit}
+use Rattle.pricing.specs.Inner.Multipliers.{multiplierScale, multiplierBy, multipliersBy, nextBy, nextAllBy, chainBy, chainedBy, factorBy, discountsBy, AtMost}
 use Rattle.pricing.proofs.RoundingLaws.{ceiling-ge, ceiling-lt}
 use Rattle.pricing.proofs.LimitLaws.{discount-limit}
 
@@ -66,14 +66,6 @@ module _ (x z : ℕ) (hx : x ≤ par) (hz : z ≤ shiftedLimit) where
   upper-scaled more =
       ceiling-near x rateScale (rateScale + z) multiplierScale (rateScale * part) (omega arith) (omega arith) more (omega (arith, part-le))
       (omega (arith, mul-le-mul-left x part-gt, brought-le))
-
--- a division by 10^9: the multiplier is too high by 807,006,208 / 10^9
-pub by-billion : (x : ℕ) → x ≤ billionthsLimit + par → x * 9903520314283042200 / 2 ^ 64 / 2 ^ 29 ≡ x / par
-unfolding quotient
-by-billion x h =
-    div-div-eq-div-mul (x * 9903520314283042200) (2 ^ 64) (2 ^ 29)
-    ∙ floor-near x 1 par (2 ^ 93) 9903520314283042200 (lit< tt) (lit< tt) (lit≤ tt) (omega arith)
-    ∙ ap (λ (n : ℕ). n / par) (mul-one x)
 
 -- an upper factor is never 0
 pub discount-pos : (z n : ℕ) → 0 < discountBy up z n

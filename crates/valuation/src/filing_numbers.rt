@@ -1,5 +1,5 @@
 // The 568 numbers of what an accepted filing says, written into a list.
-use deposits::factors::fill_factors;
+use deposits::factors::discount_tables;
 use filing::Contents;
 use lists::write;
 use place_values::filing_tiers::tiers_of;
@@ -37,7 +37,7 @@ fn write_rows(k: Contents, list: &mut [u64])
     let longest = longest_term(places);
     let mut lower = [0u64; 840];
     let mut upper = [0u64; 840];
-    fill_factors(&k.yields, longest, &mut lower, &mut upper);
+    discount_tables(&k.yields, longest, &mut lower, &mut upper);
     let mut place: usize = 0;
     while place < 36 {
         let row = row_of(places[place], place, &k.rates, tiers, &lower, &upper);

@@ -53,7 +53,3 @@ discountsBy ρ rates n = table scenarioCount (λ (i : ℕ). discountBy ρ (getD 
 -- no element of a list is above a limit
 abbrev pub AtMost : ℕ → List ℕ → Type 0
 AtMost limit xs = (i : ℕ) → getD xs i 0 ≤ limit
-
--- numbers up to this one, and 10^9 more, are divided by 10^9 exactly by a multiplication and a division by 2^93
-abbrev pub billionthsLimit : ℕ
-billionthsLimit = 12 * 10 ^ 18

@@ -11,7 +11,7 @@ use Rattle.place_values.specs.Inner.LongestTerm.{longestTerm}
 use Rattle.place_values.proofs.FilingTierLaws.{filed-limits}
 use Rattle.valuation.proofs.NumberLaws.{row-length}
 use Rattle.place_values.proofs.HeldLaws.{yields-within, rates-within}
-use Rattle.valuation.proofs.RowLaws.{Prepared, held-limits, factors-limits, row-is}
+use Rattle.valuation.proofs.RowLaws.{Prepared, longest-limit, held-limits, tables, row-is}
 use Rattle.valuation.proofs.filing_numbers.write_rows.Statement.{statement}
 use Rattle.valuation.proofs.filing_numbers.write_rows.Tie as tie
 
@@ -31,10 +31,12 @@ places-of-requires c κs = c .before .before .before .pre .0
 longest-term-requires : tie.Need-longest-term-requires Inv-loop μ-loop
 longest-term-requires c κs = tt
 
-fill-factors-requires : tie.Need-fill-factors-requires Inv-loop μ-loop
-fill-factors-requires c κs =
+discount-tables-requires : tie.Need-discount-tables-requires Inv-loop μ-loop
+discount-tables-requires c κs =
     let start = c .before .before .before .before .before .before .before .before .before in
-    (yields-within (start .args .t1) (start .pre .0), refl, refl)
+    let term = c .before .before .before .before in
+    let longest = term .longest-term .ensures ∙ ap longestTerm (term .before .places-of .ensures) in
+    (yields-within (start .args .t1) (start .pre .0), rw longest (longest-limit (start .args .t1) (start .pre .0)), refl, refl)
 
 loop-holds : tie.Need-loop-holds Inv-loop μ-loop
 unfolding tableFrom joined
@@ -51,8 +53,8 @@ loop-holds c =
         tiers-are = tiers .tiers-of .ensures .0;
         usable = tiers .tiers-of .ensures .1;
         places-are = places .places-of .ensures;
-        lower-is = rw longest at (c .fill-factors .ensures .0);
-        upper-is = rw longest at (c .fill-factors .ensures .1);
+        lower-holds = rw longest at (c .discount-tables .ensures .0);
+        upper-holds = rw longest at (c .discount-tables .ensures .1);
       },
       overwritten-none _,
     )
@@ -69,8 +71,7 @@ row-of-requires c κs =
     let state = at .loop in
     let prepared = state .inv .2 in
     let held = held-limits _ _ _ _ _ prepared (state .place) (omega arith) in
-    let factors = factors-limits _ _ _ _ _ prepared in
-    ((omega arith, held .0, held .1), (rates-within _ (prepared .valid), prepared .usable, factors .0, factors .1))
+    ((omega arith, held .0, held .1), ((rates-within _ (prepared .valid), prepared .usable), tables _ _ _ _ _ prepared (state .place) (omega arith)))
 
 mul-write : tie.Need-mul-write Inv-loop μ-loop
 mul-write c = omega arith
@@ -118,7 +119,7 @@ write-rows-spec =
     tiers-of-requires
     places-of-requires
     longest-term-requires
-    fill-factors-requires
+    discount-tables-requires
     loop-holds
     mul-row-of
     array-copy-out-row-of

@@ -1,12 +1,12 @@
--- `month_steps::multipliers::paid_multiplier` meets its contract. Assumes nothing.
+-- `month_steps::multipliers::par_multiplier` meets its contract. Assumes nothing.
 use Prim.Native.Nat.{_^_}
 use mathlib.Core.Path.{refl}
 use lib.Dec.{lit<}
 use borrow.Author.Needs.{needs}
 use Rattle.pricing.specs.Scales.{par}
 use Rattle.month_steps.proofs.StepLaws.{multiplier-split}
-use Rattle.month_steps.proofs.multipliers.paid_multiplier.Statement.{statement}
-use Rattle.month_steps.proofs.multipliers.paid_multiplier.Tie as tie
+use Rattle.month_steps.proofs.multipliers.par_multiplier.Statement.{statement}
+use Rattle.month_steps.proofs.multipliers.par_multiplier.Tie as tie
 
 mul-result : tie.Need-mul-result
 mul-result c = search needs
@@ -26,6 +26,6 @@ add-result-2 c = search needs
 returns : tie.Need-returns
 returns c = multiplier-split _ 9223372036 854775808 (2 ^ 63) par (lit< tt) refl
 
-pub paid-multiplier-spec : {M : Type 1} → statement M
-paid-multiplier-spec =
+pub par-multiplier-spec : {M : Type 1} → statement M
+par-multiplier-spec =
     tie.close (tie.spec mul-result mul-result-2 sub-result add-result add-result-2 returns)

@@ -1,9 +1,9 @@
--- `pricing::months::value_of` meets its contract. Assumes nothing.
+-- `pricing::values::value_of` meets its contract. Assumes nothing.
 use native.Mathlib.Nat.{mul-le-mul}
 use native.Mathlib.Omega.{arith}
 use borrow.Author.Needs.{needs}
-use Rattle.pricing.proofs.months.value_of.Statement.{statement}
-use Rattle.pricing.proofs.months.value_of.Tie as tie
+use Rattle.pricing.proofs.values.value_of.Statement.{statement}
+use Rattle.pricing.proofs.values.value_of.Tie as tie
 
 mul-quotient : tie.Need-mul-quotient
 mul-quotient c = omega (arith, mul-le-mul (c .pre .0) (c .pre .1))
