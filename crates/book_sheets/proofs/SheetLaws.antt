@@ -4,11 +4,11 @@ use Prim.Native.Nat.{ℕ, zero, suc, _-_, _≤_, _<_, zero-le}
 use mathlib.Core.Path.{_≡_, refl, ap}
 use mathlib.Core.Bool.{Bool, true, false, not, _&&_, false≢true}
 use mathlib.Core.List.{List}
-use native.Mathlib.Nat.{lt-trans, lt-suc-self}
+use native.Mathlib.Nat.{lt-trans, lt-suc-self, pos-of-ne-zero, ne-of-gt}
 use native.Mathlib.Numerals.{add-one}
 use native.Mathlib.Omega.{arith}
-use borrow.Author.Tests.{ltb-true, ltb-false, le-ltb, leb-true, leb-false, le-leb, lt-leb, not-true}
-use lib.Dec.{leb, ltb}
+use borrow.Author.Tests.{ltb-true, ltb-false, le-ltb, leb-true, leb-false, le-leb, lt-leb, eqb-false, ne-eqb, not-true}
+use lib.Dec.{leb, ltb, lit≤}
 use lib.ListN.{length, getD, List·getD-eq-default}
 use Rattle.lists.specs.Tables.{anyBelow}
 use Rattle.lists.proofs.TestLaws.{any-fails}
@@ -20,11 +20,11 @@ use Rattle.pricing.specs.Scales.{par}
 use Rattle.pricing.specs.Rounding.{down, up}
 use Rattle.deposits.specs.Inner.Factors.{factorsBy}
 use Rattle.deposits.specs.Inner.Prices.{AtMostPar}
-use Rattle.deposits.proofs.FactorLaws.{factors-at-most-par}
+use Rattle.deposits.proofs.FactorLaws.{factors-at-most-par, upper-factor-pos}
 use Rattle.place_values.specs.Inner.FiledLimits.{FiledLimits}
 use Rattle.place_values.proofs.FilingTierLaws.{filed-limits}
 use Rattle.place_values.proofs.HeldLaws.{rates-within}
-use Rattle.book_sheets.specs.Sheets.{aboveLimit, noneAbove, notRising, tiersUsable, sheetsUsable}
+use Rattle.book_sheets.specs.Sheets.{aboveLimit, noneAbove, isZero, noneZero, notRising, tiersUsable, sheetsUsable}
 
 -- both sides of a conjunction
 pub and-true : (a b : Bool) → (a && b) ≡ true → (a ≡ true) × (b ≡ true)
@@ -49,6 +49,15 @@ above-none : (limit : ℕ) (numbers : List ℕ) → ((i : ℕ) → getD numbers 
 unfolding noneAbove aboveLimit
 above-none limit numbers h = ap not (none-below _ (length numbers) (λ i l. le-ltb limit (getD numbers i 0) (h i)))
 
+-- no number of a table 0: each is above it
+none-zero : (numbers : List ℕ) → noneZero numbers ≡ true → (i : ℕ) → i < 840 → 0 < getD numbers i 0
+unfolding noneZero isZero
+none-zero numbers e i h = pos-of-ne-zero (eqb-false (getD numbers i 0) 0 (any-fails _ 840 (not-true _ e) i h))
+
+zero-none : (numbers : List ℕ) → ((i : ℕ) → i < 840 → 0 < getD numbers i 0) → noneZero numbers ≡ true
+unfolding noneZero isZero
+zero-none numbers h = ap not (none-below _ 840 (λ i l. ne-eqb (getD numbers i 0) 0 (ne-of-gt (h i l))))
+
 -- edges of which none is not above the one before it rise
 rising : (t : FiledTiers) → anyBelow (notRising (t .edges)) (t .count - 1) ≡ false
     → (i : ℕ) → suc i < t .count → getD (t .edges) i 0 < getD (t .edges) (suc i) 0
@@ -66,14 +75,16 @@ pub record Limits (rates : List ℕ) (tiers : FiledTiers) (lower upper : List �
   pub tiers-within : FiledLimits tiers
   pub lower-le : AtMostPar lower
   pub upper-le : AtMostPar upper
+  pub upper-pos : (i : ℕ) → i < 840 → 0 < getD upper i 0
 
 module _ (rates : List ℕ) (tiers : FiledTiers) (lower upper : List ℕ) where
   pub usable-limits : sheetsUsable rates tiers lower upper ≡ true → Limits rates tiers lower upper
   unfolding sheetsUsable tiersUsable
   usable-limits e =
-      let first = and-true (noneAbove rateLimit rates) (tiersUsable tiers && (noneAbove par lower && noneAbove par upper)) e in
-      let second = and-true (tiersUsable tiers) (noneAbove par lower && noneAbove par upper) (first .1) in
-      let third = and-true (noneAbove par lower) (noneAbove par upper) (second .1) in
+      let first = and-true (noneAbove rateLimit rates) (tiersUsable tiers && (noneAbove par lower && (noneAbove par upper && noneZero upper))) e in
+      let second = and-true (tiersUsable tiers) (noneAbove par lower && (noneAbove par upper && noneZero upper)) (first .1) in
+      let third = and-true (noneAbove par lower) (noneAbove par upper && noneZero upper) (second .1) in
+      let fourth = and-true (noneAbove par upper) (noneZero upper) (third .1) in
       let count = and-true (leb (tiers .count) tierLimit) _ (second .0) in
       let own = and-true (not (anyBelow (notRising (tiers .edges)) (tiers .count - 1))) (noneAbove withdrawalLimit (tiers .withdrawals)) (count .1) in
       record {
@@ -85,7 +96,8 @@ module _ (rates : List ℕ) (tiers : FiledTiers) (lower upper : List ℕ) where
               withdrawal-le = none-above withdrawalLimit (tiers .withdrawals) (own .1);
             };
         lower-le = none-above par lower (third .0);
-        upper-le = none-above par upper (third .1);
+        upper-le = none-above par upper (fourth .0);
+        upper-pos = none-zero upper (fourth .1);
       }
 
   pub limits-usable : Limits rates tiers lower upper → sheetsUsable rates tiers lower upper ≡ true
@@ -98,6 +110,7 @@ module _ (rates : List ℕ) (tiers : FiledTiers) (lower upper : List ℕ) where
         above-none withdrawalLimit (tiers .withdrawals) (l .tiers-within .withdrawal-le),
         above-none par lower (l .lower-le),
         above-none par upper (l .upper-le),
+        zero-none upper (l .upper-pos),
       )
 
 -- what a valid filing says is within them
@@ -108,4 +121,5 @@ filing-limits k v =
       tiers-within = filed-limits k v;
       lower-le = factors-at-most-par down (k .yields) monthsLimit;
       upper-le = factors-at-most-par up (k .yields) monthsLimit;
+      upper-pos = λ i h. upper-factor-pos (k .yields) monthsLimit i (lit≤ tt) h;
     }

@@ -3,7 +3,7 @@
 use Prim.Native.Nat.{ℕ, _+_, _-_}
 use mathlib.Core.Bool.{Bool, cond, not, _&&_}
 use mathlib.Core.List.{List}
-use lib.Dec.{leb, ltb}
+use lib.Dec.{eqb, leb, ltb}
 use lib.ListN.{length, getD}
 use Rattle.lists.specs.Tables.{anyBelow}
 use Rattle.schedule.specs.Limits.{rateLimit, tierLimit, withdrawalLimit}
@@ -22,6 +22,13 @@ aboveLimit limit numbers i = ltb limit (getD numbers i 0)
 unfoldable pub noneAbove : ℕ → List ℕ → Bool
 noneAbove limit numbers = not (anyBelow (aboveLimit limit numbers) (length numbers))
 
+-- number i of a list is 0, and no number of the 840 of a table is
+unfoldable pub isZero : List ℕ → ℕ → Bool
+isZero numbers i = eqb (getD numbers i 0) 0
+
+unfoldable pub noneZero : List ℕ → Bool
+noneZero numbers = not (anyBelow (isZero numbers) 840)
+
 -- edge i + 1 is not above edge i
 unfoldable pub notRising : List ℕ → ℕ → Bool
 notRising edges i = leb (getD edges (i + 1) 0) (getD edges i 0)
@@ -31,9 +38,9 @@ unfoldable pub tiersUsable : FiledTiers → Bool
 tiersUsable t =
     leb (t .count) tierLimit && (not (anyBelow (notRising (t .edges)) (t .count - 1)) && noneAbove withdrawalLimit (t .withdrawals))
 
--- the retail rates, the tiers and the discount factors are within their limits
+-- the retail rates, the tiers and the discount factors are within their limits, and no upper factor is 0
 unfoldable pub sheetsUsable : List ℕ → FiledTiers → List ℕ → List ℕ → Bool
-sheetsUsable rates tiers lower upper = noneAbove rateLimit rates && (tiersUsable tiers && (noneAbove par lower && noneAbove par upper))
+sheetsUsable rates tiers lower upper = noneAbove rateLimit rates && (tiersUsable tiers && (noneAbove par lower && (noneAbove par upper && noneZero upper)))
 
 -- lower and upper value in each scenario of what a place holds, dollars
 unfoldable pub valuesUnder : List ℕ → FiledTiers → List ℕ → List ℕ → ℕ → SubBalance → List ℕ

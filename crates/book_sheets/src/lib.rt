@@ -2,6 +2,7 @@
 use contents::FiledTiers;
 use deposits::RatePaths;
 use deposits::factors::FactorTable;
+use deposits::factors::fill_multipliers;
 use place_values::filing_tiers::tiers_of;
 use place_values::place_row::held_values;
 use sub_balances::SubBalance;
@@ -14,7 +15,7 @@ ghost use Rattle.sub_balances.specs.PlaceOrder.{subBalanceCount};
 ghost use Rattle.pricing.specs.Scales.{par};
 ghost use Rattle.deposits.specs.Inner.Prices.{DepositLimits};
 ghost use Rattle.place_values.specs.PlaceTerms.{depositAt};
-ghost use Rattle.book_sheets.specs.Sheets.{aboveLimit, notRising, tiersUsable, sheetsUsable, valuesUnder};
+ghost use Rattle.book_sheets.specs.Sheets.{aboveLimit, isZero, notRising, tiersUsable, sheetsUsable, valuesUnder};
 
 // No discount factor is above par, in billionths.
 const PAR: u64 = 1_000_000_000;
@@ -35,10 +36,14 @@ pub fn values_in<'a>(
         return [0; 14];
     }
     let own = tiers_of(tiers);
-    held_values(held, place, rates, own, lower, upper)
+    let mut below = [0u64; 840];
+    let mut above = [0u64; 840];
+    fill_multipliers(lower, held.remaining_months, false, &mut below);
+    fill_multipliers(upper, held.remaining_months, true, &mut above);
+    held_values(held, place, rates, own, &below, &above)
 }
 
-// Every rate, tier and factor is within its limit, as those of a filing are.
+// Every rate, tier and factor is within its limit and no upper factor is 0, as those of a filing are.
 fn usable(rates: &RatePaths, tiers: FiledTiers, lower: &FactorTable, upper: &FactorTable) -> bool
     ensures { λ r. ⌜ r ≡ sheetsUsable (now (rates .entry)) tiers (now (lower .entry)) (now (upper .entry)) ⌝ }
 {
@@ -51,7 +56,10 @@ fn usable(rates: &RatePaths, tiers: FiledTiers, lower: &FactorTable, upper: &Fac
     if above_par(lower) {
         return false;
     }
-    !above_par(upper)
+    if above_par(upper) {
+        return false;
+    }
+    !some_zero(upper)
 }
 
 // At most 16 tiers, of rising edges and annual withdrawals up to 600 thousandths.
@@ -105,6 +113,20 @@ fn above_par(factors: &[u64]) -> bool
     let mut i: usize = 0;
     while i < factors.len() {
         if PAR < factors[i] {
+            return true;
+        }
+        i += 1;
+    }
+    false
+}
+
+// One of the factors is 0.
+fn some_zero(factors: &FactorTable) -> bool
+    ensures { λ r. ⌜ r ≡ anyBelow (isZero (now (factors .entry))) 840 ⌝ }
+{
+    let mut i: usize = 0;
+    while i < 840 {
+        if factors[i] == 0 {
             return true;
         }
         i += 1;

@@ -1,6 +1,6 @@
 -- The factors of the seven scenarios in the list, month by month. Assumes nothing.
-use Prim.Native.Nat.{ℕ, zero, suc, _+_, _*_, _-_, _≤_, _<_}
-use mathlib.Core.Path.{_≡_, refl, sym, ap, _∙_}
+use Prim.Native.Nat.{ℕ, zero, suc, _+_, _*_, _-_, _/_, _%_, _≤_, _<_}
+use mathlib.Core.Path.{_≡_, refl, sym, ap, subst, _∙_}
 use mathlib.Core.List.{List, _++_, append-assoc, append-nil}
 use native.Mathlib.Nat.{add-zero}
 use native.Mathlib.Omega.{arith}
@@ -13,10 +13,11 @@ use Rattle.lists.proofs.TableLaws.{table-length, table-getD, table-le, joined-g
 use Rattle.lists.proofs.TestLaws.{either, entries-le}
 use Rattle.schedule.specs.Shift.{shiftedRate, shiftedRates}
 use Rattle.pricing.specs.Scales.{par}
-use Rattle.pricing.specs.Rounding.{Rounding}
+use Rattle.pricing.specs.Rounding.{Rounding, up}
 use Rattle.pricing.specs.Run.{discountFactorBy}
 use Rattle.pricing.specs.Inner.Multipliers.{discountsBy, AtMost}
 use Rattle.pricing.proofs.LimitLaws.{discount-limit}
+use Rattle.pricing.proofs.MultiplierLaws.{discount-pos}
 use Rattle.deposits.specs.DepositTerms.{sheetYield}
 use Rattle.deposits.specs.Inner.Factors.{yieldFactors, monthFactors, factorsBy}
 use Rattle.deposits.specs.Inner.Prices.{listed, AtMostPar}
@@ -89,3 +90,12 @@ module _ (ρ : Rounding) (yields : List ℕ) (longest : ℕ) where
       let before : suc t - 1 ≡ t = omega arith in
       rw (before, joined-getD 7 120 (monthFactors ρ yields longest) month-length t scenario 0 ht hs, lt-ltb t longest hl)
       (table-getD 7 _ scenario 0 hs ∙ rw (shifted-at (getD yields t 0) scenario hs))
+
+-- an upper factor within the longest term is above 0
+pub upper-factor-pos : (yields : List ℕ) (longest i : ℕ) → longest ≤ 120 → i < 7 * longest → 0 < getD (factorsBy up yields longest) i 0
+unfolding listed discountFactorBy
+upper-factor-pos yields longest i hl h =
+    let before : suc (i / 7) - 1 ≡ i / 7 = omega arith in
+    let same : 7 * (i / 7) + i % 7 ≡ i = omega arith in
+    rw same at (rw before at (subst (λ (n : ℕ). 0 < n) (sym (factor-is up yields longest (i % 7) (i / 7) (omega arith) (omega arith) (omega arith)))
+    (discount-pos (sheetYield yields (i % 7) (suc (i / 7))) (suc (i / 7)))))

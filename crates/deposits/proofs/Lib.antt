@@ -2,5 +2,6 @@ pub mod TermsLaws
 pub mod FactorLaws
 pub mod PlaceLaws
 pub mod PriceLaws
+pub mod DiscountLaws
 pub mod WalkLaws
 pub mod ValueLaws

@@ -20,10 +20,10 @@ use Rattle.pricing.proofs.LimitLaws.{discounted-limit}
 use Rattle.pricing.proofs.RunLaws.{run-suc, run-small}
 use Rattle.deposits.specs.declared.Deposit.{Deposit}
 use Rattle.deposits.specs.DepositTerms.{servicingCost, termsOf}
-use Rattle.deposits.specs.Inner.Prices.{listed, listedPrice, listedPrices, DepositLimits, AtMostPar}
+use Rattle.deposits.specs.Inner.Prices.{listed, listedPrice, DepositLimits, AtMostPar}
 use Rattle.deposits.proofs.TermsLaws.{terms-of-bounded}
 
-listed-suc : (factors : List ℕ) (scenario t : ℕ) → listed factors scenario (suc t) ≡ getD factors (7 * t + scenario) 0
+pub listed-suc : (factors : List ℕ) (scenario t : ℕ) → listed factors scenario (suc t) ≡ getD factors (7 * t + scenario) 0
 unfolding listed
 listed-suc factors scenario t = let e : suc t - 1 ≡ t = omega arith in rw e
 
@@ -68,21 +68,18 @@ module _ (ρ : Rounding) (tiers : TierTable) (d : Deposit) (rate : ℕ → ℕ) 
         (run-small ρ (termsOf tiers d rate) (listed factors scenario) (terms-of-bounded tiers d rate (l .coupon-le) (l .months-le))
         (listed-le factors scenario p) t h)
 
--- a term of no month has no flow
-pub no-price : (tiers : TierTable) (d : Deposit) (rate : ℕ → ℕ) (lower upper : List ℕ) (scenario : ℕ) → d .months ≡ 0
-    → record { lower = 0; upper = 0 } ≡ listedPrices tiers d rate lower upper scenario
-unfolding listedPrices listedPrice discountedBy
-no-price tiers d rate lower upper scenario e = rw e
-
 -- in the last month nothing is withdrawn early
-pub last-survival : (tiers : TierTable) (d : Deposit) (rate : ℕ → ℕ) → 0 < d .months
-    → par ≡ monthSurvival tiers (accountOf (d .brokered)) (d .coupon) (d .penalty) (rate (suc (d .months - 1))) (d .months) (suc (d .months - 1))
-last-survival tiers d rate h =
-    let e : suc (d .months - 1) ≡ d .months = omega arith in
-    rw e (sym (last-month tiers (accountOf (d .brokered)) (d .coupon) (d .penalty) (rate (d .months)) (d .months)))
+pub last-survival : (tiers : TierTable) (d : Deposit) (rate : ℕ → ℕ) (t : ℕ) → suc t ≡ d .months
+    → par ≡ monthSurvival tiers (accountOf (d .brokered)) (d .coupon) (d .penalty) (rate (suc t)) (d .months) (suc t)
+last-survival tiers d rate t e = rw e (sym (last-month tiers (accountOf (d .brokered)) (d .coupon) (d .penalty) (rate (d .months)) (d .months)))
 
--- the price is that of the run after the last month
-pub last-price : (ρ : Rounding) (tiers : TierTable) (d : Deposit) (rate : ℕ → ℕ) (factors : List ℕ) (scenario : ℕ) → 0 < d .months
-    → runBy ρ (termsOf tiers d rate) (listed factors scenario) (suc (d .months - 1)) .price ≡ listedPrice ρ tiers d rate factors scenario
+-- the price is that of the run after the last month; a term of no month has none
+pub last-price : (ρ : Rounding) (tiers : TierTable) (d : Deposit) (rate : ℕ → ℕ) (factors : List ℕ) (scenario t : ℕ) → suc t ≡ d .months
+    → runBy ρ (termsOf tiers d rate) (listed factors scenario) (suc t) .price ≡ listedPrice ρ tiers d rate factors scenario
 unfolding runBy listedPrice
-last-price ρ tiers d rate factors scenario h = let e : suc (d .months - 1) ≡ d .months = omega arith in rw e
+last-price ρ tiers d rate factors scenario t e = rw e
+
+pub no-price : (ρ : Rounding) (tiers : TierTable) (d : Deposit) (rate : ℕ → ℕ) (factors : List ℕ) (scenario : ℕ) → 0 ≡ d .months
+    → 0 ≡ listedPrice ρ tiers d rate factors scenario
+unfolding listedPrice discountedBy
+no-price ρ tiers d rate factors scenario e = rw (← e)

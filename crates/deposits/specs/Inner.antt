@@ -1,4 +1,5 @@
 -- Definitions for the contracts of inner functions. What the promise says does not rest on them.
+pub mod Discounts
 pub mod Factors
 pub mod Places
 pub mod Prices

@@ -1,39 +1,92 @@
-// Discount factors of every month and scenario, at one rounding.
+// Discount factors of every month and scenario.
 use lists::write;
-use pricing::discounting::discount_factors;
+use month_steps::multipliers::discount_multiplier;
+use pricing::discounting::lower_factors;
+use pricing::discounting::upper_factors;
+use pricing::discounting::upper_multipliers;
 use schedule::scenarios::shifted_rates;
 ghost use mathlib.Core.Path.{_≡_};
-ghost use Prim.Native.Nat.{_<_};
+ghost use Prim.Native.Nat.{_*_, _<_, _≤_};
+ghost use lib.ListN.{replicate};
+ghost use Rattle.lists.specs.Runs.{written};
 ghost use Rattle.schedule.specs.Limits.{monthsLimit};
-ghost use Rattle.pricing.specs.Rounding.{roundingOf};
+ghost use Rattle.pricing.specs.Rounding.{down, up, roundingOf};
+ghost use Rattle.deposits.specs.Inner.Discounts.{HoldsFactors};
 ghost use Rattle.deposits.specs.Inner.Factors.{yieldFactors, factorsBy, WithinRates};
+ghost use Rattle.deposits.specs.Inner.Prices.{AtMostPar};
 
 // Seven factors for each month, in billionths: month t and scenario s stand at place 7 (t - 1) + s.
 pub type FactorTable = [u64; 840];
 
-// The factors of a sheet of CD yields. Months past the longest term are left 0.
-pub fn factor_table(yields: &[u16; 120], longest: u64, up: bool) -> FactorTable
-    requires { ⌜ WithinRates (now yields) ⌝ }
-    ensures { λ r. ⌜ r ≡ factorsBy (roundingOf up) (now (yields .entry)) longest ⌝ }
+// Multipliers of the factors, in their places.
+pub type MultiplierTable = [u64; 840];
+
+// The multipliers of the lower and the upper factors of a sheet of CD yields up to the longest term, written into tables of zeros.
+pub fn discount_tables(
+    yields: &[u16; 120],
+    longest: u64,
+    lower: &mut MultiplierTable,
+    upper: &mut MultiplierTable,
+)
+    requires { ⌜ WithinRates (now yields) × (longest ≤ monthsLimit) × (now lower ≡ replicate 840 0) × (now upper ≡ replicate 840 0) ⌝ }
+    ensures { λ _. ⌜ HoldsFactors down longest (factorsBy down (now (yields .entry)) longest) (now (lower .exit)) × HoldsFactors up longest (factorsBy up (now (yields .entry)) longest) (now (upper .exit)) ⌝ }
 {
-    let mut factors = [0u64; 840];
+    let mut below = [0u64; 840];
+    let mut above = [0u64; 840];
+    fill_factors(yields, longest, &mut below, &mut above);
+    fill_multipliers(&below, longest, false, lower);
+    fill_multipliers(&above, longest, true, upper);
+}
+
+// The lower and the upper factors of a sheet of CD yields, written into tables of zeros. Months past the longest term are left 0.
+pub fn fill_factors(
+    yields: &[u16; 120],
+    longest: u64,
+    lower: &mut FactorTable,
+    upper: &mut FactorTable,
+)
+    requires { ⌜ WithinRates (now yields) × (now lower ≡ replicate 840 0) × (now upper ≡ replicate 840 0) ⌝ }
+    ensures { λ _. ⌜ (now (lower .exit) ≡ factorsBy down (now (yields .entry)) longest) × (now (upper .exit) ≡ factorsBy up (now (yields .entry)) longest) ⌝ }
+{
     let mut month: usize = 0;
     while month < 120 {
         if longest <= month as u64 {
-            return factors;
+            return;
         }
-        let seven = month_factors(yields, month, up);
-        write(&mut factors, 7 * month, &seven);
+        fill_month(yields, month, lower, upper);
         month += 1;
     }
-    factors
 }
 
-// The factors of a month, counted from 0, in the seven scenarios.
-fn month_factors(yields: &[u16; 120], month: usize, up: bool) -> [u64; 7]
+// The factors of a month, counted from 0, in the seven scenarios. The lower ones are written before the upper ones are made, so that both are made in registers.
+fn fill_month(yields: &[u16; 120], month: usize, lower: &mut FactorTable, upper: &mut FactorTable)
     requires { ⌜ WithinRates (now yields) × (month < monthsLimit) ⌝ }
-    ensures { λ r. ⌜ r ≡ yieldFactors (roundingOf up) (now (yields .entry)) month ⌝ }
+    ensures { λ _. ⌜ (now (lower .exit) ≡ written (now (lower .entry)) (7 * month) (yieldFactors down (now (yields .entry)) month))
+        × (now (upper .exit) ≡ written (now (upper .entry)) (7 * month) (yieldFactors up (now (yields .entry)) month)) ⌝ }
 {
+    let n = month as u64 + 1;
     let rates = shifted_rates(yields[month]);
-    discount_factors(&rates, month as u64 + 1, up)
+    let above = upper_multipliers(&rates);
+    let below = lower_factors(&rates, &above, n);
+    write(lower, 7 * month, &below);
+    let seven = upper_factors(&above, n);
+    write(upper, 7 * month, &seven);
+}
+
+// The multipliers of the factors of some months, written into a table of zeros: for the lower run, or for the upper one, whose table holds one less.
+pub fn fill_multipliers(
+    factors: &FactorTable,
+    months: u64,
+    up: bool,
+    multipliers: &mut MultiplierTable,
+)
+    requires { ⌜ AtMostPar (now factors) × (months ≤ monthsLimit) × (now multipliers ≡ replicate 840 0) ⌝ }
+    ensures { λ _. ⌜ HoldsFactors (roundingOf up) months (now (factors .entry)) (now (multipliers .exit)) ⌝ }
+{
+    let count = 7 * months as usize;
+    let mut i: usize = 0;
+    while i < count {
+        multipliers[i] = discount_multiplier(factors[i], up);
+        i += 1;
+    }
 }

@@ -1,7 +1,7 @@
 // The value of a balance: lower and upper in each scenario.
 use crate::Deposit;
 use crate::RatePaths;
-use crate::factors::FactorTable;
+use crate::factors::MultiplierTable;
 use crate::prices::coupon_growth;
 use crate::prices::price_of;
 use crate::prices::servicing_cost;
@@ -9,37 +9,45 @@ use early_months::Places;
 use early_months::places::early_places;
 use early_months::places::place_multipliers;
 use lists::write;
-use pricing::months::value_of;
+use month_steps::MonthMultipliers;
+use month_steps::multipliers::multipliers_of;
+use pricing::PAR;
+use pricing::values::value_of;
 use schedule::scenarios::Scenario;
 use withdrawal::WithdrawalTiers;
 ghost use mathlib.Core.Path.{_≡_};
 ghost use Prim.Native.Nat.{_<_, _≤_};
-ghost use Rattle.schedule.specs.Limits.{balanceLimit};
+ghost use Rattle.schedule.specs.Limits.{balanceLimit, monthsLimit};
 ghost use Rattle.schedule.specs.Shift.{scenarioCount};
 ghost use Rattle.withdrawal.specs.Inner.TierArrays.{tierTable, Usable};
-ghost use Rattle.deposits.specs.Inner.Places.{Placed, Multiplied};
-ghost use Rattle.deposits.specs.Inner.Prices.{shiftedPath, ColumnRates, DepositLimits, AtMostPar};
-ghost use Rattle.deposits.specs.Inner.Values.{valueBounds, listedValues};
+ghost use Rattle.pricing.specs.Scales.{amountLimit};
+ghost use Rattle.pricing.specs.Rounding.{down, up};
+ghost use Rattle.deposits.specs.Inner.Discounts.{factorsOf, Discounting, walkedPrices, valuesAt, Priceable};
+ghost use Rattle.deposits.specs.Inner.Prices.{ColumnRates, DepositLimits};
+ghost use Rattle.deposits.specs.Inner.Values.{listedValues};
 
 // Values in dollars of a balance in thousands of dollars: lower, upper, lower, upper and so on by scenario, at the retail rates of a column, 1 to 3, which
-// are not shifted. A zero balance walks no month.
+// are not shifted. The tables hold the multipliers of the discount factors. In the last month nothing is withdrawn early. A zero balance walks no month.
 pub fn values_of(
     balance: u64,
     d: Deposit,
     rates: &RatePaths,
     column: usize,
     tiers: WithdrawalTiers,
-    lower: &FactorTable,
-    upper: &FactorTable,
+    lower: &MultiplierTable,
+    upper: &MultiplierTable,
 ) -> [u64; 14]
     requires { ⌜ (balance ≤ balanceLimit) × DepositLimits d × ColumnRates (now rates) column × Usable tiers ⌝ }
-    requires { ⌜ AtMostPar (now lower) × AtMostPar (now upper) ⌝ }
-    ensures { λ r. ⌜ r ≡ listedValues (tierTable tiers) balance d (now (rates .entry)) column (now (lower .entry)) (now (upper .entry)) ⌝ }
+    requires { ⌜ (0 < balance → Discounting down (d .months) (now lower) × Discounting up (d .months) (now upper)) ⌝ }
+    ensures { λ r. ⌜ r ≡ listedValues (tierTable tiers) balance d (now (rates .entry)) column (factorsOf down (d .months) (now (lower .entry))) (factorsOf up (d .months) (now (upper .entry))) ⌝ }
 {
     let mut values = [0u64; 14];
     if balance == 0 {
         return values;
     }
+    let growth = coupon_growth(d.coupon);
+    let servicing = servicing_cost(d.brokered);
+    let last = multipliers_of(growth, servicing, PAR);
     let places = early_places(
         d.brokered,
         d.coupon,
@@ -52,8 +60,8 @@ pub fn values_of(
     );
     let multipliers = place_multipliers(
         d.brokered,
-        coupon_growth(d.coupon),
-        servicing_cost(d.brokered),
+        growth,
+        servicing,
         tiers.count,
         &tiers.survivals,
         tiers.retained,
@@ -62,15 +70,13 @@ pub fn values_of(
     while (scenario as u64) < Scenario::COUNT {
         let two = value_bounds(
             balance,
-            d,
-            rates,
-            column,
-            tiers,
+            d.months,
             &places,
             &multipliers.paid,
             &multipliers.left,
             &multipliers.carried,
             &multipliers.whole,
+            last,
             lower,
             upper,
             scenario,
@@ -84,34 +90,30 @@ pub fn values_of(
 // Lower and upper value in a scenario.
 fn value_bounds<'a>(
     balance: u64,
-    d: Deposit,
-    rates: &RatePaths,
-    column: usize,
-    tiers: WithdrawalTiers,
+    months: u64,
     places: &Places,
     paid: &'a [u64; 17],
     left: &'a [u64; 17],
     carried: &'a [u64; 17],
     whole: &'a [bool; 17],
-    lower: &FactorTable,
-    upper: &FactorTable,
+    last: MonthMultipliers,
+    lower: &MultiplierTable,
+    upper: &MultiplierTable,
     scenario: usize,
 ) -> [u64; 2]
-    requires { ⌜ (balance ≤ balanceLimit) × DepositLimits d × ColumnRates (now rates) column × Usable tiers × (scenario < scenarioCount) ⌝ }
-    requires { ⌜ Placed tiers d (now rates) column (now places) × Multiplied tiers d (now paid) (now left) (now carried) (now whole) ⌝ }
-    requires { ⌜ AtMostPar (now lower) × AtMostPar (now upper) ⌝ }
-    ensures { λ r. ⌜ r ≡ valueBounds (tierTable tiers) balance d (shiftedPath scenario (now (rates .entry)) column) (now (lower .entry)) (now (upper .entry)) scenario ⌝ }
+    requires { ⌜ (balance ≤ balanceLimit) × (months ≤ monthsLimit) × (scenario < scenarioCount) ⌝ }
+    requires { ⌜ Priceable (now paid) (now left) (now carried) (now whole) (now places) last (now lower) (now upper) scenario months ⌝ }
+    requires { ⌜ (walkedPrices (now paid) (now left) (now carried) (now whole) (now places) last (now lower) (now upper) scenario months .lower ≤ amountLimit) × (walkedPrices (now paid) (now left) (now carried) (now whole) (now places) last (now lower) (now upper) scenario months .upper ≤ amountLimit) ⌝ }
+    ensures { λ r. ⌜ r ≡ valuesAt balance (walkedPrices (now (paid .entry)) (now (left .entry)) (now (carried .entry)) (now (whole .entry)) (now (places .entry)) last (now (lower .entry)) (now (upper .entry)) scenario months) ⌝ }
 {
     let price = price_of(
-        d,
-        rates,
-        column,
-        tiers,
+        months,
         places,
         paid,
         left,
         carried,
         whole,
+        last,
         lower,
         upper,
         scenario,

@@ -12,7 +12,7 @@ use Rattle.pricing.specs.declared.Run.{Run}
 use Rattle.pricing.specs.Scales.{par, amountLimit}
 use Rattle.pricing.specs.Rounding.{Rounding}
 use Rattle.month_steps.specs.declared.MonthMultipliers.{MonthMultipliers}
-use Rattle.month_steps.specs.Multipliers.{carriedOf, multipliersOf, stepBy}
+use Rattle.month_steps.specs.Multipliers.{carriedOf, multipliersOf, stepBy, lastBy}
 
 -- the place of a month, counted from 0, in a scenario: the highest scenario's stands first
 unfoldable pub placeAt : List (List ℕ) → ℕ → ℕ → ℕ
@@ -46,19 +46,25 @@ Multiplied brokered growth servicing count survivals retained paid left carried 
     (place : ℕ) → place ≤ lastPlace brokered count
     → heldAt paid left carried whole place ≡ multipliersAt brokered growth servicing count survivals retained place
 
--- the run after some months, by the multipliers of their places, with discount factors from a list
+-- the run after some months, by the multipliers of their places, with what a table holds of the discount factors
 unfoldable pub walkedBy : Rounding → List ℕ → List ℕ → List ℕ → List Bool → List (List ℕ) → List ℕ → ℕ → ℕ → Run
-walkedBy ρ paid left carried whole places factors scenario zero = record { balance = par; price = 0 }
-walkedBy ρ paid left carried whole places factors scenario (suc t) =
+walkedBy ρ paid left carried whole places discounts scenario zero = record { balance = par; price = 0 }
+walkedBy ρ paid left carried whole places discounts scenario (suc t) =
     stepBy ρ
     (heldAt paid left carried whole (placeAt places t scenario))
-    (getD factors (scenarioCount * t + scenario) 0)
-    (walkedBy ρ paid left carried whole places factors scenario t)
+    (getD discounts (scenarioCount * t + scenario) 0)
+    (walkedBy ρ paid left carried whole places discounts scenario t)
 
--- each month but the last can be walked: its place is one of the arrays', with multipliers of the upper run too, and the run before it is within the limit
-pub record Walkable (ρ : Rounding) (paid left carried : List ℕ) (whole : List Bool) (places : List (List ℕ)) (factors : List ℕ) (scenario months : ℕ) : Type 0 where
+-- the price after a term of some months, the last of which has multipliers of its own
+unfoldable pub pricedBy : Rounding → List ℕ → List ℕ → List ℕ → List Bool → List (List ℕ) → MonthMultipliers → List ℕ → ℕ → ℕ → ℕ
+pricedBy ρ paid left carried whole places last discounts scenario zero = 0
+pricedBy ρ paid left carried whole places last discounts scenario (suc t) =
+    lastBy ρ last (getD discounts (scenarioCount * t + scenario) 0) (walkedBy ρ paid left carried whole places discounts scenario t)
+
+-- each month but the last can be walked: its place is one of the arrays', with multipliers of the upper run too; and the run before every month is within the limit
+pub record Walkable (ρ : Rounding) (paid left carried : List ℕ) (whole : List Bool) (places : List (List ℕ)) (discounts : List ℕ) (scenario months : ℕ) : Type 0 where
   pub place-le : (t : ℕ) → suc t < months → placeAt places t scenario ≤ tierLimit
   pub paid-pos : (t : ℕ) → suc t < months → 0 < getD paid (placeAt places t scenario) 0
   pub carried-is : (t : ℕ) → suc t < months → getD carried (placeAt places t scenario) 0 ≡ carriedOf (getD left (placeAt places t scenario) 0)
-  pub balance-le : (t : ℕ) → suc t < months → walkedBy ρ paid left carried whole places factors scenario t .balance ≤ amountLimit
-  pub price-le : (t : ℕ) → suc t < months → walkedBy ρ paid left carried whole places factors scenario t .price ≤ amountLimit
+  pub balance-le : (t : ℕ) → t < months → walkedBy ρ paid left carried whole places discounts scenario t .balance ≤ amountLimit
+  pub price-le : (t : ℕ) → t < months → walkedBy ρ paid left carried whole places discounts scenario t .price ≤ amountLimit

@@ -10,12 +10,10 @@ ghost use mathlib.Core.Path.{_≡_};
 ghost use Prim.Native.Nat.{_-_, _<_, _≤_};
 ghost use Rattle.schedule.specs.Limits.{monthsLimit, tierLimit};
 ghost use Rattle.schedule.specs.Shift.{scenarioCount};
-ghost use Rattle.pricing.specs.Scales.{par};
 ghost use Rattle.pricing.specs.Rounding.{down, up};
-ghost use Rattle.pricing.specs.Inner.Multipliers.{AtMost};
 ghost use Rattle.early_months.specs.Places.{placeAt, heldAt, walkedBy, Walkable};
 
-// The lower and the upper run after all months but the last.
+// The lower and the upper run after all months but the last. The tables hold the multipliers of the discount factors.
 pub fn early_months<'a>(
     months: u64,
     places: &Places,
@@ -27,7 +25,7 @@ pub fn early_months<'a>(
     upper: &[u64; 840],
     scenario: usize,
 ) -> Runs
-    requires { ⌜ (0 < months) × (months ≤ monthsLimit) × (scenario < scenarioCount) × AtMost par (now lower) × AtMost par (now upper) ⌝ }
+    requires { ⌜ (0 < months) × (months ≤ monthsLimit) × (scenario < scenarioCount) ⌝ }
     requires { ⌜ Walkable down (now paid) (now left) (now carried) (now whole) (now places) (now lower) scenario months ⌝ }
     requires { ⌜ Walkable up (now paid) (now left) (now carried) (now whole) (now places) (now upper) scenario months ⌝ }
     ensures { λ r. ⌜ r .lower ≡ walkedBy down (now (paid .entry)) (now (left .entry)) (now (carried .entry)) (now (whole .entry)) (now (places .entry)) (now (lower .entry)) scenario (months - 1) ⌝ }

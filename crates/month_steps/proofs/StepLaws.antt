@@ -4,17 +4,16 @@ use mathlib.Core.Path.{_≡_, refl, sym, ap, _∙_}
 use mathlib.Core.Bool.{Bool, true, false, cond}
 use lib.Dec.{eqb, leb, lit<}
 use borrow.Author.Tests.{leb-true, ne-eqb}
-use native.Mathlib.Nat.{zero-add, add-zero, mul-zero, mul-add, mul-le-mul-left, mul-add-div-right, zero-lt-suc, add-sub-of-le, le-refl, suc-ne-zero, zero-div}
+use native.Mathlib.Nat.{zero-add, add-zero, mul-zero, mul-add, mul-le-mul, mul-le-mul-left, mul-add-div-right, zero-lt-suc, add-sub-of-le, le-refl, suc-ne-zero, zero-div}
 use native.Mathlib.Numerals.{add-one}
 use native.Mathlib.Omega.{arith}
 use Rattle.pricing.specs.declared.Run.{Run}
-use Rattle.pricing.specs.Scales.{par, amountLimit}
+use Rattle.pricing.specs.Scales.{par, growthLimit, servicingLimit, amountLimit}
 use Rattle.pricing.specs.Rounding.{Rounding, down, up, quotient}
-use Rattle.pricing.specs.Inner.Month.{nextBalance, nextFlow, nextRun}
-use Rattle.pricing.specs.Inner.Multipliers.{billionthsLimit}
+use Rattle.pricing.specs.Inner.Month.{nextBalance, nextFlow, nextRun, Small, figureLimit}
 use Rattle.pricing.proofs.RoundingLaws.{ceiling-ge, ceiling-lt, quotient-le, quotient-zero}
 use Rattle.pricing.proofs.MultiplierLaws.{floor-near, ceiling-near, halved}
-use Rattle.month_steps.specs.Multipliers.{partBy, carriedOf, beyond, multipliersOf, stepBy}
+use Rattle.month_steps.specs.Multipliers.{partBy, carriedOf, beyond, parMultiplier, multipliersOf, discountMultiplier, standsFor, factorOf, Discounts, paidBy, leftBy, productBy, stepBy, lastBy}
 use Rattle.month_steps.specs.declared.MonthMultipliers.{MonthMultipliers}
 
 -- rounded up, of something by something
@@ -53,22 +52,47 @@ carried-le-one m = cond-le (eqb m 0)
     cond-le true = zero-le
     cond-le false = le-refl 1
 
--- a balance that is gone stays so
-pub step-gone : (m : MonthMultipliers) (df : ℕ) (run : Run) → run .balance ≡ 0 → run ≡ stepBy up m df run
-unfolding stepBy partBy
-step-gone m df run e =
-    ap (λ (b : ℕ). record { balance = b; price = run .price }) balance-same
-    ∙ ap (λ (p : ℕ). record { balance = cond (m .whole) (run .balance) 0 + partBy up (2 ^ 64) (run .balance) (m .left); price = p }) price-same
+-- of nothing comes nothing
+none-left : (m : MonthMultipliers) → leftBy up m 0 ≡ 0
+unfolding leftBy partBy
+none-left m = by (m .whole)
   where
-    none : (b : Bool) → 0 ≡ cond b 0 0 + partBy up (2 ^ 64) 0 (m .left)
-    none true = refl
-    none false = refl
+    by : (b : Bool) → cond b 0 0 + 0 ≡ 0
+    by true = refl
+    by false = refl
 
-    balance-same : run .balance ≡ cond (m .whole) (run .balance) 0 + partBy up (2 ^ 64) (run .balance) (m .left)
-    balance-same = rw e (none (m .whole))
+none-paid : (m : MonthMultipliers) → paidBy up m 0 ≡ 0
+unfolding paidBy partBy
+none-paid m = refl
 
-    price-same : run .price ≡ run .price + quotient up (partBy up (2 ^ 64) (2 * run .balance) (m .paid) * df) par
-    price-same = rw (e, quotient-zero up df par (lit< tt), add-zero)
+none-product : (n : ℕ) → productBy up n 0 ≡ 0
+unfolding productBy partBy
+none-product n = refl
+
+-- a balance that is gone stays so
+pub step-gone : (m : MonthMultipliers) (n : ℕ) (run : Run) → run .balance ≡ 0 → run ≡ stepBy up m n run
+unfolding stepBy
+step-gone m n run e =
+    ap (λ (b : ℕ). record { balance = b; price = run .price }) balance-same
+    ∙ ap (λ (p : ℕ). record { balance = leftBy up m (run .balance); price = p }) price-same
+  where
+    balance-same : run .balance ≡ leftBy up m (run .balance)
+    balance-same = rw e (sym (none-left m))
+
+    price-same : run .price ≡ run .price + productBy up n (paidBy up m (run .balance))
+    price-same = rw (e, none-paid m, none-product n, add-zero)
+
+-- and brings nothing in the last month
+pub last-gone : (m : MonthMultipliers) (n : ℕ) (run : Run) → run .balance ≡ 0 → run .price ≡ lastBy up m n run
+unfolding lastBy
+last-gone m n run e = rw (e, none-paid m, none-left m, none-product n, add-zero)
+
+-- a product of the upper run, of something
+pub product-some : (n flow : ℕ) → 0 < flow → 2 * flow * n / 2 ^ 64 + 1 ≡ productBy up n flow
+unfolding productBy standsFor
+product-some n flow h =
+    let e : suc n - 1 ≡ n = omega arith in
+    rw (part-some (2 ^ 64) (2 * flow) (suc n) (omega arith) (zero-lt-suc n), e, add-one)
 
 -- a multiplier of a / w in units of 1 / s, rounded up, gives x a / w at either rounding where x w is below s
 module _ (s w a : ℕ) (pos : 0 < w) (some : 0 < s) where
@@ -112,12 +136,15 @@ unfolding quotient
 quotient-add down b n d pos = mul-add-div-right pos b n
 quotient-add up b n d pos = let e : b * d + n + (d - 1) ≡ b * d + (n + (d - 1)) = omega arith in rw e (mul-add-div-right pos b (n + (d - 1)))
 
--- the balance: the whole and the part beyond it
-balance-is : (ρ : Rounding) (b n : ℕ) → b * (3 * par) < 2 ^ 64
-    → cond (leb (3 * par) n) b 0 + partBy ρ (2 ^ 64) b (quotient up (beyond n * 2 ^ 64) (3 * par)) ≡ quotient ρ (b * n) (3 * par)
-unfolding beyond
-balance-is ρ b n near = by (leb (3 * par) n) refl
+-- what is left: the whole and the part beyond it
+left-is : (ρ : Rounding) (growth servicing q b : ℕ) → b * (3 * par) < 2 ^ 64
+    → leftBy ρ (multipliersOf growth servicing q) b ≡ quotient ρ (b * (growth + 3 * q)) (3 * par)
+unfolding leftBy multipliersOf beyond
+left-is ρ growth servicing q b near = by (leb (3 * par) n) refl
   where
+    n : ℕ
+    n = growth + 3 * q
+
     by : (t : Bool) → leb (3 * par) n ≡ t
         → cond t b 0 + partBy ρ (2 ^ 64) b (quotient up (cond t (n - 3 * par) n * 2 ^ 64) (3 * par)) ≡ quotient ρ (b * n) (3 * par)
     by true e =
@@ -126,20 +153,54 @@ balance-is ρ b n near = by (leb (3 * par) n) refl
         ∙ ap (λ (v : ℕ). quotient ρ v (3 * par)) (sym (mul-add b (3 * par) (n - 3 * par)) ∙ ap (λ (v : ℕ). b * v) (add-sub-of-le (leb-true _ _ e))))
     by false e = rw (zero-add, part-is (2 ^ 64) (3 * par) n (lit< tt) (lit< tt) ρ b near)
 
--- the outflow
-outflow-is : (ρ : Rounding) (b n : ℕ) → b * par < 2 ^ 63 → partBy ρ (2 ^ 64) (2 * b) (quotient up (n * 2 ^ 63) par) ≡ quotient ρ (b * n) par
-outflow-is ρ b n near = part-halved ρ b (quotient up (n * 2 ^ 63) par) ∙ part-is (2 ^ 63) par n (lit< tt) (lit< tt) ρ b near
+-- a share in billionths, by its multiplier of twice the number
+share-is : (ρ : Rounding) (x n : ℕ) → x * par < 2 ^ 63 → partBy ρ (2 ^ 64) (2 * x) (parMultiplier n) ≡ quotient ρ (x * n) par
+share-is ρ x n near = part-halved ρ x (parMultiplier n) ∙ part-is (2 ^ 63) par n (lit< tt) (lit< tt) ρ x near
 
--- the month's multipliers give the run one month on
-pub step-is : (ρ : Rounding) (growth servicing q df : ℕ) (run : Run) → run .balance ≤ amountLimit
-    → stepBy ρ (multipliersOf growth servicing q) df run ≡ nextRun ρ growth servicing q df false run
-unfolding stepBy multipliersOf nextRun nextBalance nextFlow
-step-is ρ growth servicing q df run h =
-    rw (
-      balance-is ρ (run .balance) (growth + 3 * q) (omega (arith, h)),
-      outflow-is ρ (run .balance) (servicing + par - q) (omega (arith, h)),
-      add-zero,
-    )
+-- what is paid
+paid-is : (ρ : Rounding) (growth servicing q b : ℕ) → b * par < 2 ^ 63
+    → paidBy ρ (multipliersOf growth servicing q) b ≡ quotient ρ (b * (servicing + par - q)) par
+unfolding paidBy multipliersOf
+paid-is ρ growth servicing q b near = share-is ρ b (servicing + par - q) near
+
+-- a flow times its discount factor
+product-is : (ρ : Rounding) (n flow : ℕ) → Discounts ρ n → flow * par < 2 ^ 63 → productBy ρ n flow ≡ quotient ρ (flow * factorOf ρ n) par
+unfolding productBy
+product-is ρ n flow d near = rw d (share-is ρ flow (factorOf ρ n) near)
+
+-- a month within the limits, with what a table holds of its discount factor
+module _ (ρ : Rounding) (growth servicing q n : ℕ) (run : Run) (d : Discounts ρ n) (small : Small run growth servicing q (factorOf ρ n)) where
+  paid-le : quotient ρ (run .balance * (servicing + par - q)) par ≤ figureLimit
+  paid-le =
+      let share : servicing + par - q ≤ par + servicingLimit = omega (arith, small .servicing-le) in
+      quotient-le ρ _ par figureLimit (lit< tt) (omega (arith, mul-le-mul (small .balance-le) share))
+
+  left-le : quotient ρ (run .balance * (growth + 3 * q)) (3 * par) ≤ figureLimit
+  left-le =
+      let share : growth + 3 * q ≤ growthLimit + 3 * par = omega (arith, small .growth-le, small .survival-le) in
+      quotient-le ρ _ (3 * par) figureLimit (lit< tt) (omega (arith, mul-le-mul (small .balance-le) share))
+
+  -- the month's multipliers give the run one month on
+  pub step-is : stepBy ρ (multipliersOf growth servicing q) n run ≡ nextRun ρ growth servicing q (factorOf ρ n) false run
+  unfolding stepBy nextRun nextBalance nextFlow
+  step-is =
+      rw (
+        left-is ρ growth servicing q (run .balance) (omega (arith, small .balance-le)),
+        paid-is ρ growth servicing q (run .balance) (omega (arith, small .balance-le)),
+        product-is ρ n (quotient ρ (run .balance * (servicing + par - q)) par) d (omega (arith, paid-le)),
+        add-zero,
+      )
+
+  -- and the price after the last month
+  pub last-is : lastBy ρ (multipliersOf growth servicing q) n run ≡ nextRun ρ growth servicing q (factorOf ρ n) true run .price
+  unfolding lastBy nextRun nextBalance nextFlow
+  last-is =
+      rw (
+        left-is ρ growth servicing q (run .balance) (omega (arith, small .balance-le)),
+        paid-is ρ growth servicing q (run .balance) (omega (arith, small .balance-le)),
+        product-is ρ n (quotient ρ (run .balance * (servicing + par - q)) par + quotient ρ (run .balance * (growth + 3 * q)) (3 * par)) d
+            (omega (arith, paid-le, left-le)),
+      )
 
 -- a multiplier by the whole part and the rest of s / d
 pub multiplier-split : (n whole rest s d : ℕ) → 0 < d → whole * d + rest ≡ s → whole * n + (rest * n + (d - 1)) / d ≡ quotient up (n * s) d
@@ -155,32 +216,6 @@ left-fits n y hn hy = omega (arith, hn, hy)
 pub rest-le : (n : ℕ) → n < 3 * par → (709551616 * n + (3 * par - 1)) / (3 * par) ≤ 709551616
 unfolding quotient
 rest-le n h = quotient-le up (709551616 * n) (3 * par) 709551616 (lit< tt) (omega (arith, h))
-
--- the figures of a month fit too: of a part of twice a balance, of the parts of a balance, of a flow times its factor, of a price
-pub twice-le : (part b : ℕ) → part ≤ 2 * b → b ≤ amountLimit → part ≤ 9100000000
-twice-le part b h l = omega (arith, h, l)
-
-pub balance-fits : (kept part b : ℕ) → kept ≤ b → part ≤ b → b ≤ amountLimit → kept + part < 2 ^ 64
-balance-fits kept part b h g l = omega (arith, h, g, l)
-
-pub product-fits : (product : ℕ) → product ≤ 9100000000 * par → product < 2 ^ 64
-product-fits product h = omega (arith, h)
-
-pub product-limit : (product : ℕ) → product ≤ 9100000000 * par → product ≤ billionthsLimit
-product-limit product h = omega (arith, h)
-
-pub price-fits : (price flow : ℕ) → price ≤ amountLimit → flow ≤ 9100000000 → price + flow < 2 ^ 64
-price-fits price flow h g = omega (arith, h, g)
-
--- the upper run's, with 1 more
-pub part-fits : (part carried b : ℕ) → part ≤ b → carried ≤ 1 → b ≤ amountLimit → part + carried < 2 ^ 64
-part-fits part carried b h g l = omega (arith, h, g, l)
-
-pub upper-twice-le : (part b : ℕ) → part ≤ 2 * b → b ≤ amountLimit → part + 1 ≤ 9100000000
-upper-twice-le part b h l = omega (arith, h, l)
-
-pub upper-balance-fits : (kept part carried b : ℕ) → kept ≤ b → part ≤ b → carried ≤ 1 → b ≤ amountLimit → kept + (part + carried) < 2 ^ 64
-upper-balance-fits kept part carried b h g i l = omega (arith, h, g, i, l)
 
 -- something is paid of every balance that is serviced
 pub paid-pos : (growth servicing q : ℕ) → 0 < servicing → q ≤ par → 0 < multipliersOf growth servicing q .paid

@@ -2,10 +2,10 @@
 use crate::MonthMultipliers;
 use pricing::PAR;
 ghost use mathlib.Core.Path.{_≡_};
-ghost use Prim.Native.Nat.{_+_, _*_, _^_, _<_, _≤_};
+ghost use Prim.Native.Nat.{_+_, _*_, _-_, _^_, _<_, _≤_};
 ghost use Rattle.pricing.specs.Scales.{par, growthLimit, servicingLimit};
-ghost use Rattle.pricing.specs.Rounding.{up, quotient};
-ghost use Rattle.month_steps.specs.Multipliers.{beyond, carriedOf, multipliersOf};
+ghost use Rattle.pricing.specs.Rounding.{up, quotient, roundingOf};
+ghost use Rattle.month_steps.specs.Multipliers.{beyond, carriedOf, parMultiplier, multipliersOf, discountMultiplier};
 
 // The scale of a month's growth and survivors (01:56).
 const GROWTH_SCALE: u64 = 3 * PAR;
@@ -29,7 +29,7 @@ pub fn multipliers_of(growth: u64, servicing: u64, survival: u64) -> MonthMultip
     let whole = GROWTH_SCALE <= share;
     let left = left_multiplier(beyond_whole(share));
     MonthMultipliers {
-        paid: paid_multiplier(servicing + PAR - survival),
+        paid: par_multiplier(servicing + PAR - survival),
         left,
         carried: carried_of(left),
         whole,
@@ -55,10 +55,26 @@ fn carried_of(left: u64) -> u64
     if left == 0 { 0 } else { 1 }
 }
 
+// What a table holds of a discount factor in billionths: its multiplier, and in an upper table one less.
+pub fn discount_multiplier(factor: u64, up: bool) -> u64
+    requires { ⌜ factor ≤ par ⌝ }
+    ensures { λ r. ⌜ r ≡ discountMultiplier (roundingOf up) factor ⌝ }
+{
+    let multiplier = par_multiplier(factor);
+    if up { one_less(multiplier) } else { multiplier }
+}
+
+// One less than a number, or 0.
+fn one_less(n: u64) -> u64
+    ensures { λ r. ⌜ r ≡ n - 1 ⌝ }
+{
+    if n == 0 { 0 } else { n - 1 }
+}
+
 // n / 10^9 in units of 1 / 2^63, rounded up.
-fn paid_multiplier(n: u64) -> u64
+fn par_multiplier(n: u64) -> u64
     requires { ⌜ n ≤ par + servicingLimit ⌝ }
-    ensures { λ r. ⌜ r ≡ quotient up (n * 2 ^ 63) par ⌝ }
+    ensures { λ r. ⌜ r ≡ parMultiplier n ⌝ }
 {
     PAR_WHOLE * n + (PAR_REST * n + (PAR - 1)) / PAR
 }

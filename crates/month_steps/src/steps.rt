@@ -1,43 +1,112 @@
-// The run one month on, by multipliers: a month in which the balance is not yet paid.
+// The run one month on, by multipliers. `discount` is what a table holds of the month's discount factor.
 use crate::MonthMultipliers;
 use pricing::Run;
 use pricing::products::upper_half;
-use pricing::rounding::billionths;
 ghost use mathlib.Core.Path.{_≡_};
 ghost use mathlib.Core.Bool.{cond};
-ghost use Prim.Native.Nat.{_<_, _≤_};
-ghost use Rattle.pricing.specs.Scales.{par, amountLimit};
+ghost use Prim.Native.Nat.{_*_, _<_, _≤_};
+ghost use Rattle.pricing.specs.Scales.{amountLimit};
 ghost use Rattle.pricing.specs.Rounding.{down, up};
-ghost use Rattle.month_steps.specs.Multipliers.{carriedOf, stepBy};
+ghost use Rattle.month_steps.specs.Multipliers.{carriedOf, paidBy, leftBy, productBy, stepBy, lastBy, monthLimit};
 
-// The lower run.
-pub fn next_lower(run: Run, m: MonthMultipliers, factor: u64) -> Run
-    requires { ⌜ (run .balance ≤ amountLimit) × (run .price ≤ amountLimit) × (factor ≤ par) ⌝ }
-    ensures { λ r. ⌜ r ≡ stepBy down m factor run ⌝ }
+// The lower run after a month in which the balance is not yet paid.
+pub fn next_lower(run: Run, m: MonthMultipliers, discount: u64) -> Run
+    requires { ⌜ (run .balance ≤ amountLimit) × (run .price ≤ amountLimit) ⌝ }
+    ensures { λ r. ⌜ r ≡ stepBy down m discount run ⌝ }
 {
-    let outflow = upper_half(2 * run.balance, m.paid);
-    let left = upper_half(run.balance, m.left);
+    let paid = lower_paid(run.balance, m);
+    let left = lower_left(run.balance, m);
     Run {
-        balance: kept_of(run.balance, m.whole) + left,
-        price: run.price + billionths(outflow * factor, false),
+        balance: left,
+        price: run.price + lower_product(paid, discount),
     }
 }
 
-// The upper run: a part of something is 1 more than by one less.
-pub fn next_upper(run: Run, m: MonthMultipliers, factor: u64) -> Run
-    requires { ⌜ (run .balance ≤ amountLimit) × (run .price ≤ amountLimit) × (factor ≤ par) ⌝ }
+// The lower price after the last month, in which what is left is paid.
+pub fn last_lower(run: Run, m: MonthMultipliers, discount: u64) -> u64
+    requires { ⌜ (run .balance ≤ amountLimit) × (run .price ≤ amountLimit) ⌝ }
+    ensures { λ r. ⌜ r ≡ lastBy down m discount run ⌝ }
+{
+    let paid = lower_paid(run.balance, m);
+    let left = lower_left(run.balance, m);
+    run.price + lower_product(paid + left, discount)
+}
+
+// The upper run after a month in which the balance is not yet paid.
+pub fn next_upper(run: Run, m: MonthMultipliers, discount: u64) -> Run
+    requires { ⌜ (run .balance ≤ amountLimit) × (run .price ≤ amountLimit) ⌝ }
     requires { ⌜ (0 < m .paid) × (m .carried ≡ carriedOf (m .left)) ⌝ }
-    ensures { λ r. ⌜ r ≡ stepBy up m factor run ⌝ }
+    ensures { λ r. ⌜ r ≡ stepBy up m discount run ⌝ }
 {
     if run.balance == 0 {
         return run;
     }
-    let outflow = upper_half(2 * run.balance, m.paid - 1) + 1;
-    let left = upper_half(run.balance, m.left - m.carried) + m.carried;
+    let paid = upper_paid(run.balance, m);
+    let left = upper_left(run.balance, m);
     Run {
-        balance: kept_of(run.balance, m.whole) + left,
-        price: run.price + billionths(outflow * factor, true),
+        balance: left,
+        price: run.price + upper_product(paid, discount),
     }
+}
+
+// The upper price after the last month, in which what is left is paid.
+pub fn last_upper(run: Run, m: MonthMultipliers, discount: u64) -> u64
+    requires { ⌜ (run .balance ≤ amountLimit) × (run .price ≤ amountLimit) ⌝ }
+    requires { ⌜ (0 < m .paid) × (m .carried ≡ carriedOf (m .left)) ⌝ }
+    ensures { λ r. ⌜ r ≡ lastBy up m discount run ⌝ }
+{
+    if run.balance == 0 {
+        return run.price;
+    }
+    let paid = upper_paid(run.balance, m);
+    let left = upper_left(run.balance, m);
+    run.price + upper_product(paid + left, discount)
+}
+
+// What a month pays of a balance, and what it leaves.
+fn lower_paid(balance: u64, m: MonthMultipliers) -> u64
+    requires { ⌜ balance ≤ amountLimit ⌝ }
+    ensures { λ r. ⌜ (r ≡ paidBy down m balance) × (r ≤ monthLimit) ⌝ }
+{
+    upper_half(2 * balance, m.paid)
+}
+
+fn lower_left(balance: u64, m: MonthMultipliers) -> u64
+    requires { ⌜ balance ≤ amountLimit ⌝ }
+    ensures { λ r. ⌜ (r ≡ leftBy down m balance) × (r ≤ monthLimit) ⌝ }
+{
+    kept_of(balance, m.whole) + upper_half(balance, m.left)
+}
+
+// The same of the upper run, where a part of something is 1 more than by one less.
+fn upper_paid(balance: u64, m: MonthMultipliers) -> u64
+    requires { ⌜ (balance ≤ amountLimit) × (0 < balance) × (0 < m .paid) ⌝ }
+    ensures { λ r. ⌜ (r ≡ paidBy up m balance) × (r ≤ monthLimit) × (0 < r) ⌝ }
+{
+    upper_half(2 * balance, m.paid - 1) + 1
+}
+
+fn upper_left(balance: u64, m: MonthMultipliers) -> u64
+    requires { ⌜ (balance ≤ amountLimit) × (0 < balance) × (m .carried ≡ carriedOf (m .left)) ⌝ }
+    ensures { λ r. ⌜ (r ≡ leftBy up m balance) × (r ≤ monthLimit) ⌝ }
+{
+    kept_of(balance, m.whole) + (upper_half(balance, m.left - m.carried) + m.carried)
+}
+
+// A flow times a discount factor.
+fn lower_product(flow: u64, discount: u64) -> u64
+    requires { ⌜ flow ≤ 2 * monthLimit ⌝ }
+    ensures { λ r. ⌜ (r ≡ productBy down discount flow) × (r ≤ 4 * monthLimit) ⌝ }
+{
+    upper_half(2 * flow, discount)
+}
+
+// The same of the upper run: an upper table holds one less, and a part of something is 1 more.
+fn upper_product(flow: u64, discount: u64) -> u64
+    requires { ⌜ (0 < flow) × (flow ≤ 2 * monthLimit) ⌝ }
+    ensures { λ r. ⌜ (r ≡ productBy up discount flow) × (r ≤ 5 * monthLimit) ⌝ }
+{
+    upper_half(2 * flow, discount) + 1
 }
 
 // The balance where it stays whole beside a part of it.

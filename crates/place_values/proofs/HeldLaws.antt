@@ -1,8 +1,10 @@
 -- The values of what a place holds under a filing: lower ≤ exact ≤ upper, their widths and their limit (01:58), and that the code's values are these.
 -- Assumes nothing.
 use Prim.Native.Nat.{ℕ, suc, _+_, _*_, _-_, _≤_, _<_}
-use mathlib.Core.Path.{_≡_}
-use native.Mathlib.Nat.{mul-le-mul}
+use mathlib.Core.Path.{_≡_, sym, _∙_}
+use mathlib.Core.Logic.{⊎-elim}
+use mathlib.Core.List.{List}
+use native.Mathlib.Nat.{mul-le-mul, eq-zero-or-pos}
 use native.Mathlib.Omega.{arith}
 use lib.Dec.{lit<}
 use Rattle.fraction.specs.Fraction.{Encloses}
@@ -13,6 +15,7 @@ use Rattle.contents.specs.Contents.{cdYield}
 use Rattle.contents.specs.Valid.{Valid}
 use Rattle.sub_balances.specs.declared.SubBalance.{SubBalance}
 use Rattle.sub_balances.specs.PlaceOrder.{positionOf}
+use Rattle.withdrawal.specs.Tiers.{TierTable}
 use Rattle.totals.specs.RowTotals.{valueLimit}
 use Rattle.pricing.specs.Bounded.{Bounded}
 use Rattle.pricing.specs.Scales.{valueScale}
@@ -22,11 +25,15 @@ use Rattle.pricing.proofs.EnclosureLaws.{value-encloses}
 use Rattle.pricing.proofs.WidthLaws.{value-width}
 use Rattle.pricing.proofs.RoundingLaws.{quotient-le}
 use Rattle.pricing.proofs.LimitLaws.{price-limit}
+use Rattle.deposits.specs.declared.Deposit.{Deposit}
 use Rattle.deposits.specs.DepositTerms.{sheetYield}
 use Rattle.deposits.specs.Inner.Factors.{factorsBy, WithinRates}
 use Rattle.deposits.specs.Inner.Prices.{shiftedPath, DepositLimits}
+use Rattle.deposits.specs.Inner.Discounts.{HoldsFactors, factorsOf}
+use Rattle.deposits.specs.Inner.Values.{listedValues}
 use Rattle.deposits.proofs.TermsLaws.{terms-of-bounded}
-use Rattle.deposits.proofs.ValueLaws.{values-are}
+use Rattle.deposits.proofs.ValueLaws.{values-are, no-values}
+use Rattle.deposits.proofs.DiscountLaws.{values-by}
 use Rattle.place_values.specs.PlaceTerms.{depositAt, rateAt, filingTiers, termsHeld, monthYield}
 use Rattle.place_values.specs.HeldValues.{exactHeld, valueHeld, boundsHeld, valuesHeld}
 use Rattle.place_values.specs.Inner.PlaceRows.{listedHeld}
@@ -69,3 +76,19 @@ module _ (k : Contents) (place : ℕ) (held : SubBalance) where
     unfolding listedHeld valuesHeld boundsHeld valueHeld termsHeld rateAt monthYield cdYield shiftedPath sheetYield depositAt
     held-are longest reach =
         values-are (filingTiers k) (k .yields) longest (held .balance) (depositAt place held) (k .rates) (positionOf place .column) (limits .months-le) reach
+
+-- a zero balance has the same values by any factors
+none-same : (tiers : TierTable) (balance : ℕ) (d : Deposit) (rates : List ℕ) (column : ℕ) (lower upper below above : List ℕ) → balance ≡ 0
+    → listedValues tiers balance d rates column below above ≡ listedValues tiers balance d rates column lower upper
+none-same tiers balance d rates column lower upper below above e = rw e (sym (no-values tiers d rates column below above) ∙ no-values tiers d rates column lower upper)
+
+-- what a place holds, valued by tables of the multipliers of lists' factors that reach as far as its months do if it has a balance: the values by the lists
+pub held-by : (place : ℕ) (held : SubBalance) (rates : List ℕ) (tiers : TierTable) (lower upper below above : List ℕ)
+    → (0 < held .balance → HoldsFactors down (depositAt place held .months) lower below × HoldsFactors up (depositAt place held .months) upper above)
+    → listedHeld held place rates tiers (factorsOf down (depositAt place held .months) below) (factorsOf up (depositAt place held .months) above)
+    ≡ listedHeld held place rates tiers lower upper
+unfolding listedHeld
+held-by place held rates tiers lower upper below above holds =
+    ⊎-elim (λ e. none-same tiers (held .balance) (depositAt place held) rates (positionOf place .column) lower upper _ _ e)
+    (λ pos. values-by tiers (held .balance) (depositAt place held) rates (positionOf place .column) lower upper below above (holds pos .0) (holds pos .1))
+    (eq-zero-or-pos (held .balance))

@@ -1,7 +1,7 @@
 // The fifteen numbers of a place: its balance, then its lower and upper value in each scenario.
 use deposits::Deposit;
 use deposits::RatePaths;
-use deposits::factors::FactorTable;
+use deposits::factors::MultiplierTable;
 use deposits::values::values_of;
 use lists::write;
 use schedule::positions::position;
@@ -12,23 +12,26 @@ ghost use Prim.Native.Nat.{_≤_, _<_};
 ghost use Rattle.schedule.specs.Limits.{balanceLimit};
 ghost use Rattle.sub_balances.specs.PlaceOrder.{subBalanceCount};
 ghost use Rattle.withdrawal.specs.Inner.TierArrays.{tierTable, Usable};
+ghost use Rattle.pricing.specs.Rounding.{down, up};
 ghost use Rattle.deposits.specs.Inner.Factors.{WithinRates};
-ghost use Rattle.deposits.specs.Inner.Prices.{DepositLimits, AtMostPar};
+ghost use Rattle.deposits.specs.Inner.Prices.{DepositLimits};
+ghost use Rattle.deposits.specs.Inner.Discounts.{factorsOf, Discounting};
 ghost use Rattle.place_values.specs.PlaceTerms.{depositAt};
 ghost use Rattle.place_values.specs.Inner.PlaceRows.{listedHeld, rowOf};
 
-// The row of what place 0 to 35 holds, at the retail rates of a filing.
+// The row of what place 0 to 35 holds, at the retail rates of a filing. The tables hold the multipliers of the discount factors.
 pub fn row_of(
     held: SubBalance,
     place: usize,
     rates: &RatePaths,
     tiers: WithdrawalTiers,
-    lower: &FactorTable,
-    upper: &FactorTable,
+    lower: &MultiplierTable,
+    upper: &MultiplierTable,
 ) -> [u64; 15]
     requires { ⌜ (place < subBalanceCount) × (held .balance ≤ balanceLimit) × DepositLimits (depositAt place held) ⌝ }
-    requires { ⌜ WithinRates (now rates) × Usable tiers × AtMostPar (now lower) × AtMostPar (now upper) ⌝ }
-    ensures { λ r. ⌜ r ≡ rowOf held place (now (rates .entry)) (tierTable tiers) (now (lower .entry)) (now (upper .entry)) ⌝ }
+    requires { ⌜ WithinRates (now rates) × Usable tiers ⌝ }
+    requires { ⌜ (0 < held .balance → Discounting down (depositAt place held .months) (now lower) × Discounting up (depositAt place held .months) (now upper)) ⌝ }
+    ensures { λ r. ⌜ r ≡ rowOf held place (now (rates .entry)) (tierTable tiers) (factorsOf down (depositAt place held .months) (now (lower .entry))) (factorsOf up (depositAt place held .months) (now (upper .entry))) ⌝ }
 {
     if held.balance == 0 {
         return [0; 15];
@@ -45,12 +48,13 @@ pub fn held_values(
     place: usize,
     rates: &RatePaths,
     tiers: WithdrawalTiers,
-    lower: &FactorTable,
-    upper: &FactorTable,
+    lower: &MultiplierTable,
+    upper: &MultiplierTable,
 ) -> [u64; 14]
     requires { ⌜ (place < subBalanceCount) × (held .balance ≤ balanceLimit) × DepositLimits (depositAt place held) ⌝ }
-    requires { ⌜ WithinRates (now rates) × Usable tiers × AtMostPar (now lower) × AtMostPar (now upper) ⌝ }
-    ensures { λ r. ⌜ r ≡ listedHeld held place (now (rates .entry)) (tierTable tiers) (now (lower .entry)) (now (upper .entry)) ⌝ }
+    requires { ⌜ WithinRates (now rates) × Usable tiers ⌝ }
+    requires { ⌜ (0 < held .balance → Discounting down (depositAt place held .months) (now lower) × Discounting up (depositAt place held .months) (now upper)) ⌝ }
+    ensures { λ r. ⌜ r ≡ listedHeld held place (now (rates .entry)) (tierTable tiers) (factorsOf down (depositAt place held .months) (now (lower .entry))) (factorsOf up (depositAt place held .months) (now (upper .entry))) ⌝ }
 {
     let d = deposit_at(place, held);
     let column = position(place / 4).column;

@@ -1,18 +1,18 @@
 -- A division by an unchanging number is a multiplication and a division by a power of 2. Assumes nothing.
 use Prim.Native.Nat.{ℕ, zero, suc, _+_, _*_, _-_, _/_, _^_, _≤_, _<_}
-use mathlib.Core.Path.{_≡_, refl, ap, _∙_}
+use mathlib.Core.Path.{_≡_, refl, sym}
 use mathlib.Core.List.{List}
 use lib.Dec.{lit<, lit≤}
 use lib.ListN.{getD, replicate}
-use native.Mathlib.Nat.{le-antisymm, mul-assoc, mul-le-mul, mul-le-mul-left, mul-le-mul-right, mul-lt-mul-of-pos-left, mul-lt-mul-of-pos-right, lt-of-mul-lt-mul-right, le-of-suc-le-suc, div-mul-le-self, lt-div-mul-add, mul-div-mul-left, div-div-eq-div-mul, mul-div-cancel-left, mul-one}
+use native.Mathlib.Nat.{le-refl, le-antisymm, mul-zero, mul-assoc, mul-le-mul, mul-le-mul-left, mul-le-mul-right, mul-lt-mul-of-pos-left, mul-lt-mul-of-pos-right, lt-of-mul-lt-mul-right, le-of-suc-le-suc, div-mul-le-self, lt-div-mul-add, mul-div-mul-left}
 use native.Mathlib.Omega.{arith}
-use Rattle.lists.specs.Tables.{tableFrom}
+use Rattle.lists.specs.Tables.{table, tableFrom}
 use Rattle.lists.proofs.TableLaws.{table-getD, table-ext, table-le}
 use Rattle.schedule.specs.Shift.{shiftedLimit, scenarioCount}
 use Rattle.pricing.specs.Scales.{par, rateScale}
 use Rattle.pricing.specs.Rounding.{Rounding, down, up, quotient}
 use Rattle.pricing.specs.Run.{discountBy}
-use Rattle.pricing.specs.Inner.Multipliers.{multiplierScale, multiplierBy, multipliersBy, scaledBy, raisedBy, twiceBy, twiceAllBy, twiceEach, halfEach, discountsBy, AtMost, billionthsLimit}
+use Rattle.pricing.specs.Inner.Multipliers.{multiplierScale, multiplierBy, multipliersBy, nextBy, nextAllBy, chainBy, chainedBy, factorBy, discountsBy, AtMost}
 use Rattle.pricing.proofs.RoundingLaws.{ceiling-ge, ceiling-lt}
 use Rattle.pricing.proofs.LimitLaws.{discount-limit}
 
@@ -57,28 +57,18 @@ module _ (x z : ℕ) (hx : x ≤ par) (hz : z ≤ shiftedLimit) where
   brought-le : x * (rateScale + z) ≤ par * (rateScale + shiftedLimit)
   brought-le = let h : rateScale + z ≤ rateScale + shiftedLimit = omega arith in mul-le-mul hx h
 
-  lower-scaled : scaledBy down x (multiplierBy down z) ≡ quotient down (x * rateScale) (rateScale + z)
-  unfolding scaledBy multiplierBy
+  lower-scaled : x * (rateScale * suc part) / multiplierScale ≡ quotient down (x * rateScale) (rateScale + z)
   lower-scaled =
-      floor-near x rateScale (rateScale + z) multiplierScale (60000 * suc part) (omega arith) (omega arith) (omega (arith, part-gt))
+      floor-near x rateScale (rateScale + z) multiplierScale (rateScale * suc part) (omega arith) (omega arith) (omega (arith, part-gt))
       (omega (arith, mul-le-mul-left x part-le, brought-le))
 
-  upper-scaled : 0 < x → scaledBy up x (multiplierBy up z) ≡ quotient up (x * rateScale) (rateScale + z)
-  unfolding scaledBy multiplierBy
+  upper-scaled : 0 < x → suc (x * (rateScale * part) / multiplierScale) ≡ quotient up (x * rateScale) (rateScale + z)
   upper-scaled more =
-      ceiling-near x rateScale (rateScale + z) multiplierScale (60000 * part) (omega arith) (omega arith) more (omega (arith, part-le))
+      ceiling-near x rateScale (rateScale + z) multiplierScale (rateScale * part) (omega arith) (omega arith) more (omega (arith, part-le))
       (omega (arith, mul-le-mul-left x part-gt, brought-le))
 
--- a division by 10^9: the multiplier is too high by 807,006,208 / 10^9
-pub by-billion : (x : ℕ) → x ≤ billionthsLimit + par → x * 9903520314283042200 / 2 ^ 64 / 2 ^ 29 ≡ x / par
-unfolding quotient
-by-billion x h =
-    div-div-eq-div-mul (x * 9903520314283042200) (2 ^ 64) (2 ^ 29)
-    ∙ floor-near x 1 par (2 ^ 93) 9903520314283042200 (lit< tt) (lit< tt) (lit≤ tt) (omega arith)
-    ∙ ap (λ (n : ℕ). n / par) (mul-one x)
-
 -- an upper factor is never 0
-discount-pos : (z n : ℕ) → 0 < discountBy up z n
+pub discount-pos : (z n : ℕ) → 0 < discountBy up z n
 unfolding discountBy
 discount-pos z zero = lit< tt
 discount-pos z (suc n) =
@@ -90,57 +80,89 @@ discount-pos z (suc n) =
     pos-of-mul zero w h = absurd (omega arith)
     pos-of-mul (suc q) w h = omega arith
 
-factor-scaled : (ρ : Rounding) (z n : ℕ) → z ≤ shiftedLimit → scaledBy ρ (discountBy ρ z n) (multiplierBy ρ z) ≡ discountBy ρ z (suc n)
-unfolding discountBy
-factor-scaled down z n hz = lower-scaled (discountBy down z n) z (discount-limit z n down) hz
-factor-scaled up z n hz = upper-scaled (discountBy up z n) z (discount-limit z n up) hz (discount-pos z n)
+-- a chain by the multiplier of a rate has its factors; a rate of 0 leaves a lower factor at par
+lower-chain : (z n : ℕ) → suc z ≤ shiftedLimit → chainBy down (multiplierBy down (suc z)) n ≡ discountBy down (suc z) n
+unfolding chainBy nextBy multiplierBy discountBy
+lower-chain z zero h = refl
+lower-chain z (suc n) h = rw (lower-chain z n h) (lower-scaled (discountBy down (suc z) n) (suc z) (discount-limit (suc z) n down) h)
+
+upper-chain : (z n : ℕ) → z ≤ shiftedLimit → chainBy up (multiplierBy up z) n ≡ discountBy up z n
+unfolding chainBy nextBy multiplierBy discountBy
+upper-chain z zero h = refl
+upper-chain z (suc n) h = rw (upper-chain z n h) (upper-scaled (discountBy up z n) z (discount-limit z n up) h (discount-pos z n))
+
+at-par : (n : ℕ) → discountBy down 0 n ≡ par
+unfolding discountBy quotient
+at-par zero = refl
+at-par (suc n) = rw (at-par n)
+
+factor-is : (ρ : Rounding) (z n : ℕ) → z ≤ shiftedLimit → factorBy ρ z (chainBy ρ (multiplierBy ρ z) n) ≡ discountBy ρ z n
+unfolding factorBy
+factor-is down zero n h = sym (at-par n)
+factor-is down (suc z) n h = lower-chain z n h
+factor-is up z n h = upper-chain z n h
+
+-- no chain is above par
+no-chain : (n : ℕ) → chainBy down 0 n ≤ par
+unfolding chainBy nextBy
+no-chain zero = le-refl par
+no-chain (suc n) = rw (mul-zero (chainBy down 0 n)) (lit≤ tt)
+
+chain-le : (ρ : Rounding) (z n : ℕ) → z ≤ shiftedLimit → chainBy ρ (multiplierBy ρ z) n ≤ par
+unfolding multiplierBy
+chain-le down zero n h = no-chain n
+chain-le down (suc z) n h = rw (lower-chain z n h) (discount-limit (suc z) n down)
+chain-le up z n h = rw (upper-chain z n h) (discount-limit z n up)
 
 -- 2 x m / 2^64 is x m / 2^63
-pub halved : (x m : ℕ) → 2 * x * m / 2 ^ 64 ≡ x * m / multiplierScale
-halved x m = rw (mul-assoc 2 x m) (mul-div-mul-left (x * m) multiplierScale (lit< tt))
+pub halved : (x m : ℕ) → 2 * x * m / 2 ^ 64 ≡ x * m / 2 ^ 63
+halved x m = rw (mul-assoc 2 x m) (mul-div-mul-left (x * m) (2 ^ 63) (lit< tt))
 
 -- seven rates
-pub discounts-at-most : (ρ : Rounding) (rates : List ℕ) (n : ℕ) → AtMost par (discountsBy ρ rates n)
-unfolding discountsBy
-discounts-at-most ρ rates n = table-le 0 scenarioCount _ par (λ j l u. discount-limit (getD rates j 0) n ρ)
+pub chained-at-most : (ρ : Rounding) (rates : List ℕ) → AtMost shiftedLimit rates → (n : ℕ) → AtMost par (chainedBy ρ (multipliersBy ρ rates) n)
+unfolding chainedBy multipliersBy
+chained-at-most ρ rates h n =
+    table-le 0 scenarioCount _ par
+    (λ j l u. rw (table-getD scenarioCount (λ (i : ℕ). multiplierBy ρ (getD rates i 0)) j 0 (omega arith)) (chain-le ρ (getD rates j 0) n (h j)))
 
--- no double is above twice par
-pub doubles-at-most : (ρ : Rounding) (rates : List ℕ) (n : ℕ) → AtMost (2 * par) (twiceEach (discountsBy ρ rates n))
-unfolding twiceEach
-doubles-at-most ρ rates n = table-le 0 scenarioCount _ (2 * par) (λ j l u. mul-le-mul-left 2 (discounts-at-most ρ rates n j))
+pub chained-zero : (ρ : Rounding) (ms : List ℕ) → replicate scenarioCount par ≡ chainedBy ρ ms 0
+unfolding chainedBy chainBy tableFrom
+chained-zero ρ ms = refl
 
-pub doubles-zero : (ρ : Rounding) (rates : List ℕ) → replicate scenarioCount (2 * par) ≡ twiceEach (discountsBy ρ rates 0)
-unfolding twiceEach discountsBy tableFrom discountBy
-doubles-zero ρ rates = refl
+-- one factor more in each of them
+pub chained-suc : (ρ : Rounding) (ms : List ℕ) (n : ℕ) → nextAllBy ρ (chainedBy ρ ms n) ms ≡ chainedBy ρ ms (suc n)
+unfolding nextAllBy chainedBy chainBy
+chained-suc ρ ms n =
+    table-ext scenarioCount _ _ (λ i l. rw (table-getD scenarioCount (λ (j : ℕ). chainBy ρ (getD ms j 0) n) i 0 l))
 
--- twice a factor times its multiplier
-twice-scaled : (ρ : Rounding) (x m : ℕ) → twiceBy (raisedBy ρ) (2 * x) m ≡ 2 * scaledBy ρ x m
-unfolding raisedBy twiceBy scaledBy
-twice-scaled down x m = omega (arith, halved x m)
-twice-scaled up x m = omega (arith, halved x m)
-
--- one factor more at each of them
-pub doubles-suc : (ρ : Rounding) (rates : List ℕ) (n : ℕ) → AtMost shiftedLimit rates
-    → twiceAllBy (raisedBy ρ) (twiceEach (discountsBy ρ rates n)) (multipliersBy ρ rates) ≡ twiceEach (discountsBy ρ rates (suc n))
-unfolding twiceAllBy twiceEach discountsBy multipliersBy
-doubles-suc ρ rates n h =
+-- the factors that seven chains have
+pub chained-is : (ρ : Rounding) (rates : List ℕ) → AtMost shiftedLimit rates → (n : ℕ)
+    → table scenarioCount (λ (i : ℕ). factorBy ρ (getD rates i 0) (getD (chainedBy ρ (multipliersBy ρ rates) n) i 0)) ≡ discountsBy ρ rates n
+unfolding chainedBy multipliersBy discountsBy
+chained-is ρ rates h n =
     table-ext scenarioCount _ _
     (λ i l. rw (
-      table-getD scenarioCount (λ (j : ℕ). 2 * getD (discountsBy ρ rates n) j 0) i 0 l,
-      table-getD scenarioCount (λ (j : ℕ). discountBy ρ (getD rates j 0) n) i 0 l,
-      table-getD scenarioCount (λ (j : ℕ). discountBy ρ (getD rates j 0) (suc n)) i 0 l,
+      table-getD scenarioCount (λ (j : ℕ). chainBy ρ (getD (multipliersBy ρ rates) j 0) n) i 0 l,
       table-getD scenarioCount (λ (j : ℕ). multiplierBy ρ (getD rates j 0)) i 0 l,
-      twice-scaled ρ (discountBy ρ (getD rates i 0) n) (multiplierBy ρ (getD rates i 0)),
-      factor-scaled ρ (getD rates i 0) n (h i),
-    ))
+    )
+    (factor-is ρ (getD rates i 0) n (h i)))
 
--- the halves are the factors
-pub doubles-half : (ρ : Rounding) (rates : List ℕ) (n : ℕ) → halfEach (twiceEach (discountsBy ρ rates n)) ≡ discountsBy ρ rates n
-unfolding halfEach twiceEach discountsBy
-doubles-half ρ rates n =
+pub upper-chained : (rates : List ℕ) → AtMost shiftedLimit rates → (n : ℕ) → chainedBy up (multipliersBy up rates) n ≡ discountsBy up rates n
+unfolding chainedBy multipliersBy discountsBy
+upper-chained rates h n =
     table-ext scenarioCount _ _
-    (λ i l. rw (
-      table-getD scenarioCount (λ (j : ℕ). 2 * getD (discountsBy ρ rates n) j 0) i 0 l,
-      table-getD scenarioCount (λ (j : ℕ). discountBy ρ (getD rates j 0) n) i 0 l,
-      mul-div-cancel-left (discountBy ρ (getD rates i 0) n) {n = 2} (lit< tt),
-    ))
+    (λ i l. rw (table-getD scenarioCount (λ (j : ℕ). multiplierBy up (getD rates j 0)) i 0 l) (upper-chain (getD rates i 0) n (h i)))
+
+-- the multiplier of a lower factor from that of the upper one: 120,000 more, which is below 2^64. With p the quotient 120,000 p + p ≤ (120,000 + z) p < 2^64,
+-- and p is above 120,000
+pub one-part-more : (z : ℕ) → multiplierBy up (suc z) + rateScale ≡ multiplierBy down (suc z)
+unfolding multiplierBy
+one-part-more z = omega arith
+
+pub lower-fits : (z : ℕ) → suc z ≤ shiftedLimit → multiplierBy up (suc z) + rateScale < 2 ^ 64
+unfolding multiplierBy
+lower-fits z h =
+    let p = (2 ^ 64 - 1) / (rateScale + suc z) in
+    let least : 1 ≤ suc z = omega arith in
+    let most : rateScale + suc z ≤ rateScale + shiftedLimit = omega arith in
+    omega (arith, part-le 0 (suc z) (lit≤ tt) h, part-gt 0 (suc z) (lit≤ tt) h, mul-le-mul-left p least, mul-le-mul-left p most)

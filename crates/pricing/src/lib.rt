@@ -1,8 +1,8 @@
 // Prices of certificate deposits by the monthly run, at either rounding.
 pub mod discounting;
-pub mod months;
 pub mod products;
-pub mod rounding;
+mod rounding;
+pub mod values;
 
 // The opening balance, and the scale of balances, flows, survivals, discount factors and prices: billionths.
 pub const PAR: u64 = 1_000_000_000;

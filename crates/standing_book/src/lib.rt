@@ -6,7 +6,7 @@ use book_places::empty_book;
 use book_places::refusal;
 use book_places::with_place;
 use book_sheets::values_in;
-use deposits::factors::factor_table;
+use deposits::factors::fill_factors;
 use filing::read;
 use place_limits::fits;
 use sub_balances::NO_PLACE;
@@ -20,8 +20,9 @@ pub fn open(filing: &[u8]) -> Answered
 {
     let reading = read(filing);
     let k = reading.contents;
-    let lower = factor_table(&k.yields, 120, false);
-    let upper = factor_table(&k.yields, 120, true);
+    let mut lower = [0u64; 840];
+    let mut upper = [0u64; 840];
+    fill_factors(&k.yields, 120, &mut lower, &mut upper);
     let rates = k.rates;
     let tiers = k.tiers;
     let answer = reading.answer;

@@ -1,14 +1,16 @@
 -- The row of a place with the discount factors of the lists has the numbers of the definitions, none above the limit of a value. Assumes nothing.
-use Prim.Native.Nat.{ℕ, zero, suc, _≤_, _<_}
+use Prim.Native.Nat.{ℕ, zero, suc, _*_, _≤_, _<_, zero-le}
 use mathlib.Core.Path.{_≡_, ap}
 use mathlib.Core.Logic.{⊎-elim}
+use mathlib.Core.Bool.{Bool, true, false, cond}
 use mathlib.Core.List.{List, _∷_}
-use native.Mathlib.Nat.{le-refl, le-trans, not-suc-le-zero, le-of-suc-le-suc, le-max-left, le-max-right, eq-or-lt-of-le, ne-of-gt}
+use native.Mathlib.Nat.{le-refl, le-trans, not-suc-le-zero, le-of-suc-le-suc, le-max-left, le-max-right, max-le, eq-or-lt-of-le, ne-of-gt}
 use native.Mathlib.Omega.{arith}
+use lib.Dec.{eqb}
 use lib.ListN.{getD}
 use borrow.Author.Tests.{ne-eqb}
 use Rattle.lists.proofs.TableLaws.{table-getD, joined-le}
-use Rattle.schedule.specs.Limits.{balanceLimit}
+use Rattle.schedule.specs.Limits.{balanceLimit, monthsLimit}
 use Rattle.contents.specs.declared.Contents.{Contents}
 use Rattle.contents.specs.Valid.{Valid}
 use Rattle.sub_balances.specs.declared.SubBalance.{SubBalance}
@@ -20,8 +22,10 @@ use Rattle.withdrawal.specs.declared.WithdrawalTiers.{WithdrawalTiers}
 use Rattle.withdrawal.specs.Inner.TierArrays.{tierTable, Usable}
 use Rattle.pricing.specs.Rounding.{Rounding, down, up}
 use Rattle.deposits.specs.Inner.Factors.{factorsBy}
-use Rattle.deposits.specs.Inner.Prices.{DepositLimits, AtMostPar}
-use Rattle.deposits.proofs.FactorLaws.{factors-at-most-par}
+use Rattle.deposits.specs.Inner.Prices.{DepositLimits}
+use Rattle.deposits.specs.Inner.Discounts.{HoldsFactors, factorsOf, Discounting}
+use Rattle.deposits.proofs.FactorLaws.{factors-at-most-par, upper-factor-pos}
+use Rattle.deposits.proofs.DiscountLaws.{lower-discounting, upper-discounting}
 use Rattle.place_values.specs.PlaceTerms.{depositAt, filingTiers}
 use Rattle.valuation.specs.Run.{valueAt}
 use Rattle.valuation.specs.Numbers.{valuesOf, placeNumbers}
@@ -30,7 +34,7 @@ use Rattle.place_values.specs.HeldValues.{boundsHeld, valuesHeld}
 use Rattle.place_values.specs.Inner.PlaceRows.{rowOf}
 use Rattle.totals.specs.RowTotals.{valueLimit}
 use Rattle.place_values.proofs.PlaceTermsLaws.{deposit-limits}
-use Rattle.place_values.proofs.HeldLaws.{held-le, held-are}
+use Rattle.place_values.proofs.HeldLaws.{held-le, held-are, held-by}
 
 -- a place's term is at most the longest
 longest-le : (ps : List SubBalance) (n i : ℕ) → i < n → termOf (placeIn ps i) ≤ longestTo ps n
@@ -39,6 +43,12 @@ longest-le ps zero i h = absurd (not-suc-le-zero h)
 longest-le ps (suc n) i h =
     ⊎-elim (λ e. rw e (le-max-right (longestTo ps n) (termOf (placeIn ps n))))
     (λ l. le-trans (longest-le ps n i l) (le-max-left (longestTo ps n) (termOf (placeIn ps n)))) (eq-or-lt-of-le (le-of-suc-le-suc h))
+
+-- and no more than the terms are at most
+longest-most : (ps : List SubBalance) (n : ℕ) {most : ℕ} → ((i : ℕ) → i < n → termOf (placeIn ps i) ≤ most) → longestTo ps n ≤ most
+unfolding longestTo
+longest-most ps zero h = zero-le
+longest-most ps (suc n) h = max-le (longest-most ps n (λ i l. h i (le-trans l (omega arith)))) (h n (omega arith))
 
 module _ (k : Contents) where
   -- what stands at a place of the thirty-six
@@ -59,6 +69,19 @@ module _ (k : Contents) where
       held = rw (place-is place h) (term-of-place place pos)
 
   module _ (v : Valid k) where
+    -- nor is the longest term above the limit of months
+    term-le : (place : ℕ) → place < 36 → termOf (placeAt k place) ≤ monthsLimit
+    unfolding termOf placeAt depositAt
+    term-le place h = cond-le (eqb (balanceAt k place) 0) (deposit-limits k v place h .months-le)
+      where
+        cond-le : (b : Bool) {n : ℕ} → n ≤ monthsLimit → cond b 0 n ≤ monthsLimit
+        cond-le true l = zero-le
+        cond-le false l = l
+
+    pub longest-limit : longestTerm (placesOf k) ≤ monthsLimit
+    unfolding longestTerm
+    longest-limit = longest-most (placesOf k) 36 (λ place h. rw (place-is place h) (term-le place h))
+
     -- no number of a row is above the limit of a value
     valueAt-le : (ρ : Rounding) (scenario place : ℕ) → place < 36 → valueAt ρ k scenario place ≤ valueLimit
     unfolding valueAt placeAt
@@ -75,33 +98,53 @@ module _ (k : Contents) where
     row-le place h zero = omega (arith, balanceAt-limit k v place h)
     row-le place h (suc i) = joined-le 0 7 (valuesOf k place) valueLimit (λ scenario j l u. bounds-le place scenario h j) i
 
--- what the code has in hand when it comes to the rows: the filing's tiers, its places, and its lower and upper factors
+-- what the code has in hand when it comes to the rows: the filing's tiers, its places, and tables of its lower and upper factors
 pub record Prepared (k : Contents) (tiers : WithdrawalTiers) (places : List SubBalance) (lower upper : List ℕ) : Type 0 where
   pub valid : Valid k
   pub tiers-are : tierTable tiers ≡ filingTiers k
   pub usable : Usable tiers
   pub places-are : places ≡ placesOf k
-  pub lower-is : lower ≡ factorsBy down (k .yields) (longestTerm (placesOf k))
-  pub upper-is : upper ≡ factorsBy up (k .yields) (longestTerm (placesOf k))
+  pub lower-holds : HoldsFactors down (longestTerm (placesOf k)) (factorsBy down (k .yields) (longestTerm (placesOf k))) lower
+  pub upper-holds : HoldsFactors up (longestTerm (placesOf k)) (factorsBy up (k .yields) (longestTerm (placesOf k))) upper
 
-module _ (k : Contents) (tiers : WithdrawalTiers) (places : List SubBalance) (lower upper : List ℕ) (p : Prepared k tiers places lower upper) where
-  -- no factor is above par
-  pub factors-limits : AtMostPar lower × AtMostPar upper
-  factors-limits = rw (p .lower-is, p .upper-is) (factors-at-most-par down _ _, factors-at-most-par up _ _)
+module _ (k : Contents) (tiers : WithdrawalTiers) (places : List SubBalance) (lower upper : List ℕ) (p : Prepared k tiers places lower upper) (place : ℕ) (h : place < 36) where
+  held-is : placeIn places place ≡ placeAt k place
+  held-is = rw (p .places-are) (place-is k place h)
 
-  module _ (place : ℕ) (h : place < 36) where
-    held-is : placeIn places place ≡ placeAt k place
-    held-is = rw (p .places-are) (place-is k place h)
+  -- what a place holds is within its limits
+  pub held-limits : (placeIn places place .balance ≤ balanceLimit) × DepositLimits (depositAt place (placeIn places place))
+  unfolding placeAt
+  held-limits = rw held-is (balanceAt-limit k (p .valid) place h, deposit-limits k (p .valid) place h)
 
-    -- what a place holds is within its limits
-    pub held-limits : (placeIn places place .balance ≤ balanceLimit) × DepositLimits (depositAt place (placeIn places place))
-    unfolding placeAt
-    held-limits = rw held-is (balanceAt-limit k (p .valid) place h, deposit-limits k (p .valid) place h)
+  -- the tables reach as far as its months do if it has a balance
+  reach : 0 < placeIn places place .balance → depositAt place (placeIn places place) .months ≤ longestTerm (placesOf k)
+  unfolding depositAt placeAt
+  reach = rw held-is (months-le-longest k place h)
 
-    -- the row of a place has its fifteen numbers
-    pub row-is : rowOf (placeIn places place) place (k .rates) (tierTable tiers) lower upper ≡ placeNumbers k place
-    unfolding rowOf placeNumbers valuesOf valueAt placeAt valuesHeld boundsHeld
-    row-is =
-        rw (p .lower-is, p .upper-is, p .tiers-are, held-is)
-        (ap (λ (l : List ℕ). balanceAt k place ∷ l)
-        (held-are k place (placeAt k place) (deposit-limits k (p .valid) place h) (longestTerm (placesOf k)) (months-le-longest k place h)))
+  holds : 0 < placeIn places place .balance
+      → HoldsFactors down (depositAt place (placeIn places place) .months) (factorsBy down (k .yields) (longestTerm (placesOf k))) lower
+      × HoldsFactors up (depositAt place (placeIn places place) .months) (factorsBy up (k .yields) (longestTerm (placesOf k))) upper
+  holds pos = (λ i l. p .lower-holds i (omega (arith, l, reach pos)), λ i l. p .upper-holds i (omega (arith, l, reach pos)))
+
+  pub tables : 0 < placeIn places place .balance
+      → Discounting down (depositAt place (placeIn places place) .months) lower × Discounting up (depositAt place (placeIn places place) .months) upper
+  tables pos = (
+    lower-discounting (factorsBy down (k .yields) (longestTerm (placesOf k))) lower _ (holds pos .0) (factors-at-most-par down (k .yields) (longestTerm (placesOf k))),
+    upper-discounting (factorsBy up (k .yields) (longestTerm (placesOf k))) upper _ (holds pos .1) (factors-at-most-par up (k .yields) (longestTerm (placesOf k)))
+        (λ i l. upper-factor-pos (k .yields) (longestTerm (placesOf k)) i (longest-limit k (p .valid)) (omega (arith, l, reach pos))),
+  )
+
+  -- the row of a place has its fifteen numbers
+  pub row-is : rowOf (placeIn places place) place (k .rates) (tierTable tiers) (factorsOf down (depositAt place (placeIn places place) .months) lower)
+      (factorsOf up (depositAt place (placeIn places place) .months) upper)
+      ≡ placeNumbers k place
+  unfolding rowOf placeNumbers valuesOf valueAt placeAt valuesHeld boundsHeld
+  row-is =
+      rw (
+        held-by place (placeIn places place) (k .rates) (tierTable tiers) (factorsBy down (k .yields) (longestTerm (placesOf k)))
+            (factorsBy up (k .yields) (longestTerm (placesOf k))) lower upper holds,
+        p .tiers-are,
+        held-is,
+      )
+      (ap (λ (l : List ℕ). balanceAt k place ∷ l)
+      (held-are k place (placeAt k place) (deposit-limits k (p .valid) place h) (longestTerm (placesOf k)) (months-le-longest k place h)))

@@ -1,6 +1,6 @@
 // The 568 numbers of what an accepted filing says, written into a list.
 use contents::Contents;
-use deposits::factors::factor_table;
+use deposits::factors::discount_tables;
 use lists::write;
 use place_values::filing_tiers::tiers_of;
 use place_values::longest_term::longest_term;
@@ -35,8 +35,9 @@ fn write_rows(k: Contents, list: &mut [u64])
     let tiers = tiers_of(filed);
     let places = places_of(k);
     let longest = longest_term(places);
-    let lower = factor_table(&k.yields, longest, false);
-    let upper = factor_table(&k.yields, longest, true);
+    let mut lower = [0u64; 840];
+    let mut upper = [0u64; 840];
+    discount_tables(&k.yields, longest, &mut lower, &mut upper);
     let mut place: usize = 0;
     while place < 36 {
         let row = row_of(places[place], place, &k.rates, tiers, &lower, &upper);

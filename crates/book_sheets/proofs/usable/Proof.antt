@@ -1,6 +1,6 @@
 -- `usable` meets its contract: the tests in their order. Assumes nothing.
 use borrow.Author.Tests.{not-true, not-false}
-use Rattle.book_sheets.specs.Sheets.{noneAbove, sheetsUsable}
+use Rattle.book_sheets.specs.Sheets.{noneAbove, noneZero, sheetsUsable}
 use borrow.Author.Needs.{needs}
 use Rattle.book_sheets.proofs.usable.Statement.{statement}
 use Rattle.book_sheets.proofs.usable.Tie as tie
@@ -42,7 +42,7 @@ above-par-requires-2 c κs = search needs
 returns-4 : tie.Need-returns-4
 unfolding sheetsUsable noneAbove
 returns-4 c =
-    let three = c .before .before in
+    let three = c .before .before .before in
     let two = three .before .before .before in
     let one = two .before .before in
     rw (
@@ -52,7 +52,30 @@ returns-4 c =
       not-false (two .before .tiers-usable .result) (two .if2 .left),
       ← three .before .above-par .ensures,
       three .if3 .left,
-      ← c .above-par2 .ensures,
+      ← c .before .above-par2 .ensures,
+      c .if4 .taken,
+    )
+
+some-zero-requires : tie.Need-some-zero-requires
+some-zero-requires c κs = search needs
+
+returns-5 : tie.Need-returns-5
+unfolding sheetsUsable noneAbove noneZero
+returns-5 c =
+    let four = c .before in
+    let three = four .before .before .before in
+    let two = three .before .before .before in
+    let one = two .before .before in
+    rw (
+      ← one .before .some-above .ensures,
+      one .if1 .left,
+      ← two .before .tiers-usable .ensures,
+      not-false (two .before .tiers-usable .result) (two .if2 .left),
+      ← three .before .above-par .ensures,
+      three .if3 .left,
+      ← four .before .above-par2 .ensures,
+      four .if4 .left,
+      ← c .some-zero .ensures,
     )
 
 pub usable-spec : {M : Type 1} → statement M
@@ -66,4 +89,6 @@ usable-spec =
     above-par-requires
     returns-3
     above-par-requires-2
-    returns-4)
+    returns-4
+    some-zero-requires
+    returns-5)

@@ -1,6 +1,13 @@
 -- `values_in` meets its contract. Assumes nothing.
+use Prim.Native.Nat.{_≤_}
+use native.Mathlib.Omega.{arith}
 use borrow.Author.Tests.{not-true, not-false}
-use mathlib.Core.Path.{sym, _∙_}
+use mathlib.Core.Path.{refl, sym, _∙_}
+use Rattle.schedule.specs.Limits.{monthsLimit}
+use Rattle.pricing.specs.Rounding.{roundingOf}
+use Rattle.deposits.proofs.DiscountLaws.{lower-discounting, upper-discounting}
+use Rattle.place_values.specs.PlaceTerms.{depositAt}
+use Rattle.place_values.proofs.HeldLaws.{held-by}
 use Rattle.book_sheets.specs.Sheets.{valuesUnder}
 use Rattle.book_sheets.proofs.SheetLaws.{Limits, usable-limits}
 use borrow.Author.Needs.{needs}
@@ -21,18 +28,54 @@ returns c = rw (← c .before .usable .ensures, not-true (c .before .usable .res
 tiers-of-requires : tie.Need-tiers-of-requires
 tiers-of-requires c κs = limits c .tiers-within
 
+fill-multipliers-requires : tie.Need-fill-multipliers-requires
+unfolding depositAt
+fill-multipliers-requires c κs = let test = c .before .before in (limits test .lower-le, test .before .before .pre .2 .months-le, refl)
+
+fill-multipliers-requires-2 : tie.Need-fill-multipliers-requires-2
+unfolding depositAt
+fill-multipliers-requires-2 c κs = let test = c .before .before .before .before in (limits test .upper-le, test .before .before .pre .2 .months-le, refl)
+
 held-values-requires : tie.Need-held-values-requires
+unfolding depositAt roundingOf
 held-values-requires c κs =
-    let l = limits (c .before) in
-    let start = c .before .before .before in
-    (start .pre, (l .rates-le, c .tiers-of .ensures .1, l .lower-le, l .upper-le))
+    let above = c .before .before in
+    let below = above .before .before in
+    let tiers = below .before .before in
+    let start = tiers .before .before .before in
+    let a = start .args in
+    let l = limits (tiers .before) in
+    let months : a .held .«remaining_months» ≤ monthsLimit = start .pre .2 .months-le in (
+      start .pre,
+      (
+        (l .rates-le, tiers .tiers-of .ensures .1),
+        λ pos. (
+          lower-discounting (a .lower .now) _ (a .held .«remaining_months») (below .fill-multipliers .ensures) (l .lower-le),
+          upper-discounting (a .upper .now) _ (a .held .«remaining_months») (above .fill-multipliers2 .ensures) (l .upper-le) (λ i h. l .upper-pos i (omega (arith, h, months))),
+        ),
+      ),
+    )
 
 returns-2 : tie.Need-returns-2
-unfolding valuesUnder
+unfolding valuesUnder depositAt roundingOf
 returns-2 c =
-    let test = c .before .before in
-    c .held-values .ensures ∙ rw (c .before .tiers-of .ensures .0, ← test .before .usable .ensures, not-false (test .before .usable .result) (test .if1 .left))
+    let above = c .before .before .before in
+    let below = above .before .before in
+    let tiers = below .before .before in
+    let test = tiers .before in
+    let a = test .before .before .args in
+    c .held-values .ensures
+    ∙ held-by (a .place) (a .held) (a .rates .now) _ (a .lower .now) (a .upper .now) _ _ (λ pos. (below .fill-multipliers .ensures, above .fill-multipliers2 .ensures))
+    ∙ rw (tiers .tiers-of .ensures .0, ← test .before .usable .ensures, not-false (test .before .usable .result) (test .if1 .left))
 
 pub values-in-spec : {M : Type 1} → statement M
 values-in-spec =
-    tie.close (tie.spec usable-requires returns tiers-of-requires held-values-requires returns-2)
+    tie.close
+    (tie.spec
+    usable-requires
+    returns
+    tiers-of-requires
+    fill-multipliers-requires
+    fill-multipliers-requires-2
+    held-values-requires
+    returns-2)

@@ -1,51 +1,50 @@
--- Discount factors of seven rates in step, each division by 120,000 + z as a multiplication and a division by 2^63. Definitions only.
+-- Discount factors of seven rates in step, each division by 120,000 + z as a multiplication and a division by 2^64. Definitions only.
 -- Rates, CD yields, are in hundredths of a percent a year, discount factors in billionths.
-use Prim.Native.Nat.{ℕ, suc, _+_, _*_, _-_, _/_, _^_, _≤_}
+use Prim.Native.Nat.{ℕ, zero, suc, _+_, _*_, _-_, _/_, _^_, _≤_}
 use mathlib.Core.List.{List}
 use lib.ListN.{getD}
 use Rattle.lists.specs.Tables.{table}
 use Rattle.schedule.specs.Shift.{scenarioCount}
-use Rattle.pricing.specs.Scales.{rateScale}
+use Rattle.pricing.specs.Scales.{par, rateScale}
 use Rattle.pricing.specs.Rounding.{Rounding, down, up}
 use Rattle.pricing.specs.Run.{discountBy}
 
 -- the scale of multipliers
 abbrev pub multiplierScale : ℕ
-multiplierScale = 2 ^ 63
+multiplierScale = 2 ^ 64
 
--- 120,000 / (120,000 + z) in units of 1 / 2^63, as 60,000 × 2^64 / (120,000 + z) with the quotient rounded: not too low for the lower factors, too low for the
--- upper ones, by at most 60,000
+-- 120,000 / (120,000 + z) in units of 1 / 2^64, as 120,000 × 2^64 / (120,000 + z) with the quotient rounded: not too low for the lower factors, too low for the
+-- upper ones, by at most 120,000. That of the lower factors at a rate of 0, the whole, is left out
 unfoldable pub multiplierBy : Rounding → ℕ → ℕ
-multiplierBy down z = 60000 * suc ((2 ^ 64 - 1) / (rateScale + z))
-multiplierBy up z = 60000 * ((2 ^ 64 - 1) / (rateScale + z))
-
--- a factor times a multiplier: 1 more than the floor for the upper factors, since their multipliers are too low
-unfoldable pub scaledBy : Rounding → ℕ → ℕ → ℕ
-scaledBy down x m = x * m / multiplierScale
-scaledBy up x m = suc (x * m / multiplierScale)
+multiplierBy down zero = 0
+multiplierBy down (suc z) = rateScale * suc ((2 ^ 64 - 1) / (rateScale + suc z))
+multiplierBy up z = rateScale * ((2 ^ 64 - 1) / (rateScale + z))
 
 -- the multipliers of seven rates
 unfoldable pub multipliersBy : Rounding → List ℕ → List ℕ
 multipliersBy ρ rates = table scenarioCount (λ (i : ℕ). multiplierBy ρ (getD rates i 0))
 
--- what is added to twice a product's floor: the upper factors are 1 more than it
-unfoldable pub raisedBy : Rounding → ℕ
-raisedBy down = 0
-raisedBy up = 2
+-- a factor times a multiplier: 1 more than the floor for the upper factors, since their multipliers are too low
+unfoldable pub nextBy : Rounding → ℕ → ℕ → ℕ
+nextBy down x m = x * m / multiplierScale
+nextBy up x m = suc (x * m / multiplierScale)
 
--- twice the factor that follows, from twice a factor
-unfoldable pub twiceBy : ℕ → ℕ → ℕ → ℕ
-twiceBy raised y m = 2 * (y * m / 2 ^ 64) + raised
+unfoldable pub nextAllBy : Rounding → List ℕ → List ℕ → List ℕ
+nextAllBy ρ xs ms = table scenarioCount (λ (i : ℕ). nextBy ρ (getD xs i 0) (getD ms i 0))
 
-unfoldable pub twiceAllBy : ℕ → List ℕ → List ℕ → List ℕ
-twiceAllBy raised ys ms = table scenarioCount (λ (i : ℕ). twiceBy raised (getD ys i 0) (getD ms i 0))
+-- a chain from par after n multiplications, and seven of them
+unfoldable pub chainBy : Rounding → ℕ → ℕ → ℕ
+chainBy ρ m zero = par
+chainBy ρ m (suc n) = nextBy ρ (chainBy ρ m n) m
 
--- twice each of seven factors, and their halves
-unfoldable pub twiceEach : List ℕ → List ℕ
-twiceEach xs = table scenarioCount (λ (i : ℕ). 2 * getD xs i 0)
+unfoldable pub chainedBy : Rounding → List ℕ → ℕ → List ℕ
+chainedBy ρ ms n = table scenarioCount (λ (i : ℕ). chainBy ρ (getD ms i 0) n)
 
-unfoldable pub halfEach : List ℕ → List ℕ
-halfEach ys = table scenarioCount (λ (i : ℕ). getD ys i 0 / 2)
+-- the factor of a rate, from its chain
+unfoldable pub factorBy : Rounding → ℕ → ℕ → ℕ
+factorBy down zero x = par
+factorBy down (suc z) x = x
+factorBy up z x = x
 
 -- the discount factors of seven rates after n factors each
 unfoldable pub discountsBy : Rounding → List ℕ → ℕ → List ℕ
@@ -54,7 +53,3 @@ discountsBy ρ rates n = table scenarioCount (λ (i : ℕ). discountBy ρ (getD 
 -- no element of a list is above a limit
 abbrev pub AtMost : ℕ → List ℕ → Type 0
 AtMost limit xs = (i : ℕ) → getD xs i 0 ≤ limit
-
--- numbers up to this one, and 10^9 more, are divided by 10^9 exactly by a multiplication and a division by 2^93
-abbrev pub billionthsLimit : ℕ
-billionthsLimit = 12 * 10 ^ 18

@@ -1,5 +1,5 @@
 -- `open` meets its contract. Assumes nothing.
-use Rattle.pricing.specs.Rounding.{roundingOf}
+use mathlib.Core.Path.{refl}
 use Rattle.books.proofs.OpeningLaws.{opened-yields, opened}
 use borrow.Author.Needs.{needs}
 use Rattle.standing_book.proofs.open.Statement.{statement}
@@ -8,24 +8,21 @@ use Rattle.standing_book.proofs.open.Tie as tie
 read-requires : tie.Need-read-requires
 read-requires c κs = search needs
 
-factor-table-requires : tie.Need-factor-table-requires
-factor-table-requires c κs = opened-yields _ _ _ (c .before .before .before .read .ensures .0) (c .before .before .before .read .ensures .1)
-
-factor-table-requires-2 : tie.Need-factor-table-requires-2
-factor-table-requires-2 c κs = opened-yields _ _ _ (c .before .before .before .before .before .before .read .ensures .0) (c .before .before .before .before .before .before .read .ensures .1)
+fill-factors-requires : tie.Need-fill-factors-requires
+fill-factors-requires c κs =
+    let read = c .before .before .before .before .before in
+    (opened-yields _ _ _ (read .read .ensures .0) (read .read .ensures .1), refl, refl)
 
 empty-book-requires : tie.Need-empty-book-requires
 empty-book-requires c κs = search needs
 
 returns : tie.Need-returns
-unfolding roundingOf
 returns c =
-    let upper = c .before .before .before in
-    let lower = upper .before .before .before in
-    let read = lower .before .before .before .before in
+    let factors = c .before .before .before in
+    let read = factors .before .before .before .before .before .before in
     let s = read .before .before .args .filing .now in
-    opened s _ (read .read .ensures .0) (read .read .ensures .1) (lower .factor-table .ensures) (upper .factor-table2 .ensures) (c .empty-book .ensures)
+    opened s _ (read .read .ensures .0) (read .read .ensures .1) (factors .fill-factors .ensures .0) (factors .fill-factors .ensures .1) (c .empty-book .ensures)
 
 pub open-spec : {M : Type 1} → statement M
 open-spec =
-    tie.close (tie.spec read-requires factor-table-requires factor-table-requires-2 empty-book-requires returns)
+    tie.close (tie.spec read-requires fill-factors-requires empty-book-requires returns)

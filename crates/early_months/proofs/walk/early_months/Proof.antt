@@ -52,10 +52,9 @@ element-copy-out-next-lower c = factor-place (c .before .before)
 
 next-lower-requires : tie.Need-next-lower-requires Inv-loop μ-loop
 next-lower-requires c κs =
-    let test = c .before .before .before in
-    let at = test .before in
+    let at = c .before .before .before .before in
     let start = at .before in
-    rw (at .loop .inv .1) (start .pre .1 .0 .balance-le (at .loop .t) (early test), start .pre .1 .0 .price-le (at .loop .t) (early test), start .pre .0 .3 _)
+    rw (at .loop .inv .1) (start .pre .1 .0 .balance-le (at .loop .t) (at .loop .inv .0), start .pre .1 .0 .price-le (at .loop .t) (at .loop .inv .0))
 
 mul-next-upper : tie.Need-mul-next-upper Inv-loop μ-loop
 mul-next-upper c = omega (arith, factor-place (c .before .before .before .before))
@@ -71,7 +70,7 @@ next-upper-requires c κs =
     let at = test .before in
     let start = at .before in
     let walk = start .pre .1 .1 in (
-      rw (at .loop .inv .2) (walk .balance-le (at .loop .t) (early test), walk .price-le (at .loop .t) (early test), start .pre .0 .4 _),
+      rw (at .loop .inv .2) (walk .balance-le (at .loop .t) (at .loop .inv .0), walk .price-le (at .loop .t) (at .loop .inv .0)),
       rw (multipliers .multipliers-at .ensures, place .place-at .ensures) (walk .paid-pos (at .loop .t) (early test), walk .carried-is (at .loop .t) (early test)),
     )
 

@@ -16,14 +16,14 @@ beyond-whole-requires c κs = search needs
 left-multiplier-requires : tie.Need-left-multiplier-requires
 left-multiplier-requires c κs = search needs
 
-add-paid-multiplier : tie.Need-add-paid-multiplier
-add-paid-multiplier c = search needs
+add-par-multiplier : tie.Need-add-par-multiplier
+add-par-multiplier c = search needs
 
-sub-paid-multiplier : tie.Need-sub-paid-multiplier
-sub-paid-multiplier c = search needs
+sub-par-multiplier : tie.Need-sub-par-multiplier
+sub-par-multiplier c = search needs
 
-paid-multiplier-requires : tie.Need-paid-multiplier-requires
-paid-multiplier-requires c κs = search needs
+par-multiplier-requires : tie.Need-par-multiplier-requires
+par-multiplier-requires c κs = search needs
 
 carried-of-requires : tie.Need-carried-of-requires
 carried-of-requires c κs = search needs
@@ -32,7 +32,7 @@ returns : tie.Need-returns
 unfolding multipliersOf
 returns c =
     let paid = c .before in
-    rw (c .carried-of .ensures, paid .paid-multiplier .ensures, paid .before .left-multiplier .ensures, paid .before .before .beyond-whole .ensures .0)
+    rw (c .carried-of .ensures, paid .par-multiplier .ensures, paid .before .left-multiplier .ensures, paid .before .before .beyond-whole .ensures .0)
 
 pub multipliers-of-spec : {M : Type 1} → statement M
 multipliers-of-spec =
@@ -42,8 +42,8 @@ multipliers-of-spec =
     add-share
     beyond-whole-requires
     left-multiplier-requires
-    add-paid-multiplier
-    sub-paid-multiplier
-    paid-multiplier-requires
+    add-par-multiplier
+    sub-par-multiplier
+    par-multiplier-requires
     carried-of-requires
     returns)

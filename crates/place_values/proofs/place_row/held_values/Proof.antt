@@ -21,10 +21,10 @@ values-of-requires c κs =
       (
         start .pre .0 .1,
         rw (c .before .deposit-at .ensures) (start .pre .0 .2),
-        rw (c .position .ensures) (record { within = start .pre .1 .0; first-le = range .0; last-le = range .1 }),
-        start .pre .1 .1,
+        rw (c .position .ensures) (record { within = start .pre .1 .0 .0; first-le = range .0; last-le = range .1 }),
+        start .pre .1 .0 .1,
       ),
-      (start .pre .1 .2, start .pre .1 .3),
+      rw (c .before .deposit-at .ensures) (start .pre .1 .1),
     )
 
 returns : tie.Need-returns

@@ -1,0 +1,35 @@
+-- `deposits::factors::discount_tables` meets its contract. Assumes nothing.
+use Rattle.pricing.specs.Rounding.{down, up, roundingOf}
+use Rattle.deposits.proofs.FactorLaws.{factors-at-most-par}
+use borrow.Author.Needs.{needs}
+use Rattle.deposits.proofs.factors.discount_tables.Statement.{statement}
+use Rattle.deposits.proofs.factors.discount_tables.Tie as tie
+
+fill-factors-requires : tie.Need-fill-factors-requires
+fill-factors-requires c κs = search needs
+
+fill-multipliers-requires : tie.Need-fill-multipliers-requires
+fill-multipliers-requires c κs =
+    let factors = c .before .before in
+    let start = factors .before .before .before in
+    (rw (factors .fill-factors .ensures .0) (factors-at-most-par down (start .args .yields .now) (start .args .longest)), start .pre .1, start .pre .2)
+
+fill-multipliers-requires-2 : tie.Need-fill-multipliers-requires-2
+fill-multipliers-requires-2 c κs =
+    let factors = c .before .before .before .before .before in
+    let start = factors .before .before .before in
+    (rw (factors .fill-factors .ensures .1) (factors-at-most-par up (start .args .yields .now) (start .args .longest)), start .pre .1, start .pre .3)
+
+returns : tie.Need-returns
+unfolding roundingOf
+returns c =
+    let lower = c .before .before .before in
+    let factors = lower .before .before .before in (
+      rw (factors .fill-factors .ensures .0) at (lower .fill-multipliers .ensures),
+      rw (factors .fill-factors .ensures .1) at (c .fill-multipliers2 .ensures),
+    )
+
+pub discount-tables-spec : {M : Type 1} → statement M
+discount-tables-spec =
+    tie.close
+    (tie.spec fill-factors-requires fill-multipliers-requires fill-multipliers-requires-2 returns)

@@ -1,0 +1,24 @@
+-- `pricing::discounting::lower_factor` meets its contract. Assumes nothing.
+use Prim.Native.Nat.{ℕ, zero, suc}
+use native.Mathlib.Omega.{arith}
+use mathlib.Core.Path.{_≡_, refl, sym}
+use Rattle.pricing.specs.Scales.{par}
+use Rattle.pricing.specs.Rounding.{down}
+use Rattle.pricing.specs.Inner.Multipliers.{factorBy}
+use Rattle.pricing.proofs.discounting.lower_factor.Statement.{statement}
+use Rattle.pricing.proofs.discounting.lower_factor.Tie as tie
+
+some-rate : (z x : ℕ) → (z ≡ 0 → ⊥) → x ≡ factorBy down z x
+unfolding factorBy
+some-rate zero x h = absurd (h refl)
+some-rate (suc z) x h = refl
+
+returns : tie.Need-returns
+unfolding factorBy
+returns c = rw (c .if1 .taken)
+
+returns-2 : tie.Need-returns-2
+returns-2 c = some-rate _ _ (c .if1 .left)
+
+pub lower-factor-spec : {M : Type 1} → statement M
+lower-factor-spec = tie.close (tie.spec returns returns-2)
