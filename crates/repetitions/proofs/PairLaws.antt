@@ -2,15 +2,14 @@
 -- Assumes nothing.
 use Prim.Native.Nat.{ℕ, _+_, _-_, _/_, _≤_, _<_}
 use native.Mathlib.Omega.{arith}
-use mathlib.Core.Path.{_≡_, refl, sym, ap, _∙_}
+use mathlib.Core.Path.{_≡_, refl, sym, _∙_}
 use mathlib.Core.Bool.{Bool, true, false, cond, _||_, _&&_, true≢false}
 use mathlib.Core.List.{List}
 use borrow.Author.Tests.{ltb-true, ltb-false, le-ltb, eqb-true, eqb-false, eq-eqb, ne-eqb}
 use lib.Dec.{ltb, eqb}
 use lib.ListN.{length, getD, replicate, length-set}
 use lib.Seq.{getD-set-same, getD-set-other}
-use Rattle.lists.specs.Tables.{anyBelow}
-use Rattle.lists.proofs.TestLaws.{any-fails}
+use Rattle.lists.proofs.TestLaws.{and-false, neither}
 use Rattle.numbers.specs.Members.{member, withMember}
 use Rattle.numbers.proofs.BitLaws.{member-with}
 use Rattle.fields.specs.Records.{nextRecord, searchRecords, firstRecord}
@@ -20,13 +19,11 @@ use Rattle.records.specs.declared.items.Item.{Item}
 use Rattle.records.specs.declared.items.Item.the-variants.{Cell, Sheet, Amendment, Nothing}
 use Rattle.records.specs.Items.{firstCell, cellCount, sameItem, recordItem, firstWith}
 use Rattle.records.proofs.ItemLaws.{record-of-amendment}
-use Rattle.notes.proofs.NoteLaws.{noted-falling}
-use Rattle.notes.specs.Inner.Notes.{amendsCell, notedBefore}
+use Rattle.notes.specs.Inner.Notes.{amendsCell}
 use Rattle.faults.specs.Faults.{standsBefore}
 use Rattle.repetitions.specs.Inner.Repetitions.{repeats}
 use Rattle.repetitions.specs.Inner.Pairs.{pairLimit, pairOf, pairsWith, doubtsWith, Undoubted}
 use Rattle.repetitions.proofs.MetLaws.{wordCount, none-member, or-turned}
-use Rattle.repetitions.proofs.RepetitionLaws.{rising-single}
 
 -- two pairs are the same just where their cells and their numbers are
 same-pair : (i v m number n : ℕ) → v < pairLimit → number < pairLimit → n ≡ firstCell + m
@@ -37,11 +34,6 @@ same-pair i v m number n p q is = by (eqb n (firstCell + i)) (eqb number v) refl
     by true true e f = eq-eqb (pairOf i v) (pairOf m number) (omega (arith, eqb-true n (firstCell + i) e, eqb-true number v f))
     by true false e f = ne-eqb (pairOf i v) (pairOf m number) (λ z. eqb-false number v f (omega (arith, eqb-true n (firstCell + i) e)))
     by false b e f = ne-eqb (pairOf i v) (pairOf m number) (λ z. eqb-false n (firstCell + i) e (omega arith))
-
--- neither of two that do not hold together
-neither : (a b : Bool) → (a || b) ≡ false → (a ≡ false) × (b ≡ false)
-neither true b e = absurd (true≢false e)
-neither false b e = (refl, e)
 
 -- as many cells as before
 pub doubts-length : (item : Item) (met : List ℕ) (doubtful : List Bool) → length (doubtsWith item met doubtful) ≡ length doubtful
@@ -65,15 +57,6 @@ module _ (s : List ℕ) where
   pub undoubted-start : (doubtful : List Bool) → Undoubted s 0 doubtful
   unfolding firstRecord searchRecords
   undoubted-start doubtful i h e = refl
-
-  -- the amendments of each cell rise: none is repeated
-  pub undoubted-rising : (end : ℕ) (doubtful falling : List Bool) → falling ≡ notedBefore s end .falling
-      → anyBelow (λ (i : ℕ). getD falling i false) cellCount ≡ false → Undoubted s end doubtful
-  undoubted-rising end doubtful falling is none i h e =
-      let place : firstCell + i - firstCell ≡ i = omega arith in
-      let noted = rw place at (noted-falling s end (firstCell + i) (omega arith) (omega arith)) in
-      let rises = sym noted ∙ ap (λ (l : List Bool). getD l i false) (sym is) ∙ any-fails _ cellCount none i h in
-      le-ltb (firstRecord s (repeats s (firstCell + i)) end) end (omega (arith, rising-single s (firstCell + i) end end rises (omega arith)))
 
   -- a cell that is not in doubt before `end` has no repeated amendment before any record up to it
   pub undoubted-single : (cell end first : ℕ) → ltb (firstRecord s (repeats s cell) end) end ≡ false → first ≤ end → firstRecord s (repeats s cell) first ≡ first
@@ -104,10 +87,6 @@ module _ (s : List ℕ) where
         stays : ((i v : ℕ) → v < pairLimit → sameItem (recordItem s at) (Amendment (firstCell + i) v) ≡ false) → Paired (nextRecord s at) met
         stays other =
             record { long = so-far .long; holds = λ i v h l. so-far .holds i v h l ∙ sym (amended-next i v ∙ rw (other i v l) (sym (or-none _))) }
-
-        and-false : (b : Bool) → (b && false) ≡ false
-        and-false true = refl
-        and-false false = refl
 
         more : (n number : ℕ) (b : Bool) → recordItem s at ≡ Amendment n number → ltb number pairLimit ≡ b
             → Paired (nextRecord s at) (cond b (withMember met (pairOf (n - firstCell) number)) met)

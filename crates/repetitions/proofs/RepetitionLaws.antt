@@ -8,14 +8,16 @@ use mathlib.Core.Bool.{Bool, true, false, _&&_, true≢false}
 use mathlib.Core.List.{List}
 use borrow.Author.Tests.{le-leb, ltb-true, ltb-false, eq-eqb}
 use lib.Dec.{ltb}
+use lib.ListN.{getD}
 use Rattle.lists.specs.Tables.{anyBelow}
-use Rattle.lists.proofs.TestLaws.{any-here}
+use Rattle.lists.proofs.TestLaws.{and-false, and-true, any-here, any-fails}
 use Rattle.records.specs.declared.items.Item.{Item}
 use Rattle.records.specs.declared.items.Item.the-variants.{Cell, Sheet, Amendment, Nothing}
 use Rattle.fields.specs.Records.{firstRecord}
 use Rattle.records.specs.Items.{sameItem, recordItem, firstWith, firstCell, cellCount}
 use Rattle.notes.specs.Counting.{itemRank, rank, countingBefore}
-use Rattle.notes.specs.Inner.Notes.{amendsCell, outranked, falls, fallsBefore}
+use Rattle.notes.specs.Inner.Notes.{amendsCell, outranked, falls, fallsBefore, notedBefore}
+use Rattle.notes.proofs.NoteLaws.{noted-falling}
 use Rattle.fields.proofs.RecordLaws.{first-le}
 use Rattle.records.proofs.ItemLaws.{with-passes, record-of-amendment}
 use Rattle.faults.specs.Faults.{standsBefore, amendmentRepeated}
@@ -24,14 +26,6 @@ use Rattle.fields.proofs.SearchLaws.{Reached}
 use Rattle.fields.proofs.FirstLaws.{first-none, first-earlier, first-reached, first-same, first-or}
 use Rattle.notes.proofs.CountingLaws.{counting-most}
 use Rattle.repetitions.specs.Inner.Repetitions.{repeats, repetitionsBelow}
-
-both : (a b : Bool) → (a && b) ≡ true → (a ≡ true) × (b ≡ true)
-both true b e = (refl, e)
-both false b e = absurd (true≢false (sym e))
-
-and-false : (b : Bool) → (b && false) ≡ false
-and-false true = refl
-and-false false = refl
 
 -- no test passes: none of them does
 any-never : (test : ℕ → Bool) (n : ℕ) → ((i : ℕ) → test i ≡ false) → anyBelow test n ≡ false
@@ -48,7 +42,7 @@ module _ (s : List ℕ) where
   repeats-falls : (cell at : ℕ) → Reached s 0 at → repeats s cell at ≡ true → falls s cell at ≡ true
   unfolding repeats falls outranked standsBefore
   repeats-falls cell at r h =
-      let parts = both (amendsCell cell (recordItem s at)) (ltb (firstWith s (recordItem s at) at) at) h in
+      let parts = and-true (amendsCell cell (recordItem s at)) (ltb (firstWith s (recordItem s at) at) at) h in
       let i = firstWith s (recordItem s at) at in
       let l = ltb-true i at (parts .1) in
       let same : rank s cell i ≡ rank s cell at = ap (itemRank cell) (with-passes s (recordItem s at) at l) in
@@ -101,3 +95,19 @@ module _ (s : List ℕ) where
   unfolding repetitionsBelow
   repetitions-le zero end = le-refl end
   repetitions-le (suc n) end = le-trans (first-le s (repeats s (firstCell + n)) (repetitionsBelow s n end)) (repetitions-le n end)
+
+  -- the amendments of each cell rise: none is repeated
+  pub rising-none : (end : ℕ) (falling : List Bool) → falling ≡ notedBefore s end .falling
+      → anyBelow (λ (i : ℕ). getD falling i false) cellCount ≡ false → repetitionsBelow s cellCount end ≡ end
+  unfolding repetitionsBelow
+  rising-none end falling is none = all cellCount (le-refl cellCount)
+    where
+      rises : (i : ℕ) → i < cellCount → fallsBefore s (firstCell + i) end ≡ false
+      rises i h =
+          let place : firstCell + i - firstCell ≡ i = omega arith in
+          let noted = rw place at (noted-falling s end (firstCell + i) (omega arith) (omega arith)) in
+          sym noted ∙ ap (λ (l : List Bool). getD l i false) (sym is) ∙ any-fails _ cellCount none i h
+
+      all : (n : ℕ) → n ≤ cellCount → repetitionsBelow s n end ≡ end
+      all zero l = refl
+      all (suc n) l = rw (all n (omega arith)) (rising-single (firstCell + n) end end (rises n (omega arith)) (le-refl end))

@@ -13,18 +13,14 @@ ghost use Prim.Native.Nat.{_≤_};
 ghost use lib.ListN.{length, getD};
 ghost use Rattle.lists.specs.Tables.{anyBelow};
 ghost use Rattle.records.specs.Items.{cellCount, recordItem};
-ghost use Rattle.notes.specs.Inner.Notes.{notedBefore};
 ghost use Rattle.repetitions.specs.Inner.Pairs.{pairsWith, doubtsWith, Undoubted};
 
-// The cells in doubt: none where the amendments of each cell rise. Else those with a number of 1,024 or more, and those with a number met before.
-pub(crate) fn doubts(s: &[u8], falling: &[bool; CELLS], end: usize) -> [bool; CELLS]
-    requires { ⌜ (end ≤ length (now s)) × (now falling ≡ notedBefore (now s) end .falling) ⌝ }
+// The cells in doubt: those with an amendment before `end` whose number is 1,024 or more, or was met before.
+pub(crate) fn doubts(s: &[u8], end: usize) -> [bool; CELLS]
+    requires { ⌜ end ≤ length (now s) ⌝ }
     ensures { λ r. ⌜ Undoubted (now (s .entry)) end r ⌝ }
 {
     let mut doubtful = [false; CELLS];
-    if !some_falls(falling) {
-        return doubtful;
-    }
     let mut met = [0; WORDS];
     let mut at = 0;
     while at < end {
@@ -35,7 +31,7 @@ pub(crate) fn doubts(s: &[u8], falling: &[bool; CELLS], end: usize) -> [bool; CE
 }
 
 // The amendments of some cell do not rise.
-fn some_falls(falling: &[bool; CELLS]) -> bool
+pub(crate) fn some_falls(falling: &[bool; CELLS]) -> bool
     ensures { λ r. ⌜ r ≡ anyBelow (λ i. getD (now (falling .entry)) i false) cellCount ⌝ }
 {
     let mut i = 0;

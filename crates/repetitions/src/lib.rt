@@ -5,6 +5,7 @@ mod doubts;
 pub mod pass;
 
 use crate::doubts::doubts;
+use crate::doubts::some_falls;
 use crate::pass::repetition;
 use records::CELLS;
 use records::FIRST_CELL;
@@ -22,7 +23,18 @@ pub fn first_repetition(s: &[u8], falling: &[bool; CELLS], end: usize) -> usize
     requires { ⌜ (end ≤ length (now s)) × (now falling ≡ notedBefore (now s) end .falling) ⌝ }
     ensures { λ r. ⌜ r ≡ repetitionsBelow (now (s .entry)) cellCount end ⌝ }
 {
-    let doubtful = doubts(s, falling, end);
+    if some_falls(falling) {
+        return doubtful_repetition(s, end);
+    }
+    end
+}
+
+// The same, whatever the amendments: cell by cell, of the cells in doubt.
+fn doubtful_repetition(s: &[u8], end: usize) -> usize
+    requires { ⌜ end ≤ length (now s) ⌝ }
+    ensures { λ r. ⌜ r ≡ repetitionsBelow (now (s .entry)) cellCount end ⌝ }
+{
+    let doubtful = doubts(s, end);
     let mut first = end;
     let mut i: usize = 0;
     while i < CELLS {
