@@ -1,12 +1,12 @@
--- What can be wrong with the body of a record: refusals 5 (01:35; 02:CR 4, CR 6) and 11 (02:CR 1). Definitions only.
-use Prim.Native.Nat.{ℕ, suc, _-_}
-use mathlib.Core.Bool.{Bool, true, cond, not, _||_, _&&_}
+-- What can be wrong with the body of a record but for tiers: refusal 5 (01:35; 02:CR 4, CR 6). Definitions only.
+use Prim.Native.Nat.{ℕ, suc}
+use mathlib.Core.Bool.{Bool, true, cond, not}
 use mathlib.Core.List.{List}
-use lib.Dec.{leb, ltb, eqb}
+use lib.Dec.{ltb, eqb}
 use Rattle.lists.specs.Tables.{anyBelow}
-use Rattle.schedule.specs.Limits.{couponLimit, cellClass, classLimit, tierLimit, withdrawalLimit}
-use Rattle.fields.specs.Records.{recordKind, recordCell, recordValue, amendmentNumber, amendmentState, amendmentValue, sheetNumber, tierCount, tierEdge, tierWithdrawal}
-use Rattle.records.specs.Kinds.{fineCouponKind, givesCell, amendmentKind, sheetKind, tiersKind}
+use Rattle.schedule.specs.Limits.{couponLimit, cellClass, classLimit}
+use Rattle.fields.specs.Records.{recordKind, recordCell, recordValue, amendmentNumber, amendmentState, amendmentValue, sheetNumber}
+use Rattle.records.specs.Kinds.{fineCouponKind, givesCell, amendmentKind, sheetKind}
 
 -- an amendment (02:CR 6) whose number is 0, whose value is over its class's limit, which withdraws a cell and holds a value, or whose state is another
 unfoldable pub unfitAmendment : List ℕ → ℕ → Bool
@@ -31,17 +31,3 @@ overLimit s at =
     cond (givesCell (recordKind s at)) (ltb (valueLimit s at) (recordValue s at))
     (cond (eqb (recordKind s at) amendmentKind) (unfitAmendment s at)
     (numberOver s at (sheet .limit) (sheet .numbers)))
-
--- The i-th tier, from 0, does not load (02:CR 1): its withdrawal is above 600; the first edge is not 0; a later edge does not rise above the one
--- before, or its withdrawal falls
-unfoldable pub unfitTier : List ℕ → ℕ → ℕ → Bool
-unfitTier s at i =
-    ltb withdrawalLimit (tierWithdrawal s at i)
-    || cond (eqb i 0) (not (eqb (tierEdge s at i) 0))
-    (leb (tierEdge s at i) (tierEdge s at (i - 1)) || ltb (tierWithdrawal s at i) (tierWithdrawal s at (i - 1)))
-
--- 11: tiers that are not 1 to 16, or of which one does not load
-unfoldable pub unsoundTiers : List ℕ → ℕ → Bool
-unsoundTiers s at =
-    eqb (recordKind s at) tiersKind
-    && (ltb (tierCount s at) 1 || (ltb tierLimit (tierCount s at) || anyBelow (unfitTier s at) (tierCount s at)))

@@ -1,4 +1,78 @@
-// The bodies of records: refusals 5 and 11, each a function.
+// Refusal 5: the limits of a cell's value and of a sheet's numbers, in the body of a record.
+use fields::amendment_number;
+use fields::amendment_state;
+use fields::amendment_value;
+use fields::holds_numbers;
+use fields::number_of;
+use fields::record_cell;
+use fields::record_kind;
+use fields::record_value;
+use records::kinds::AMENDMENT_KIND;
+use records::kinds::FINE_COUPON_KIND;
+use records::kinds::gives_cell;
+use records::kinds::sheet_kind;
+use schedule::tables::cell_class;
+use schedule::tables::class_limit;
+ghost use mathlib.Core.Path.{_≡_};
+ghost use Rattle.bodies.specs.Bodies.{valueLimit, unfitAmendment, numberOver, overLimit};
 
-pub mod limits;
-pub mod tiers;
+// The largest coupon, in thousandths of a percent a year.
+const COUPON_LIMIT: u64 = 15_000;
+
+// 5: a value is over its limit.
+pub fn over_limit(s: &[u8], at: usize) -> bool
+    ensures { λ r. ⌜ r ≡ overLimit (now (s .entry)) at ⌝ }
+{
+    let kind = record_kind(s, at);
+    if gives_cell(kind) {
+        return value_limit(s, at) < record_value(s, at);
+    }
+    if kind == AMENDMENT_KIND {
+        return unfit_amendment(s, at);
+    }
+    let sheet = sheet_kind(kind);
+    number_over(s, at, sheet.limit, sheet.numbers as usize)
+}
+
+// The largest value of a record's cell: of a coupon in thousandths, or its class's.
+fn value_limit(s: &[u8], at: usize) -> u64
+    ensures { λ r. ⌜ r ≡ valueLimit (now (s .entry)) at ⌝ }
+{
+    if record_kind(s, at) == FINE_COUPON_KIND {
+        return COUPON_LIMIT;
+    }
+    class_limit(cell_class(record_cell(s, at)))
+}
+
+// An amendment whose number is 0, whose value is over its class's limit, which withdraws a cell and holds a value, or whose state is another.
+fn unfit_amendment(s: &[u8], at: usize) -> bool
+    ensures { λ r. ⌜ r ≡ unfitAmendment (now (s .entry)) at ⌝ }
+{
+    if amendment_number(s, at) == 0 {
+        return true;
+    }
+    let state = amendment_state(s, at);
+    let value = amendment_value(s, at);
+    if state == 0 {
+        return class_limit(cell_class(record_cell(s, at))) < value;
+    }
+    if state == 1 {
+        return value != 0;
+    }
+    true
+}
+
+// One of a sheet's first n numbers is over the limit.
+fn number_over(s: &[u8], at: usize, limit: u16, n: usize) -> bool
+    ensures { λ r. ⌜ r ≡ numberOver (now (s .entry)) at limit n ⌝ }
+{
+    let within = holds_numbers(s, at, n);
+    let mut i = 0;
+    while i < n {
+        i += 1;
+        if limit < number_of(s, at, i, within) {
+            return true;
+        }
+    }
+    false
+}

@@ -14,7 +14,8 @@ use Rattle.fields.specs.Records.{recordLength, recordKind, recordCell, recordVa
 use Rattle.records.specs.Kinds.{sheetOf, sheetKinds, sheetKind, sheetLength, givesCell, namesCell, amendmentKind, tiersKind, dueLength}
 use Rattle.records.specs.declared.items.Item.the-variants.{Cell, Sheet}
 use Rattle.records.specs.Items.{recordClass, recordItem}
-use Rattle.bodies.specs.Bodies.{numberOver, valueLimit, overLimit, unsoundTiers}
+use Rattle.bodies.specs.Bodies.{numberOver, valueLimit, overLimit}
+use Rattle.tier_faults.specs.TierFaults.{unsoundTiers}
 use Rattle.faults.specs.Faults.{incomplete, misshapen, unlisted, standsBefore, repeated, amendmentRepeated, pathBesideFlat}
 use Rattle.record_verdicts.specs.RecordVerdicts.{shapeVerdict, bodyVerdict, recordVerdict}
 use Rattle.filled_cells.specs.declared.CellValue.{CellValue}

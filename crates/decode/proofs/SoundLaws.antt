@@ -24,7 +24,8 @@ use Rattle.fields.proofs.ByteLaws.{number-past}
 use Rattle.fields.proofs.RecordLaws.{first-fails}
 use Rattle.records.proofs.ItemLaws.{with-passes, record-of-cell, record-of-sheet, record-of-amendment}
 use Rattle.bodies.specs.Bodies.{valueLimit}
-use Rattle.bodies.proofs.BodyLaws.{SoundTiers, FitAmendment, tier-fits, tier-rises}
+use Rattle.bodies.proofs.BodyLaws.{FitAmendment}
+use Rattle.tier_faults.proofs.TierLaws.{SoundTiers, tier-fits, tier-rises}
 use Rattle.record_verdicts.proofs.FaultLaws.{Sound, record-plain, faultless-sound}
 use Rattle.faults.proofs.RepetitionLaws.{gives-plain}
 use Rattle.fields.proofs.FirstLaws.{first-earlier}

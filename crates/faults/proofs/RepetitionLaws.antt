@@ -4,11 +4,12 @@ use Prim.Native.Nat.{ℕ, _-_, _≤_, _<_}
 use native.Mathlib.Nat.{le-refl}
 use native.Mathlib.Omega.{arith}
 use mathlib.Core.Path.{_≡_, refl, sym, ap, _∙_}
-use mathlib.Core.Bool.{Bool, true, false, cond, not, _&&_, true≢false}
+use mathlib.Core.Bool.{Bool, true, false, cond, not, true≢false}
 use mathlib.Core.List.{List}
 use borrow.Author.Tests.{ltb-true, lt-ltb, le-ltb, eqb-true, eq-eqb, ne-eqb}
 use lib.Dec.{ltb, eqb}
 use lib.ListN.{length, getD}
+use Rattle.lists.proofs.TestLaws.{and-false}
 use Rattle.records.specs.declared.items.Item.{Item}
 use Rattle.records.specs.declared.items.Item.the-variants.{Cell, Sheet, Amendment, Nothing}
 use Rattle.records.specs.Kinds.{kindCount, givesCell, amendmentKind}
@@ -19,10 +20,6 @@ use Rattle.records.proofs.ItemLaws.{same-nothing, record-of-cell, record-of-she
 use Rattle.notes.proofs.NoteLaws.{noted-cell, noted-sheet}
 use Rattle.fields.proofs.RecordLaws.{first-passes}
 use Rattle.faults.specs.Faults.{standsBefore, repeated, amendmentRepeated, sheetBefore}
-
-and-false : (b : Bool) → (b && false) ≡ false
-and-false true = refl
-and-false false = refl
 
 -- an item that is no amendment
 abbrev pub plainItem : Item → Bool

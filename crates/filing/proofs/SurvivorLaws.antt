@@ -9,6 +9,7 @@ use mathlib.Core.List.{List}
 use borrow.Author.Tests.{ltb-true, ltb-false, lt-ltb, le-ltb, eqb-true, eq-eqb, ne-eqb, not-false, not-true}
 use lib.Dec.{ltb, eqb}
 use lib.ListN.{length}
+use Rattle.lists.proofs.TestLaws.{and-true}
 use Rattle.schedule.specs.Limits.{couponClass, cellClass, monthsLimit, tierLimit}
 use Rattle.records.specs.declared.items.Item.{Item}
 use Rattle.records.specs.declared.items.Item.the-variants.{Cell, Sheet, Amendment, Nothing}
@@ -133,15 +134,11 @@ module _ (t : List ℕ) (sound : firstRefused t (recordVerdict t) ≡ length t)
           none true c = absurd (omega (arith, first-counted (ltb-true first (length t) c), ltb-false counted (length t) e))
           none false c = ltb-false first (length t) c
 
-both : (a b : Bool) → (a && b) ≡ true → (a ≡ true) × (b ≡ true)
-both true b e = (refl, e)
-both false b e = absurd (true≢false (sym e))
-
 -- a record that withdraws its cell gives 0
 withdrawn-amount : (s : List ℕ) (at : ℕ) → withdraws s at ≡ true → amountAt s at ≡ 0
 unfolding withdraws amountAt filedValue
 withdrawn-amount s at h =
-    let parts = both (eqb (recordKind s at) amendmentKind) (not (eqb (amendmentState s at) 0)) h in
+    let parts = and-true (eqb (recordKind s at) amendmentKind) (not (eqb (amendmentState s at) 0)) h in
     let kind = eqb-true (recordKind s at) amendmentKind (parts .0) in
     simp (
       ne-eqb (recordKind s at) fineCouponKind (λ e. omega arith),
@@ -173,7 +170,7 @@ module _ (s t : List ℕ) (u : Surviving s t) where
 
   kept : (n : ℕ) → survives s n ≡ true → cellValue s n ≡ amountAt s (cellOffset s n)
   unfolding survives cellValue
-  kept n h = simp (both (ltb (cellOffset s n) (length s)) (not (withdraws s (cellOffset s n))) h .0)
+  kept n h = simp (and-true (ltb (cellOffset s n) (length s)) (not (withdraws s (cellOffset s n))) h .0)
 
   cell-same : (n : ℕ) → cellValue t n ≡ cellValue s n
   unfolding cellValue

@@ -1,7 +1,6 @@
 // What is noted of the records of a filing.
-use fields::amendment_number;
-use fields::record_cell;
-use fields::record_kind;
+use fields::field_within;
+use fields::number_of;
 use records::CELLS;
 use records::FIRST_CELL;
 use records::KINDS;
@@ -11,9 +10,9 @@ use records::kinds::AMENDMENT_KIND;
 ghost use mathlib.Core.Path.{_≡_};
 ghost use mathlib.Core.Bool.{true, false, cond, _||_};
 ghost use mathlib.Core.List.{List};
-ghost use Prim.Native.Nat.{ℕ, _-_};
+ghost use Prim.Native.Nat.{ℕ, _+_, _-_, _≤_};
 ghost use lib.Dec.{ltb};
-ghost use lib.ListN.{getD, set};
+ghost use lib.ListN.{length, getD, set};
 ghost use Rattle.fields.specs.Records.{recordKind};
 ghost use Rattle.records.specs.declared.items.Item.the-variants.{Cell, Amendment};
 ghost use Rattle.records.specs.Kinds.{namesCell};
@@ -55,7 +54,7 @@ pub fn note(
     }
 }
 
-// The same of a record whose kind names a cell, and whose cell is listed for it.
+// The same of a record within the bytes whose kind names a cell, and whose cell is listed for it.
 pub fn note_named(
     s: &[u8],
     at: usize,
@@ -63,14 +62,14 @@ pub fn note_named(
     counting: &mut [usize; CELLS],
     falling: &mut [bool; BLOCKS],
 )
-    requires { ⌜ (namesCell (recordKind (now s) at) ≡ true) × (recordClass (now s) at ≡ 0 → ⊥) ⌝ }
+    requires { ⌜ (at + 14 ≤ length (now s)) × (namesCell (recordKind (now s) at) ≡ true) × (recordClass (now s) at ≡ 0 → ⊥) ⌝ }
     ensures { λ _. ⌜ ((sheets : List ℕ) → notes.notedAs sheets (now (cells .exit)) (now (counting .exit)) (now (falling .exit))
         ≡ notes.noteItem (now (s .entry)) (notes.notedAs sheets (now (cells .entry)) (now (counting .entry)) (now (falling .entry)))
         (recordItem (now (s .entry)) at) at) ⌝ }
 {
-    let cell = record_cell(s, at);
-    if record_kind(s, at) == AMENDMENT_KIND {
-        note_amendment(s, at, cell, amendment_number(s, at), counting, falling);
+    let cell = field_within(s, at, 4, 2);
+    if field_within(s, at, 2, 2) as usize == AMENDMENT_KIND {
+        note_amendment(s, at, cell, number_of(s, at, 2, true), counting, falling);
     } else {
         note_cell(s, at, cell, cells, counting);
     }

@@ -13,8 +13,11 @@ use Rattle.answers.proofs.VerdictLaws.{first-passed, first-refused, first-none,
 use Rattle.fields.specs.Records.{recordLength, recordKind, recordValue, sheetNumber, nextRecord}
 use Rattle.records.specs.Kinds.{givesCell, amendmentKind, sheetOf, sheetKinds, sheetKind, sheetLength, tiersKind, dueLength}
 use Rattle.records.proofs.ItemLaws.{OfSheet}
-use Rattle.bodies.specs.Bodies.{valueLimit, overLimit, unsoundTiers}
-use Rattle.bodies.proofs.BodyLaws.{neither, SoundTiers, FitAmendment, value-within, numbers-within, amendment-within, amendment-fits, tiers-load}
+use Rattle.bodies.specs.Bodies.{valueLimit, overLimit}
+use Rattle.tier_faults.specs.TierFaults.{unsoundTiers}
+use Rattle.bodies.proofs.BodyLaws.{FitAmendment, value-within, numbers-within, amendment-within, amendment-fits}
+use Rattle.tier_faults.proofs.TierLaws.{SoundTiers, tiers-load}
+use Rattle.lists.proofs.TestLaws.{neither}
 use Rattle.faults.specs.Faults.{incomplete, misshapen, unlisted, repeated, pathBesideFlat}
 use Rattle.record_verdicts.specs.RecordVerdicts.{shapeVerdict, bodyVerdict, recordVerdict}
 use Rattle.record_verdicts.specs.Inner.PlainVerdicts.{plainVerdict}

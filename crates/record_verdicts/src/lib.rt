@@ -1,8 +1,7 @@
 // The verdict on one record but for 16: refusals 1 to 4, 12, 5 and 11, in the paper's order.
 use answers::Answer;
 use answers::first_refusal;
-use bodies::limits::over_limit;
-use bodies::tiers::unsound_tiers;
+use bodies::over_limit;
 use faults::incomplete;
 use faults::misshapen;
 use faults::path_beside_flat;
@@ -10,6 +9,7 @@ use faults::repeated;
 use faults::unlisted;
 use records::CELLS;
 use records::KINDS;
+use tier_faults::unsound_tiers;
 ghost use mathlib.Core.Path.{_≡_};
 ghost use Prim.Native.Nat.{_≤_};
 ghost use lib.ListN.{length};

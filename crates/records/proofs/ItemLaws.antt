@@ -3,11 +3,12 @@
 use Prim.Native.Nat.{ℕ, _+_, _≤_, _<_}
 use native.Mathlib.Omega.{arith}
 use mathlib.Core.Path.{_≡_, refl, sym, ap, _∙_}
-use mathlib.Core.Bool.{Bool, true, false, cond, _&&_, true≢false}
+use mathlib.Core.Bool.{Bool, true, false, cond, true≢false}
 use mathlib.Core.List.{List}
 use borrow.Author.Tests.{ltb-true, ltb-false, eqb-true, eqb-false, eq-eqb, ne-eqb}
 use lib.Dec.{ltb, eqb}
 use lib.ListN.{length, List·getD-eq-default}
+use Rattle.lists.proofs.TestLaws.{and-true}
 use Rattle.schedule.specs.Limits.{couponClass, cellClass}
 use Rattle.schedule.proofs.ClassLaws.{class-listed}
 use Rattle.records.specs.declared.items.Item.{Item}
@@ -17,10 +18,6 @@ use Rattle.records.specs.Kinds.{kindCount, cellKind, fineCouponKind, ame
 use Rattle.records.specs.Items.{sameItem, recordClass, recordItem, firstWith, firstCell, cellCount}
 use Rattle.fields.proofs.ByteLaws.{number-past}
 use Rattle.fields.proofs.RecordLaws.{first-passes}
-
-both : (a b : Bool) → (a && b) ≡ true → (a ≡ true) × (b ≡ true)
-both true b e = (refl, e)
-both false b e = absurd (true≢false (sym e))
 
 -- the same item is the one item
 pub same-item : (a b : Item) → sameItem a b ≡ true → a ≡ b
@@ -36,7 +33,7 @@ same-item (Sheet m) Nothing e = absurd (true≢false (sym e))
 same-item (Amendment m a) (Cell n) e = absurd (true≢false (sym e))
 same-item (Amendment m a) (Sheet n) e = absurd (true≢false (sym e))
 same-item (Amendment m a) (Amendment n b) e =
-    let h = both (eqb m n) (eqb a b) e in
+    let h = and-true (eqb m n) (eqb a b) e in
     ap (λ (c : ℕ). Amendment c a) (eqb-true m n (h .0)) ∙ ap (Amendment n) (eqb-true a b (h .1))
 same-item (Amendment m a) Nothing e = absurd (true≢false (sym e))
 same-item Nothing b e = absurd (true≢false (sym e))

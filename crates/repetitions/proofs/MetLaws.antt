@@ -10,6 +10,7 @@ use borrow.Author.Tests.{eqb-true, eqb-false, eq-eqb, ne-eqb}
 use lib.Dec.{eqb, ltb}
 use lib.ListN.{length, getD, replicate, length-set}
 use lib.Pow.{pow-pos}
+use Rattle.lists.proofs.TestLaws.{and-false}
 use Rattle.numbers.specs.Members.{bit, member, withMember}
 use Rattle.numbers.proofs.BitLaws.{member-with}
 use Rattle.records.specs.declared.items.Item.{Item}
@@ -42,10 +43,6 @@ or-turned true true = refl
 or-turned true false = refl
 or-turned false true = refl
 or-turned false false = refl
-
-and-false : (b : Bool) → (b && false) ≡ false
-and-false true = refl
-and-false false = refl
 
 -- a cell that is noted, with a number of a block
 pub record InBlock (block cell number : ℕ) : Type 0 where

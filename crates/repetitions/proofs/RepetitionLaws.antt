@@ -9,7 +9,7 @@ use mathlib.Core.List.{List}
 use borrow.Author.Tests.{le-leb, ltb-true, ltb-false, eq-eqb}
 use lib.Dec.{ltb}
 use Rattle.lists.specs.Tables.{anyBelow}
-use Rattle.lists.proofs.TestLaws.{any-here}
+use Rattle.lists.proofs.TestLaws.{and-true, and-false, any-here}
 use Rattle.records.specs.declared.items.Item.{Item}
 use Rattle.records.specs.declared.items.Item.the-variants.{Cell, Sheet, Amendment, Nothing}
 use Rattle.fields.specs.Records.{firstRecord}
@@ -26,14 +26,6 @@ use Rattle.fields.proofs.FirstLaws.{first-none, first-earlier, first-reached, f
 use Rattle.notes.proofs.CountingLaws.{counting-most}
 use Rattle.repetitions.specs.Inner.Repetitions.{repeats, repetitionsBelow}
 
-both : (a b : Bool) → (a && b) ≡ true → (a ≡ true) × (b ≡ true)
-both true b e = (refl, e)
-both false b e = absurd (true≢false (sym e))
-
-and-false : (b : Bool) → (b && false) ≡ false
-and-false true = refl
-and-false false = refl
-
 -- no test passes: none of them does
 any-never : (test : ℕ → Bool) (n : ℕ) → ((i : ℕ) → test i ≡ false) → anyBelow test n ≡ false
 unfolding anyBelow
@@ -49,7 +41,7 @@ module _ (s : List ℕ) where
   repeats-falls : (block at : ℕ) → Reached s 0 at → repeats s block at ≡ true → falls s block at ≡ true
   unfolding repeats falls fallsAs amendsIn outranked standsBefore
   repeats-falls block at r h =
-      let parts = both (amendsIn block (recordItem s at)) (ltb (firstWith s (recordItem s at) at) at) h in
+      let parts = and-true (amendsIn block (recordItem s at)) (ltb (firstWith s (recordItem s at) at) at) h in
       by (recordItem s at) refl (parts .0) (ltb-true (firstWith s (recordItem s at) at) at (parts .1))
     where
       by : (item : Item) → recordItem s at ≡ item → amendsIn block item ≡ true → firstWith s (recordItem s at) at < at → fallsAs s block at item ≡ true

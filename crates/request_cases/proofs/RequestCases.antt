@@ -15,7 +15,8 @@ use Rattle.fields.specs.Records.{nextRecord, searchRecords, firstRecord}
 use Rattle.records.specs.Kinds.{givesCell, namesCell, sheetOf, sheetKinds, sheetKind, sheetLength, dueLength}
 use Rattle.records.specs.Items.{sameItem, recordClass, recordItem, firstWith}
 use Rattle.notes.specs.Counting.{itemRank, counting, countsFrom, countingBefore}
-use Rattle.bodies.specs.Bodies.{valueLimit, unfitAmendment, numberOver, overLimit, unfitTier, unsoundTiers}
+use Rattle.bodies.specs.Bodies.{valueLimit, unfitAmendment, numberOver, overLimit}
+use Rattle.tier_faults.specs.TierFaults.{unfitTier, unsoundTiers}
 use Rattle.faults.specs.Faults.{incomplete, standsBefore, sheetBefore, pathBesideFlat}
 use Rattle.record_verdicts.specs.RecordVerdicts.{shapeVerdict, bodyVerdict, recordVerdict, firstRefused, verdictBy}
 use Rattle.conditions.specs.Conditions.{cellIn, monthsOutside, columnBalances, balances, aboveColumn, totalDiffers}

@@ -8,6 +8,7 @@ use mathlib.Core.List.{List}
 use borrow.Author.Tests.{ltb-false, le-ltb, eqb-true, eqb-false, eq-eqb, ne-eqb}
 use lib.Dec.{ltb, eqb}
 use lib.ListN.{length, getD}
+use Rattle.lists.proofs.TestLaws.{and-false}
 use Rattle.answers.specs.Verdict.{accepted, refusedIf, firstRefusal, firstOf}
 use Rattle.schedule.specs.Limits.{cellClass, classLimit}
 use Rattle.fields.specs.Bytes.{numberAt}
@@ -17,7 +18,8 @@ use Rattle.records.specs.declared.items.Item.the-variants.{Cell}
 use Rattle.records.specs.Items.{firstCell, cellCount, recordClass, recordItem}
 use Rattle.records.proofs.ItemLaws.{record-of-cell}
 use Rattle.notes.specs.Inner.Notes.{notedBefore}
-use Rattle.bodies.specs.Bodies.{valueLimit, unfitAmendment, overLimit, unsoundTiers}
+use Rattle.bodies.specs.Bodies.{valueLimit, unfitAmendment, overLimit}
+use Rattle.tier_faults.specs.TierFaults.{unsoundTiers}
 use Rattle.bodies.proofs.BodyLaws.{value-within, amendment-within}
 use Rattle.faults.specs.Faults.{incomplete, pathBesideFlat, unlisted, repeated}
 use Rattle.faults.proofs.RepetitionLaws.{cell-repeated}
@@ -43,10 +45,6 @@ gives-named kind h = rw h
 pub amends-named : (kind : ℕ) → kind ≡ amendmentKind → namesCell kind ≡ true
 unfolding namesCell givesCell
 amends-named kind e = rw e
-
-and-false : (b : Bool) → (b && false) ≡ false
-and-false true = refl
-and-false false = refl
 
 module _ (s : List ℕ) (at : ℕ) where
   abbrev kind : ℕ

@@ -9,14 +9,14 @@ use borrow.Author.Needs.{needs}
 use Rattle.notes.proofs.note_named.Statement.{statement}
 use Rattle.notes.proofs.note_named.Tie as tie
 
-record-cell-requires : tie.Need-record-cell-requires
-record-cell-requires c κs = search needs
+field-within-requires : tie.Need-field-within-requires
+field-within-requires c κs = search needs
 
-record-kind-requires : tie.Need-record-kind-requires
-record-kind-requires c κs = search needs
+field-within-requires-2 : tie.Need-field-within-requires-2
+field-within-requires-2 c κs = search needs
 
-amendment-number-requires : tie.Need-amendment-number-requires
-amendment-number-requires c κs = search needs
+number-of-requires : tie.Need-number-of-requires
+number-of-requires c κs = search needs
 
 -- what the function was passed
 abbrev start-of : tie.After-note-amendment-arg2 → tie.Start
@@ -25,12 +25,12 @@ start-of c = c .before .before .before .before .before .before .before
 -- the record is of an amendment
 amendment-is : (c : tie.After-note-amendment-arg2)
     → recordItem (start-of c .args .s .now) (start-of c .args .at)
-    ≡ Amendment (c .before .before .before .before .before .record-cell .result) (c .before .before .amendment-number .result)
+    ≡ Amendment (c .before .before .before .before .before .field-within .result) (c .before .before .number-of .result)
 amendment-is c =
     let at-number = c .before .before in
     let at-kind = at-number .before .before in
-    named-amendment _ _ (sym (at-kind .record-kind .ensures) ∙ at-number .before .if1 .taken) (start-of c .pre .1)
-    (at-kind .before .record-cell .ensures) (at-number .amendment-number .ensures)
+    named-amendment _ _ (sym (at-kind .field-within2 .ensures) ∙ at-number .before .if1 .taken) (start-of c .pre .2)
+    (at-kind .before .field-within .ensures) (at-number .number-of .ensures)
 
 note-amendment-requires : tie.Need-note-amendment-requires
 note-amendment-requires c κs = amendment-is c
@@ -38,13 +38,13 @@ note-amendment-requires c κs = amendment-is c
 -- the record is of a cell
 cell-is : (c : tie.After-note-cell-arg2)
     → recordItem (c .before .before .before .before .before .before .args .s .now) (c .before .before .before .before .before .before .args .at)
-    ≡ Cell (c .before .before .before .before .record-cell .result)
+    ≡ Cell (c .before .before .before .before .field-within .result)
 cell-is c =
     let other = c .before .before in
     let at-kind = other .before in
     let start = at-kind .before .before .before in
-    named-cell _ _ (start .pre .0) (λ k. other .if1 .left (at-kind .record-kind .ensures ∙ k)) (start .pre .1)
-    (at-kind .before .record-cell .ensures)
+    named-cell _ _ (start .pre .1) (λ k. other .if1 .left (at-kind .field-within2 .ensures ∙ k)) (start .pre .2)
+    (at-kind .before .field-within .ensures)
 
 note-cell-requires : tie.Need-note-cell-requires
 note-cell-requires c κs = cell-is c
@@ -63,9 +63,9 @@ pub note-named-spec : {M : Type 1} → statement M
 note-named-spec =
     tie.close
     (tie.spec
-    record-cell-requires
-    record-kind-requires
-    amendment-number-requires
+    field-within-requires
+    field-within-requires-2
+    number-of-requires
     note-amendment-requires
     note-cell-requires
     returns

@@ -7,7 +7,7 @@ use Rattle.notes.specs.Inner.Notes.{Noted}
 use Rattle.answers.specs.Answers.{verdictOf}
 use Rattle.answers.specs.Verdict.{Verdict}
 use Rattle.record_verdicts.specs.Inner.PlainVerdicts.{plainVerdict}
-use Rattle.sound_records.proofs.NamedLaws.{sound-told, told-listed}
+use Rattle.sound_records.proofs.NamedLaws.{sound-told, told-listed, told-within}
 use Rattle.scan.proofs.ProgressLaws.{visited-named, visited-sound, visited-faulty}
 use Rattle.scan.proofs.visit.Statement.{statement}
 use Rattle.scan.proofs.visit.Tie as tie
@@ -19,7 +19,7 @@ note-named-requires : tie.Need-note-named-requires
 note-named-requires c κs =
     let tested = c .before .before .before in
     let t = sound-told _ _ (sym (tested .before .sound-record .ensures) ∙ tested .if1 .taken) in
-    (t .named, told-listed _ _ t)
+    (told-within _ _ t, t .named, told-listed _ _ t)
 
 returns : tie.Need-returns
 returns c =

@@ -7,7 +7,7 @@ ghost use mathlib.Core.Path.{_≡_};
 ghost use Prim.Native.Nat.{_≤_, _<_};
 ghost use Rattle.lists.specs.Tables.{anyBelow};
 ghost use Rattle.schedule.specs.Limits.{tierLimit};
-ghost use Rattle.bodies.specs.Bodies.{unfitTier, unsoundTiers};
+ghost use Rattle.tier_faults.specs.TierFaults.{unfitTier, unsoundTiers};
 
 // The most tiers of a filing, and their largest annual withdrawal, in thousandths.
 const TIER_LIMIT: u16 = 16;

@@ -2,10 +2,10 @@
 -- Assumes nothing.
 use borrow.Author.Tests.{lt-ltb, le-ltb, eq-eqb, ne-eqb}
 use Rattle.records.specs.Kinds.{tiersKind}
-use Rattle.bodies.specs.Bodies.{unsoundTiers}
+use Rattle.tier_faults.specs.TierFaults.{unsoundTiers}
 use borrow.Author.Needs.{needs}
-use Rattle.bodies.proofs.tiers.unsound_tiers.Statement.{statement}
-use Rattle.bodies.proofs.tiers.unsound_tiers.Tie as tie
+use Rattle.tier_faults.proofs.unsound_tiers.Statement.{statement}
+use Rattle.tier_faults.proofs.unsound_tiers.Tie as tie
 
 record-kind-requires : tie.Need-record-kind-requires
 record-kind-requires c κs = search needs

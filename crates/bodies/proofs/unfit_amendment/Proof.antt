@@ -3,8 +3,8 @@
 use borrow.Author.Needs.{needs}
 use borrow.Author.Tests.{eq-eqb, ne-eqb}
 use Rattle.bodies.specs.Bodies.{unfitAmendment}
-use Rattle.bodies.proofs.limits.unfit_amendment.Statement.{statement}
-use Rattle.bodies.proofs.limits.unfit_amendment.Tie as tie
+use Rattle.bodies.proofs.unfit_amendment.Statement.{statement}
+use Rattle.bodies.proofs.unfit_amendment.Tie as tie
 
 amendment-number-requires : tie.Need-amendment-number-requires
 amendment-number-requires c κs = search needs

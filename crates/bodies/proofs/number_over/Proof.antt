@@ -9,8 +9,8 @@ use lib.ListN.{length}
 use Rattle.lists.specs.Tables.{anyBelow}
 use Rattle.bodies.specs.Bodies.{numberOver}
 use Rattle.bodies.proofs.SheetLaws as sheet
-use Rattle.bodies.proofs.limits.number_over.Statement.{statement}
-use Rattle.bodies.proofs.limits.number_over.Tie as tie
+use Rattle.bodies.proofs.number_over.Statement.{statement}
+use Rattle.bodies.proofs.number_over.Tie as tie
 
 abbrev Inv-loop : tie.InvT-loop
 Inv-loop s at limit n within i₀ i = (i ≤ n) × (numberOver s at limit i ≡ false)

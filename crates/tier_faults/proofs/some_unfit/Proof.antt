@@ -6,9 +6,9 @@ use mathlib.Core.Path.{_≡_, refl, sym, _∙_}
 use mathlib.Core.Bool.{false}
 use Rattle.lists.specs.Tables.{anyBelow}
 use Rattle.lists.proofs.TestLaws.{any-none, any-here}
-use Rattle.bodies.specs.Bodies.{unfitTier}
-use Rattle.bodies.proofs.tiers.some_unfit.Statement.{statement}
-use Rattle.bodies.proofs.tiers.some_unfit.Tie as tie
+use Rattle.tier_faults.specs.TierFaults.{unfitTier}
+use Rattle.tier_faults.proofs.some_unfit.Statement.{statement}
+use Rattle.tier_faults.proofs.some_unfit.Tie as tie
 
 abbrev Inv-loop : tie.InvT-loop
 Inv-loop s at n i₀ i = (i ≤ n) × (anyBelow (unfitTier s at) i ≡ false)

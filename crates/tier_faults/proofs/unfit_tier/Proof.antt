@@ -1,10 +1,10 @@
 -- `unfit_tier` meets its contract: each test of the code is the definition's.
 -- Assumes nothing.
 use borrow.Author.Tests.{lt-ltb, le-ltb, le-leb, lt-leb, eq-eqb, ne-eqb}
-use Rattle.bodies.specs.Bodies.{unfitTier}
+use Rattle.tier_faults.specs.TierFaults.{unfitTier}
 use borrow.Author.Needs.{needs}
-use Rattle.bodies.proofs.tiers.unfit_tier.Statement.{statement}
-use Rattle.bodies.proofs.tiers.unfit_tier.Tie as tie
+use Rattle.tier_faults.proofs.unfit_tier.Statement.{statement}
+use Rattle.tier_faults.proofs.unfit_tier.Tie as tie
 
 mul-sheet-number : tie.Need-mul-sheet-number
 mul-sheet-number c = search needs

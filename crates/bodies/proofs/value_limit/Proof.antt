@@ -4,8 +4,8 @@ use borrow.Author.Needs.{needs}
 use borrow.Author.Tests.{eq-eqb, ne-eqb}
 use Rattle.records.specs.Kinds.{fineCouponKind}
 use Rattle.bodies.specs.Bodies.{valueLimit}
-use Rattle.bodies.proofs.limits.value_limit.Statement.{statement}
-use Rattle.bodies.proofs.limits.value_limit.Tie as tie
+use Rattle.bodies.proofs.value_limit.Statement.{statement}
+use Rattle.bodies.proofs.value_limit.Tie as tie
 
 record-kind-requires : tie.Need-record-kind-requires
 record-kind-requires c κs = search needs
