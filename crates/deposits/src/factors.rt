@@ -1,12 +1,13 @@
 // Discount factors of every month and scenario.
 use lists::write;
 use month_steps::multipliers::discount_multiplier;
-use pricing::discounting::DiscountFactors;
 use pricing::discounting::discount_factors;
+use pricing::discounting::upper_multipliers;
 use schedule::scenarios::shifted_rates;
 ghost use mathlib.Core.Path.{_≡_};
-ghost use Prim.Native.Nat.{_<_, _≤_};
-ghost use lib.ListN.{replicate};
+ghost use Prim.Native.Nat.{_*_, _<_, _≤_};
+ghost use lib.ListN.{length, replicate};
+ghost use Rattle.lists.specs.Runs.{written};
 ghost use Rattle.schedule.specs.Limits.{monthsLimit};
 ghost use Rattle.pricing.specs.Rounding.{down, up, roundingOf};
 ghost use Rattle.deposits.specs.Inner.Discounts.{HoldsFactors};
@@ -51,20 +52,24 @@ pub fn fill_factors(
         if longest <= month as u64 {
             return;
         }
-        let seven = month_factors(yields, month);
-        write(lower, 7 * month, &seven.lower);
-        write(upper, 7 * month, &seven.upper);
+        write_month(yields, month, lower, upper);
         month += 1;
     }
 }
 
-// The factors of a month, counted from 0, in the seven scenarios.
-fn month_factors(yields: &[u16; 120], month: usize) -> DiscountFactors
-    requires { ⌜ WithinRates (now yields) × (month < monthsLimit) ⌝ }
-    ensures { λ r. ⌜ (r .lower ≡ yieldFactors down (now (yields .entry)) month) × (r .upper ≡ yieldFactors up (now (yields .entry)) month) ⌝ }
+// The factors of a month, counted from 0, in the seven scenarios. The lower ones are written before the upper ones are made, so that no more than seven
+// numbers are held at a time.
+fn write_month(yields: &[u16; 120], month: usize, lower: &mut FactorTable, upper: &mut FactorTable)
+    requires { ⌜ WithinRates (now yields) × (month < monthsLimit) × (840 ≤ length (now lower)) × (840 ≤ length (now upper)) ⌝ }
+    ensures { λ _. ⌜ (now (lower .exit) ≡ written (now (lower .entry)) (7 * month) (yieldFactors down (now (yields .entry)) month)) × (now (upper .exit) ≡ written (now (upper .entry)) (7 * month) (yieldFactors up (now (yields .entry)) month)) ⌝ }
 {
+    let n = month as u64 + 1;
     let rates = shifted_rates(yields[month]);
-    discount_factors(&rates, month as u64 + 1)
+    let multipliers = upper_multipliers(&rates);
+    let low = discount_factors(&rates, &multipliers, n, false);
+    write(lower, 7 * month, &low);
+    let high = discount_factors(&rates, &multipliers, n, true);
+    write(upper, 7 * month, &high);
 }
 
 // The multipliers of the factors of some months, written into a table of zeros: for the lower run, or for the upper one, whose table holds one less.

@@ -6,7 +6,7 @@ ghost use mathlib.Core.Path.{_≡_};
 ghost use Prim.Native.Nat.{ℕ, _*_, _≤_};
 ghost use Rattle.schedule.specs.Shift.{shiftedLimit};
 ghost use Rattle.pricing.specs.Scales.{par};
-ghost use Rattle.pricing.specs.Rounding.{down, up, roundingOf};
+ghost use Rattle.pricing.specs.Rounding.{up as upper, roundingOf};
 ghost use Rattle.pricing.specs.Inner.Multipliers.{multiplierScale, multiplierBy, multipliersBy, onePartMore, inChain, factorIn, factorsIn, nextBy, nextAllBy, chainedBy, discountsBy, AtMost};
 
 // The scale of a yield as a month's rate (01:58).
@@ -18,22 +18,17 @@ const HALF_RATE: u64 = RATE_SCALE / 2;
 // 2^64 - 1.
 const LARGEST: u64 = 18_446_744_073_709_551_615;
 
-// Lower and upper discount factors of seven rates, in billionths.
-pub struct DiscountFactors {
-    pub lower: [u64; 7],
-    pub upper: [u64; 7],
-}
-
-// The discount factors of seven rates after n monthly factors each. The rates, CD yields, are in hundredths of a percent a year; each is divided by once.
-pub fn discount_factors(rates: &[u64; 7], n: u64) -> DiscountFactors
-    requires { ⌜ AtMost shiftedLimit (now rates) ⌝ }
-    ensures { λ r. ⌜ (r .lower ≡ discountsBy down (now (rates .entry)) n) × (r .upper ≡ discountsBy up (now (rates .entry)) n) ⌝ }
+// The lower or the upper discount factors of seven rates after n monthly factors each, in billionths. The rates, CD yields, are in hundredths of a percent a
+// year; `multipliers` are those of their upper factors, so that each rate is divided by once.
+pub fn discount_factors(rates: &[u64; 7], multipliers: &[u64; 7], n: u64, up: bool) -> [u64; 7]
+    requires { ⌜ AtMost shiftedLimit (now rates) × (now multipliers ≡ multipliersBy upper (now rates)) ⌝ }
+    ensures { λ r. ⌜ r ≡ discountsBy (roundingOf up) (now (rates .entry)) n ⌝ }
 {
-    let above = upper_multipliers(rates);
-    let below = lower_multipliers(&above);
-    let lower = chained(&below, n, false);
-    let upper = chained(&above, n, true);
-    DiscountFactors { lower, upper }
+    if up {
+        return chained(multipliers, n, true);
+    }
+    let below = lower_multipliers(multipliers);
+    chained(&below, n, false)
 }
 
 // Seven chains of n multiplications each, from par.
@@ -102,9 +97,9 @@ fn factor_in(held: u64, up: bool) -> u64
 }
 
 // The multipliers of seven rates for their upper factors: too low by less than a factor can bring out.
-fn upper_multipliers(rates: &[u64; 7]) -> [u64; 7]
+pub fn upper_multipliers(rates: &[u64; 7]) -> [u64; 7]
     requires { ⌜ AtMost shiftedLimit (now rates) ⌝ }
-    ensures { λ r. ⌜ r ≡ multipliersBy up (now (rates .entry)) ⌝ }
+    ensures { λ r. ⌜ r ≡ multipliersBy upper (now (rates .entry)) ⌝ }
 {
     let mut multipliers = [0; 7];
     let mut i: usize = 0;
@@ -118,7 +113,7 @@ fn upper_multipliers(rates: &[u64; 7]) -> [u64; 7]
 // The multiplier of a rate for its upper factors.
 fn upper_multiplier(rate: u64) -> u64
     requires { ⌜ rate ≤ shiftedLimit ⌝ }
-    ensures { λ r. ⌜ r ≡ multiplierBy up rate ⌝ }
+    ensures { λ r. ⌜ r ≡ multiplierBy upper rate ⌝ }
 {
     HALF_RATE * (LARGEST / (RATE_SCALE + rate))
 }

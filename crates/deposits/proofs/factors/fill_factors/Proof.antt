@@ -32,20 +32,10 @@ returns c =
     let inv = c .before .before .loop .inv in
     (inv .1 .is ∙ factors-left _ _ _ _ (c .if1 .taken) (inv .0), inv .2 .is ∙ factors-left _ _ _ _ (c .if1 .taken) (inv .0))
 
-month-factors-requires : tie.Need-month-factors-requires Inv-loop μ-loop
-month-factors-requires c κs = (c .before .before .before .pre .0, omega arith)
-
-mul-write : tie.Need-mul-write Inv-loop μ-loop
-mul-write c = omega arith
-
-write-requires : tie.Need-write-requires Inv-loop μ-loop
-write-requires c κs = omega arith
-
-mul-write-2 : tie.Need-mul-write-2 Inv-loop μ-loop
-mul-write-2 c = omega arith
-
-write-requires-2 : tie.Need-write-requires-2 Inv-loop μ-loop
-write-requires-2 c κs = omega arith
+write-month-requires : tie.Need-write-month-requires Inv-loop μ-loop
+write-month-requires c κs =
+    let at = c .before .before .before .before in
+    (at .before .pre .0, omega arith, omega (arith, at .loop .inv .1 .as-long), omega (arith, at .loop .inv .2 .as-long))
 
 add-month : tie.Need-add-month Inv-loop μ-loop
 add-month c = omega arith
@@ -54,23 +44,21 @@ loop-less : tie.Need-loop-less Inv-loop μ-loop
 loop-less c = omega arith
 
 -- one month more
-month-written : (ρ : Rounding) (yields : List ℕ) (longest month : ℕ) (factors seven after : List ℕ) → month < 120 → month < longest
-    → Written ρ yields longest month factors → seven ≡ yieldFactors ρ yields month → after ≡ written factors (7 * month) seven
+month-written : (ρ : Rounding) (yields : List ℕ) (longest month : ℕ) (factors after : List ℕ) → month < 120 → month < longest
+    → Written ρ yields longest month factors → after ≡ written factors (7 * month) (yieldFactors ρ yields month)
     → Written ρ yields longest (month + 1) after
-month-written ρ yields longest month factors seven after h l w s e =
+month-written ρ yields longest month factors after h l w e =
     rw e
-    (overwritten-row [] (monthFactors ρ yields longest) 7 (month-length ρ yields longest) month (7 * month) (7 * (month + 1)) (replicate 840 0) factors seven w
-    (s ∙ month-within ρ yields longest month l) (omega arith) (omega arith))
+    (overwritten-row [] (monthFactors ρ yields longest) 7 (month-length ρ yields longest) month (7 * month) (7 * (month + 1)) (replicate 840 0) factors
+    (yieldFactors ρ yields month) w (month-within ρ yields longest month l) (omega arith) (omega arith))
 
 loop-again : tie.Need-loop-again Inv-loop μ-loop
 loop-again c =
-    let lower = c .before .before .before .before .before in
-    let month = lower .before .before .before .before .before in
-    let at = month .before .before .before in
-    let within = month .before .if1 .left in (
+    let test = c .before .before .before in
+    let at = test .before .before in (
       omega arith,
-      month-written down _ _ (at .loop .month) (at .loop .lower) _ _ (omega arith) (omega (arith, within)) (at .loop .inv .1) (month .month-factors .ensures .0) (lower .write .ensures),
-      month-written up _ _ (at .loop .month) (at .loop .upper) _ _ (omega arith) (omega (arith, within)) (at .loop .inv .2) (month .month-factors .ensures .1) (c .write2 .ensures),
+      month-written down _ _ (at .loop .month) (at .loop .lower) _ (omega arith) (omega (arith, test .if1 .left)) (at .loop .inv .1) (c .write-month .ensures .0),
+      month-written up _ _ (at .loop .month) (at .loop .upper) _ (omega arith) (omega (arith, test .if1 .left)) (at .loop .inv .2) (c .write-month .ensures .1),
     )
 
 returns-2 : tie.Need-returns-2 Inv-loop μ-loop
@@ -88,11 +76,7 @@ fill-factors-spec =
     μ-loop
     loop-holds
     returns
-    month-factors-requires
-    mul-write
-    write-requires
-    mul-write-2
-    write-requires-2
+    write-month-requires
     add-month
     loop-less
     loop-again
