@@ -25,7 +25,7 @@ pub fn multipliers_of(growth: u64, servicing: u64, survival: u64) -> MonthMultip
     requires { ⌜ (growth ≤ growthLimit) × (servicing ≤ servicingLimit) × (survival ≤ par) ⌝ }
     ensures { λ r. ⌜ r ≡ multipliersOf growth servicing survival ⌝ }
 {
-    let share = growth + 3 * survival;
+    let share = grown_share(growth, survival);
     let whole = GROWTH_SCALE <= share;
     let left = left_multiplier(beyond_whole(share));
     MonthMultipliers {
@@ -34,6 +34,14 @@ pub fn multipliers_of(growth: u64, servicing: u64, survival: u64) -> MonthMultip
         carried: carried_of(left),
         whole,
     }
+}
+
+// What a month makes of a balance of 3 x 10^9: the interest on all of it, and what survives.
+fn grown_share(growth: u64, survival: u64) -> u64
+    requires { ⌜ (growth ≤ growthLimit) × (survival ≤ par) ⌝ }
+    ensures { λ r. ⌜ r ≡ growth + 3 * survival ⌝ }
+{
+    growth + 3 * survival
 }
 
 // What of a share in units of 1 / (3 x 10^9) is beyond the whole.

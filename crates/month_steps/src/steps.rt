@@ -14,8 +14,8 @@ pub fn next_lower(run: Run, m: MonthMultipliers, discount: u64) -> Run
     requires { ⌜ (run .balance ≤ amountLimit) × (run .price ≤ amountLimit) ⌝ }
     ensures { λ r. ⌜ r ≡ stepBy down m discount run ⌝ }
 {
-    let paid = lower_paid(run.balance, m);
     let left = lower_left(run.balance, m);
+    let paid = lower_paid(run.balance, m);
     Run {
         balance: left,
         price: run.price + lower_product(paid, discount),
@@ -27,9 +27,9 @@ pub fn last_lower(run: Run, m: MonthMultipliers, discount: u64) -> u64
     requires { ⌜ (run .balance ≤ amountLimit) × (run .price ≤ amountLimit) ⌝ }
     ensures { λ r. ⌜ r ≡ lastBy down m discount run ⌝ }
 {
-    let paid = lower_paid(run.balance, m);
+    let outflow = lower_paid(run.balance, m);
     let left = lower_left(run.balance, m);
-    run.price + lower_product(paid + left, discount)
+    run.price + lower_product(outflow + left, discount)
 }
 
 // The upper run after a month in which the balance is not yet paid.
@@ -41,8 +41,8 @@ pub fn next_upper(run: Run, m: MonthMultipliers, discount: u64) -> Run
     if run.balance == 0 {
         return run;
     }
-    let paid = upper_paid(run.balance, m);
     let left = upper_left(run.balance, m);
+    let paid = upper_paid(run.balance, m);
     Run {
         balance: left,
         price: run.price + upper_product(paid, discount),
@@ -58,9 +58,9 @@ pub fn last_upper(run: Run, m: MonthMultipliers, discount: u64) -> u64
     if run.balance == 0 {
         return run.price;
     }
-    let paid = upper_paid(run.balance, m);
+    let outflow = upper_paid(run.balance, m);
     let left = upper_left(run.balance, m);
-    run.price + upper_product(paid + left, discount)
+    run.price + upper_product(outflow + left, discount)
 }
 
 // What a month pays of a balance, and what it leaves.

@@ -4,11 +4,8 @@ use Rattle.month_steps.specs.Multipliers.{multipliersOf}
 use Rattle.month_steps.proofs.multipliers.multipliers_of.Statement.{statement}
 use Rattle.month_steps.proofs.multipliers.multipliers_of.Tie as tie
 
-mul-share : tie.Need-mul-share
-mul-share c = search needs
-
-add-share : tie.Need-add-share
-add-share c = search needs
+grown-share-requires : tie.Need-grown-share-requires
+grown-share-requires c κs = search needs
 
 beyond-whole-requires : tie.Need-beyond-whole-requires
 beyond-whole-requires c κs = search needs
@@ -32,14 +29,13 @@ returns : tie.Need-returns
 unfolding multipliersOf
 returns c =
     let paid = c .before in
-    rw (c .carried-of .ensures, paid .par-multiplier .ensures, paid .before .left-multiplier .ensures, paid .before .before .beyond-whole .ensures .0)
+    rw (c .carried-of .ensures, paid .par-multiplier .ensures, paid .before .left-multiplier .ensures, paid .before .before .beyond-whole .ensures .0, paid .before .before .before .grown-share .ensures)
 
 pub multipliers-of-spec : {M : Type 1} → statement M
 multipliers-of-spec =
     tie.close
     (tie.spec
-    mul-share
-    add-share
+    grown-share-requires
     beyond-whole-requires
     left-multiplier-requires
     add-par-multiplier

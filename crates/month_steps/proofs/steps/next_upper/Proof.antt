@@ -8,11 +8,11 @@ use Rattle.month_steps.proofs.steps.next_upper.Tie as tie
 returns : tie.Need-returns
 returns c = step-gone _ _ _ (c .if1 .taken)
 
-upper-paid-requires : tie.Need-upper-paid-requires
-upper-paid-requires c κs = search needs
-
 upper-left-requires : tie.Need-upper-left-requires
 upper-left-requires c κs = search needs
+
+upper-paid-requires : tie.Need-upper-paid-requires
+upper-paid-requires c κs = search needs
 
 upper-product-requires : tie.Need-upper-product-requires
 upper-product-requires c κs = search needs
@@ -23,16 +23,16 @@ add-t8 c = search needs
 returns-2 : tie.Need-returns-2
 unfolding stepBy
 returns-2 c =
-    let left = c .before .before in
-    rw (c .before .upper-product .ensures .0, left .upper-left .ensures .0, left .before .upper-paid .ensures .0)
+    let paid = c .before .before in
+    rw (c .before .upper-product .ensures .0, paid .upper-paid .ensures .0, paid .before .upper-left .ensures .0)
 
 pub next-upper-spec : {M : Type 1} → statement M
 next-upper-spec =
     tie.close
     (tie.spec
     returns
-    upper-paid-requires
     upper-left-requires
+    upper-paid-requires
     upper-product-requires
     add-t8
     returns-2)
