@@ -4,7 +4,8 @@ use mathlib.Core.Path.{_≡_, refl}
 use mathlib.Core.List.{List}
 use lib.Dec.{lit<}
 use lib.ListN.{getD, replicate}
-use native.Mathlib.Nat.{le-antisymm, mul-assoc, mul-le-mul, mul-le-mul-left, mul-le-mul-right, mul-lt-mul-of-pos-left, mul-lt-mul-of-pos-right, lt-of-mul-lt-mul-right, le-of-suc-le-suc, div-mul-le-self, lt-div-mul-add, mul-div-mul-left, mul-div-cancel-left}
+use native.Mathlib.Nat.{le-antisymm, mul-assoc, mul-le-mul, mul-le-mul-left, mul-le-mul-right, mul-lt-mul-of-pos-left, mul-lt-mul-of-pos-right, lt-of-mul-lt-mul-right, le-of-suc-le-suc, div-mul-le-self, lt-div-mul-add, mul-div-mul-left}
+use native.Mathlib.Numerals.{add-one}
 use native.Mathlib.Omega.{arith}
 use Rattle.lists.specs.Tables.{tableFrom}
 use Rattle.lists.proofs.TableLaws.{table-getD, table-ext, table-le}
@@ -12,7 +13,7 @@ use Rattle.schedule.specs.Shift.{shiftedLimit, scenarioCount}
 use Rattle.pricing.specs.Scales.{par, rateScale}
 use Rattle.pricing.specs.Rounding.{Rounding, down, up, quotient}
 use Rattle.pricing.specs.Run.{discountBy}
-use Rattle.pricing.specs.Inner.Multipliers.{multiplierScale, multiplierBy, multipliersBy, onePartMore, scaledBy, inChain, inChains, factorIn, factorsIn, nextBy, nextAllBy, chainedBy, discountsBy, AtMost}
+use Rattle.pricing.specs.Inner.Multipliers.{multiplierBy, multipliersBy, onePartMore, scaledBy, nextBy, nextAllBy, chainedBy, discountsBy, AtMost}
 use Rattle.pricing.proofs.RoundingLaws.{ceiling-ge, ceiling-lt}
 use Rattle.pricing.proofs.LimitLaws.{discount-limit}
 
@@ -60,13 +61,13 @@ module _ (x z : ℕ) (hx : x ≤ par) (hz : z ≤ shiftedLimit) where
   lower-scaled : scaledBy down x (multiplierBy down z) ≡ quotient down (x * rateScale) (rateScale + z)
   unfolding scaledBy multiplierBy
   lower-scaled =
-      floor-near x rateScale (rateScale + z) multiplierScale (60000 * suc part) (omega arith) (omega arith) (omega (arith, part-gt))
+      floor-near x rateScale (rateScale + z) (2 ^ 63) (60000 * suc part) (omega arith) (omega arith) (omega (arith, part-gt))
       (omega (arith, mul-le-mul-left x part-le, brought-le))
 
   upper-scaled : 0 < x → scaledBy up x (multiplierBy up z) ≡ quotient up (x * rateScale) (rateScale + z)
   unfolding scaledBy multiplierBy
   upper-scaled more =
-      ceiling-near x rateScale (rateScale + z) multiplierScale (60000 * part) (omega arith) (omega arith) more (omega (arith, part-le))
+      ceiling-near x rateScale (rateScale + z) (2 ^ 64) (120000 * part) (omega arith) (omega arith) more (omega (arith, part-le))
       (omega (arith, mul-le-mul-left x part-gt, brought-le))
 
 -- an upper factor is never 0
@@ -88,84 +89,54 @@ factor-scaled down z n hz = lower-scaled (discountBy down z n) z (discount-limit
 factor-scaled up z n hz = upper-scaled (discountBy up z n) z (discount-limit z n up) hz (discount-pos z n)
 
 -- 2 x m / 2^64 is x m / 2^63
-pub halved : (x m : ℕ) → 2 * x * m / 2 ^ 64 ≡ x * m / multiplierScale
-halved x m = rw (mul-assoc 2 x m) (mul-div-mul-left (x * m) multiplierScale (lit< tt))
+pub halved : (x m : ℕ) → 2 * x * m / 2 ^ 64 ≡ x * m / 2 ^ 63
+halved x m = rw (mul-assoc 2 x m) (mul-div-mul-left (x * m) (2 ^ 63) (lit< tt))
 
 -- seven rates
 discounts-at-most : (ρ : Rounding) (rates : List ℕ) (n : ℕ) → AtMost par (discountsBy ρ rates n)
 unfolding discountsBy
 discounts-at-most ρ rates n = table-le 0 scenarioCount _ par (λ j l u. discount-limit (getD rates j 0) n ρ)
 
--- no chain holds more than twice par
-in-chain-le : (ρ : Rounding) (x : ℕ) → x ≤ par → inChain ρ x ≤ 2 * par
-unfolding inChain
-in-chain-le down x h = omega arith
-in-chain-le up x h = omega arith
-
-in-chains-le : (ρ : Rounding) (rates : List ℕ) (n : ℕ) → AtMost (2 * par) (inChains ρ (discountsBy ρ rates n))
-unfolding inChains
-in-chains-le ρ rates n = table-le 0 scenarioCount _ (2 * par) (λ j l u. in-chain-le ρ _ (discounts-at-most ρ rates n j))
-
-chained-zero : (ρ : Rounding) (rates : List ℕ) → replicate scenarioCount (inChain ρ par) ≡ inChains ρ (discountsBy ρ rates 0)
-unfolding inChains discountsBy tableFrom discountBy
+chained-zero : (ρ : Rounding) (rates : List ℕ) → replicate scenarioCount par ≡ discountsBy ρ rates 0
+unfolding discountsBy tableFrom discountBy
 chained-zero ρ rates = refl
 
--- the next in a chain holds the factor times its multiplier
-next-scaled : (ρ : Rounding) (x m : ℕ) → nextBy ρ (inChain ρ x) m ≡ inChain ρ (scaledBy ρ x m)
-unfolding inChain nextBy scaledBy
+-- the factor that follows is the factor times its multiplier
+next-scaled : (ρ : Rounding) (x m : ℕ) → nextBy ρ x m ≡ scaledBy ρ x m
+unfolding nextBy scaledBy
 next-scaled down x m = halved x m
-next-scaled up x m = omega (arith, halved x m)
+next-scaled up x m = add-one (x * m / 2 ^ 64)
 
--- one factor more in each of them
+-- one factor more at each of them
 chained-suc : (ρ : Rounding) (rates : List ℕ) (n : ℕ) → AtMost shiftedLimit rates
-    → nextAllBy ρ (inChains ρ (discountsBy ρ rates n)) (multipliersBy ρ rates) ≡ inChains ρ (discountsBy ρ rates (suc n))
-unfolding nextAllBy inChains discountsBy multipliersBy
+    → nextAllBy ρ (discountsBy ρ rates n) (multipliersBy ρ rates) ≡ discountsBy ρ rates (suc n)
+unfolding nextAllBy discountsBy multipliersBy
 chained-suc ρ rates n h =
     table-ext scenarioCount _ _
     (λ i l. rw (
-      table-getD scenarioCount (λ (j : ℕ). inChain ρ (getD (discountsBy ρ rates n) j 0)) i 0 l,
       table-getD scenarioCount (λ (j : ℕ). discountBy ρ (getD rates j 0) n) i 0 l,
-      table-getD scenarioCount (λ (j : ℕ). discountBy ρ (getD rates j 0) (suc n)) i 0 l,
       table-getD scenarioCount (λ (j : ℕ). multiplierBy ρ (getD rates j 0)) i 0 l,
       next-scaled ρ (discountBy ρ (getD rates i 0) n) (multiplierBy ρ (getD rates i 0)),
       factor-scaled ρ (getD rates i 0) n (h i),
     ))
 
--- so the chains hold the factors
-chained-holds : (ρ : Rounding) (rates : List ℕ) → AtMost shiftedLimit rates → (n : ℕ)
-    → chainedBy ρ (multipliersBy ρ rates) n ≡ inChains ρ (discountsBy ρ rates n)
+-- so the chains are the factors, none of which is above par
+pub chained-is : (ρ : Rounding) (rates : List ℕ) → AtMost shiftedLimit rates → (n : ℕ) → chainedBy ρ (multipliersBy ρ rates) n ≡ discountsBy ρ rates n
 unfolding chainedBy
-chained-holds ρ rates h zero = chained-zero ρ rates
-chained-holds ρ rates h (suc n) = rw (chained-holds ρ rates h n) (chained-suc ρ rates n h)
+chained-is ρ rates h zero = chained-zero ρ rates
+chained-is ρ rates h (suc n) = rw (chained-is ρ rates h n) (chained-suc ρ rates n h)
 
-pub chained-at-most : (ρ : Rounding) (rates : List ℕ) → AtMost shiftedLimit rates → (n : ℕ) → AtMost (2 * par) (chainedBy ρ (multipliersBy ρ rates) n)
-chained-at-most ρ rates h n = rw (chained-holds ρ rates h n) (in-chains-le ρ rates n)
+pub chained-at-most : (ρ : Rounding) (rates : List ℕ) → AtMost shiftedLimit rates → (n : ℕ) → AtMost par (chainedBy ρ (multipliersBy ρ rates) n)
+chained-at-most ρ rates h n = rw (chained-is ρ rates h n) (discounts-at-most ρ rates n)
 
-factor-back : (ρ : Rounding) (x : ℕ) → factorIn ρ (inChain ρ x) ≡ x
-unfolding factorIn inChain
-factor-back down x = refl
-factor-back up x = mul-div-cancel-left x {n = 2} (lit< tt)
-
-pub chained-is : (ρ : Rounding) (rates : List ℕ) → AtMost shiftedLimit rates → (n : ℕ)
-    → factorsIn ρ (chainedBy ρ (multipliersBy ρ rates) n) ≡ discountsBy ρ rates n
-unfolding factorsIn inChains discountsBy
-chained-is ρ rates h n =
-    rw (chained-holds ρ rates h n)
-    (table-ext scenarioCount _ _
-    (λ i l. rw (
-      table-getD scenarioCount (λ (j : ℕ). inChain ρ (getD (discountsBy ρ rates n) j 0)) i 0 l,
-      table-getD scenarioCount (λ (j : ℕ). discountBy ρ (getD rates j 0) n) i 0 l,
-      factor-back ρ (discountBy ρ (getD rates i 0) n),
-    )))
-
--- the multipliers of the lower factors from those of the upper ones, which are at most the whole
-upper-multiplier-le : (z : ℕ) → multiplierBy up z ≤ multiplierScale
+-- the multipliers of the upper factors are at most the whole, and those of the lower ones follow from them
+upper-multiplier-le : (z : ℕ) → multiplierBy up z ≤ 2 ^ 64
 unfolding multiplierBy
 upper-multiplier-le z = omega (arith, div-mul-le-self (2 ^ 64 - 1) (rateScale + z))
 
-pub upper-multipliers-le : (rates : List ℕ) → AtMost multiplierScale (multipliersBy up rates)
+pub upper-multipliers-le : (rates : List ℕ) → AtMost (2 ^ 64) (multipliersBy up rates)
 unfolding multipliersBy
-upper-multipliers-le rates = table-le 0 scenarioCount _ multiplierScale (λ j l u. upper-multiplier-le (getD rates j 0))
+upper-multipliers-le rates = table-le 0 scenarioCount _ (2 ^ 64) (λ j l u. upper-multiplier-le (getD rates j 0))
 
 pub lower-from-upper : (rates : List ℕ) → onePartMore (multipliersBy up rates) ≡ multipliersBy down rates
 unfolding onePartMore multipliersBy multiplierBy

@@ -1,6 +1,6 @@
 -- `pricing::discounting::chained` meets its contract: after i turns each chain has i factors. Assumes nothing.
 use Prim.Native.Nat.{_-_, _≤_}
-use mathlib.Core.Path.{_≡_}
+use mathlib.Core.Path.{_≡_, refl}
 use native.Mathlib.Numerals.{add-one}
 use native.Mathlib.Omega.{arith}
 use Rattle.pricing.specs.Rounding.{roundingOf}
@@ -9,22 +9,19 @@ use Rattle.pricing.proofs.discounting.chained.Statement.{statement}
 use Rattle.pricing.proofs.discounting.chained.Tie as tie
 
 abbrev Inv-loop : tie.InvT-loop
-Inv-loop multipliers n up chain₀ counter₀ chain counter = (counter ≤ n) × (chain ≡ chainedBy (roundingOf up) multipliers counter)
+Inv-loop multipliers n up factors₀ counter₀ factors counter = (counter ≤ n) × (factors ≡ chainedBy (roundingOf up) multipliers counter)
 
 abbrev μ-loop : tie.MeasureT-loop
-μ-loop multipliers n up chain₀ counter₀ chain counter = n - counter
-
-in-chain-requires : tie.Need-in-chain-requires Inv-loop μ-loop
-in-chain-requires c κs = omega arith
+μ-loop multipliers n up factors₀ counter₀ factors counter = n - counter
 
 loop-holds : tie.Need-loop-holds Inv-loop μ-loop
 unfolding chainedBy
-loop-holds c = (omega arith, rw (c .in-chain .ensures))
+loop-holds c = (omega arith, refl)
 
-next-in-chain-requires : tie.Need-next-in-chain-requires Inv-loop μ-loop
-next-in-chain-requires c κs =
+next-factors-requires : tie.Need-next-factors-requires Inv-loop μ-loop
+next-factors-requires c κs =
     let at = c .before .before in
-    rw (at .loop .inv .1) (at .before .before .pre _)
+    rw (at .loop .inv .1) (at .before .pre _)
 
 add-counter : tie.Need-add-counter Inv-loop μ-loop
 add-counter c = omega arith
@@ -36,16 +33,13 @@ loop-again : tie.Need-loop-again Inv-loop μ-loop
 unfolding chainedBy
 loop-again c =
     let at = c .before .before .before in
-    (omega arith, rw (c .next-in-chain .ensures, at .loop .inv .1, add-one))
-
-factors-in-requires : tie.Need-factors-in-requires Inv-loop μ-loop
-factors-in-requires c κs = tt
+    (omega arith, rw (c .next-factors .ensures, at .loop .inv .1, add-one))
 
 returns : tie.Need-returns Inv-loop μ-loop
 returns c =
-    let at = c .before .before .before in
-    let e : at .loop .counter ≡ at .before .before .args .n = omega arith in
-    rw (c .factors-in .ensures, at .loop .inv .1, e)
+    let at = c .before in
+    let e : at .loop .counter ≡ at .before .args .n = omega arith in
+    rw (at .loop .inv .1, e)
 
 pub chained-spec : {M : Type 1} → statement M
 chained-spec =
@@ -53,11 +47,9 @@ chained-spec =
     (tie.spec
     Inv-loop
     μ-loop
-    in-chain-requires
     loop-holds
-    next-in-chain-requires
+    next-factors-requires
     add-counter
     loop-less
     loop-again
-    factors-in-requires
     returns)

@@ -1,5 +1,5 @@
 -- `pricing::discounting::lower_multipliers` meets its contract: the multipliers before i are filled. Assumes nothing.
-use Prim.Native.Nat.{ℕ, _+_, _-_, _≤_}
+use Prim.Native.Nat.{ℕ, _+_, _-_, _/_, _≤_}
 use mathlib.Core.Path.{_≡_, refl}
 use native.Mathlib.Omega.{arith}
 use lib.ListN.{getD}
@@ -9,7 +9,7 @@ use Rattle.pricing.proofs.discounting.lower_multipliers.Statement.{stat
 use Rattle.pricing.proofs.discounting.lower_multipliers.Tie as tie
 
 abbrev Inv-loop : tie.InvT-loop
-Inv-loop upper multipliers₀ i₀ multipliers i = (i ≤ 7) × Filled (λ (j : ℕ). getD upper j 0 + 60000) 0 7 i multipliers
+Inv-loop upper multipliers₀ i₀ multipliers i = (i ≤ 7) × Filled (λ (j : ℕ). getD upper j 0 / 2 + 60000) 0 7 i multipliers
 
 abbrev μ-loop : tie.MeasureT-loop
 μ-loop upper multipliers₀ i₀ multipliers i = 7 - i

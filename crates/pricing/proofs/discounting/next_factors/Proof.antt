@@ -1,4 +1,4 @@
--- `pricing::discounting::next_in_chain` meets its contract: the factors before i are filled. Assumes nothing.
+-- `pricing::discounting::next_factors` meets its contract: the factors before i are filled. Assumes nothing.
 use Prim.Native.Nat.{ℕ, _-_, _≤_}
 use mathlib.Core.Path.{_≡_}
 use native.Mathlib.Omega.{arith}
@@ -6,15 +6,15 @@ use lib.ListN.{getD}
 use Rattle.lists.proofs.FillLaws.{Filled, fill-none, fill-more, fill-all}
 use Rattle.pricing.specs.Rounding.{roundingOf}
 use Rattle.pricing.specs.Inner.Multipliers.{nextBy, nextAllBy}
-use Rattle.pricing.proofs.discounting.next_in_chain.Statement.{statement}
-use Rattle.pricing.proofs.discounting.next_in_chain.Tie as tie
+use Rattle.pricing.proofs.discounting.next_factors.Statement.{statement}
+use Rattle.pricing.proofs.discounting.next_factors.Tie as tie
 
 abbrev Inv-loop : tie.InvT-loop
-Inv-loop chain multipliers up next₀ i₀ next i =
-    (i ≤ 7) × Filled (λ (j : ℕ). nextBy (roundingOf up) (getD chain j 0) (getD multipliers j 0)) 0 7 i next
+Inv-loop factors multipliers up next₀ i₀ next i =
+    (i ≤ 7) × Filled (λ (j : ℕ). nextBy (roundingOf up) (getD factors j 0) (getD multipliers j 0)) 0 7 i next
 
 abbrev μ-loop : tie.MeasureT-loop
-μ-loop chain multipliers up next₀ i₀ next i = 7 - i
+μ-loop factors multipliers up next₀ i₀ next i = 7 - i
 
 loop-holds : tie.Need-loop-holds Inv-loop μ-loop
 loop-holds c = (omega arith, fill-none _ 0 0 7)
@@ -55,8 +55,8 @@ returns c =
     let e : c .before .loop .i ≡ 7 = omega arith in
     fill-all _ 0 7 (c .before .loop .next) (rw e at (c .before .loop .inv .1))
 
-pub next-in-chain-spec : {M : Type 1} → statement M
-next-in-chain-spec =
+pub next-factors-spec : {M : Type 1} → statement M
+next-factors-spec =
     tie.close
     (tie.spec
     Inv-loop
