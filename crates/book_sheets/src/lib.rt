@@ -40,7 +40,19 @@ pub fn values_in<'a>(
     let mut above = [0u64; 840];
     fill_multipliers(lower, held.remaining_months, false, &mut below);
     fill_multipliers(upper, held.remaining_months, true, &mut above);
-    held_values(held, place, rates, own, &below, &above)
+    held_values(
+        held,
+        place,
+        rates,
+        own.count,
+        &own.edges,
+        &own.withdrawals,
+        &own.survivals,
+        own.otherwise,
+        own.retained,
+        &below,
+        &above,
+    )
 }
 
 // Every rate, tier and factor is within its limit and no upper factor is 0, as those of a filing are.

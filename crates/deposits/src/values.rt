@@ -14,7 +14,7 @@ use month_steps::multipliers::multipliers_of;
 use pricing::PAR;
 use pricing::values::value_of;
 use schedule::scenarios::Scenario;
-use withdrawal::WithdrawalTiers;
+use withdrawal::TIER_LIMIT;
 ghost use mathlib.Core.Path.{_≡_};
 ghost use Prim.Native.Nat.{_<_, _≤_};
 ghost use Rattle.schedule.specs.Limits.{balanceLimit, monthsLimit};
@@ -23,23 +23,29 @@ ghost use Rattle.withdrawal.specs.Inner.TierArrays.{tierTable, Usable};
 ghost use Rattle.pricing.specs.Scales.{amountLimit};
 ghost use Rattle.pricing.specs.Rounding.{down, up};
 ghost use Rattle.deposits.specs.Inner.Discounts.{factorsOf, Discounting, walkedPrices, valuesAt, Priceable};
+ghost use Rattle.deposits.specs.Inner.Places.{lentTiers};
 ghost use Rattle.deposits.specs.Inner.Prices.{ColumnRates, DepositLimits};
 ghost use Rattle.deposits.specs.Inner.Values.{listedValues};
 
 // Values in dollars of a balance in thousands of dollars: lower, upper, lower, upper and so on by scenario, at the retail rates of a column, 1 to 3, which
-// are not shifted. The tables hold the multipliers of the discount factors. In the last month nothing is withdrawn early. A zero balance walks no month.
-pub fn values_of(
+// are not shifted. The tiers are lent, with the withdrawals and `otherwise` that their survivals are of. The tables hold the multipliers of the discount factors. In the last month nothing is withdrawn early. A zero balance walks no month.
+pub fn values_of<'a>(
     balance: u64,
     d: Deposit,
     rates: &RatePaths,
     column: usize,
-    tiers: WithdrawalTiers,
+    count: usize,
+    edges: &'a [u64; TIER_LIMIT],
+    withdrawals: &'a [u64; TIER_LIMIT],
+    survivals: &'a [u64; TIER_LIMIT],
+    otherwise: u64,
+    retained: u64,
     lower: &MultiplierTable,
     upper: &MultiplierTable,
 ) -> [u64; 14]
-    requires { ⌜ (balance ≤ balanceLimit) × DepositLimits d × ColumnRates (now rates) column × Usable tiers ⌝ }
+    requires { ⌜ (balance ≤ balanceLimit) × DepositLimits d × ColumnRates (now rates) column × Usable (lentTiers count (now edges) (now withdrawals) (now survivals) otherwise retained) ⌝ }
     requires { ⌜ (0 < balance → Discounting down (d .months) (now lower) × Discounting up (d .months) (now upper)) ⌝ }
-    ensures { λ r. ⌜ r ≡ listedValues (tierTable tiers) balance d (now (rates .entry)) column (factorsOf down (d .months) (now (lower .entry))) (factorsOf up (d .months) (now (upper .entry))) ⌝ }
+    ensures { λ r. ⌜ r ≡ listedValues (tierTable (lentTiers count (now (edges .entry)) (now (withdrawals .entry)) (now (survivals .entry)) otherwise retained)) balance d (now (rates .entry)) column (factorsOf down (d .months) (now (lower .entry))) (factorsOf up (d .months) (now (upper .entry))) ⌝ }
 {
     let mut values = [0u64; 14];
     if balance == 0 {
@@ -55,16 +61,24 @@ pub fn values_of(
         d.months,
         rates,
         column,
-        tiers.count,
-        &tiers.edges,
+        count,
+        edges,
     );
-    let multipliers = place_multipliers(
+    let mut paid = [0u64; 17];
+    let mut left = [0u64; 17];
+    let mut carried = [0u64; 17];
+    let mut whole = [false; 17];
+    place_multipliers(
         d.brokered,
         growth,
         servicing,
-        tiers.count,
-        &tiers.survivals,
-        tiers.retained,
+        count,
+        survivals,
+        retained,
+        &mut paid,
+        &mut left,
+        &mut carried,
+        &mut whole,
     );
     let mut scenario: usize = 0;
     while (scenario as u64) < Scenario::COUNT {
@@ -72,10 +86,10 @@ pub fn values_of(
             balance,
             d.months,
             &places,
-            &multipliers.paid,
-            &multipliers.left,
-            &multipliers.carried,
-            &multipliers.whole,
+            &paid,
+            &left,
+            &carried,
+            &whole,
             last,
             lower,
             upper,

@@ -1,5 +1,4 @@
 // The places of the months, and the multipliers of the places.
-use crate::PlaceMultipliers;
 use crate::Places;
 use incentives::coupon_parts;
 use month_places::last_place;
@@ -8,7 +7,9 @@ use month_places::place_survival;
 use month_steps::multipliers::multipliers_of;
 use withdrawal::TIER_LIMIT;
 ghost use Prim.Native.Nat.{ℕ, _≤_};
-ghost use lib.ListN.{getD};
+ghost use mathlib.Core.Path.{_≡_};
+ghost use mathlib.Core.Bool.{false};
+ghost use lib.ListN.{getD, replicate};
 ghost use Rattle.schedule.specs.Limits.{couponLimit, penaltyLimit, monthsLimit, rateLimit, tierLimit};
 ghost use Rattle.pricing.specs.Scales.{par, growthLimit, servicingLimit};
 ghost use Rattle.month_places.specs.Places.{EdgesFit, placeSurvival};
@@ -44,7 +45,7 @@ pub fn early_places(
     places
 }
 
-// The multipliers of the places that the account may have.
+// The multipliers of the places that the account may have, written into arrays of zeros.
 pub fn place_multipliers(
     brokered: bool,
     growth: u64,
@@ -52,15 +53,16 @@ pub fn place_multipliers(
     count: usize,
     survivals: &[u64; TIER_LIMIT],
     retained: u64,
-) -> PlaceMultipliers
+    paid: &mut [u64; 17],
+    left: &mut [u64; 17],
+    carried: &mut [u64; 17],
+    whole: &mut [bool; 17],
+)
     requires { ⌜ (growth ≤ growthLimit) × (servicing ≤ servicingLimit) × (count ≤ tierLimit) × ((i : ℕ) → placeSurvival brokered count (now survivals) retained i ≤ par) ⌝ }
-    ensures { λ r. ⌜ Multiplied brokered growth servicing count (now (survivals .entry)) retained (r .paid) (r .left) (r .carried) (r .whole) ⌝ }
+    requires { ⌜ (now paid ≡ replicate 17 0) × (now left ≡ replicate 17 0) × (now carried ≡ replicate 17 0) × (now whole ≡ replicate 17 false) ⌝ }
+    ensures { λ _. ⌜ Multiplied brokered growth servicing count (now (survivals .entry)) retained (now (paid .exit)) (now (left .exit)) (now (carried .exit)) (now (whole .exit)) ⌝ }
 {
     let last = last_place(brokered, count);
-    let mut paid = [0u64; 17];
-    let mut left = [0u64; 17];
-    let mut carried = [0u64; 17];
-    let mut whole = [false; 17];
     let mut i: usize = 0;
     while i <= last {
         let survival = place_survival(brokered, i, count, survivals, retained);
@@ -70,11 +72,5 @@ pub fn place_multipliers(
         carried[i] = m.carried;
         whole[i] = m.whole;
         i += 1;
-    }
-    PlaceMultipliers {
-        paid,
-        left,
-        carried,
-        whole,
     }
 }

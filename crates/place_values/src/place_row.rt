@@ -6,7 +6,7 @@ use deposits::values::values_of;
 use lists::write;
 use schedule::positions::position;
 use sub_balances::SubBalance;
-use withdrawal::WithdrawalTiers;
+use withdrawal::TIER_LIMIT;
 ghost use mathlib.Core.Path.{_≡_};
 ghost use Prim.Native.Nat.{_≤_, _<_};
 ghost use Rattle.schedule.specs.Limits.{balanceLimit};
@@ -14,51 +14,87 @@ ghost use Rattle.sub_balances.specs.PlaceOrder.{subBalanceCount};
 ghost use Rattle.withdrawal.specs.Inner.TierArrays.{tierTable, Usable};
 ghost use Rattle.pricing.specs.Rounding.{down, up};
 ghost use Rattle.deposits.specs.Inner.Factors.{WithinRates};
+ghost use Rattle.deposits.specs.Inner.Places.{lentTiers};
 ghost use Rattle.deposits.specs.Inner.Prices.{DepositLimits};
 ghost use Rattle.deposits.specs.Inner.Discounts.{factorsOf, Discounting};
 ghost use Rattle.place_values.specs.PlaceTerms.{depositAt};
 ghost use Rattle.place_values.specs.Inner.PlaceRows.{listedHeld, rowOf};
 
-// The row of what place 0 to 35 holds, at the retail rates of a filing. The tables hold the multipliers of the discount factors.
-pub fn row_of(
+// The row of what place 0 to 35 holds, at the retail rates and the tiers of a filing, which are lent. The tables hold the multipliers of the discount factors.
+pub fn row_of<'a>(
     held: SubBalance,
     place: usize,
     rates: &RatePaths,
-    tiers: WithdrawalTiers,
+    count: usize,
+    edges: &'a [u64; TIER_LIMIT],
+    withdrawals: &'a [u64; TIER_LIMIT],
+    survivals: &'a [u64; TIER_LIMIT],
+    otherwise: u64,
+    retained: u64,
     lower: &MultiplierTable,
     upper: &MultiplierTable,
 ) -> [u64; 15]
     requires { ⌜ (place < subBalanceCount) × (held .balance ≤ balanceLimit) × DepositLimits (depositAt place held) ⌝ }
-    requires { ⌜ WithinRates (now rates) × Usable tiers ⌝ }
+    requires { ⌜ WithinRates (now rates) × Usable (lentTiers count (now edges) (now withdrawals) (now survivals) otherwise retained) ⌝ }
     requires { ⌜ (0 < held .balance → Discounting down (depositAt place held .months) (now lower) × Discounting up (depositAt place held .months) (now upper)) ⌝ }
-    ensures { λ r. ⌜ r ≡ rowOf held place (now (rates .entry)) (tierTable tiers) (factorsOf down (depositAt place held .months) (now (lower .entry))) (factorsOf up (depositAt place held .months) (now (upper .entry))) ⌝ }
+    ensures { λ r. ⌜ r ≡ rowOf held place (now (rates .entry)) (tierTable (lentTiers count (now (edges .entry)) (now (withdrawals .entry)) (now (survivals .entry)) otherwise retained)) (factorsOf down (depositAt place held .months) (now (lower .entry))) (factorsOf up (depositAt place held .months) (now (upper .entry))) ⌝ }
 {
     if held.balance == 0 {
         return [0; 15];
     }
-    let values = held_values(held, place, rates, tiers, lower, upper);
+    let values = held_values(
+        held,
+        place,
+        rates,
+        count,
+        edges,
+        withdrawals,
+        survivals,
+        otherwise,
+        retained,
+        lower,
+        upper,
+    );
     let mut row = [held.balance; 15];
     write(&mut row, 1, &values);
     row
 }
 
 // Lower and upper value in each scenario of what place 0 to 35 holds, in dollars.
-pub fn held_values(
+pub fn held_values<'a>(
     held: SubBalance,
     place: usize,
     rates: &RatePaths,
-    tiers: WithdrawalTiers,
+    count: usize,
+    edges: &'a [u64; TIER_LIMIT],
+    withdrawals: &'a [u64; TIER_LIMIT],
+    survivals: &'a [u64; TIER_LIMIT],
+    otherwise: u64,
+    retained: u64,
     lower: &MultiplierTable,
     upper: &MultiplierTable,
 ) -> [u64; 14]
     requires { ⌜ (place < subBalanceCount) × (held .balance ≤ balanceLimit) × DepositLimits (depositAt place held) ⌝ }
-    requires { ⌜ WithinRates (now rates) × Usable tiers ⌝ }
+    requires { ⌜ WithinRates (now rates) × Usable (lentTiers count (now edges) (now withdrawals) (now survivals) otherwise retained) ⌝ }
     requires { ⌜ (0 < held .balance → Discounting down (depositAt place held .months) (now lower) × Discounting up (depositAt place held .months) (now upper)) ⌝ }
-    ensures { λ r. ⌜ r ≡ listedHeld held place (now (rates .entry)) (tierTable tiers) (factorsOf down (depositAt place held .months) (now (lower .entry))) (factorsOf up (depositAt place held .months) (now (upper .entry))) ⌝ }
+    ensures { λ r. ⌜ r ≡ listedHeld held place (now (rates .entry)) (tierTable (lentTiers count (now (edges .entry)) (now (withdrawals .entry)) (now (survivals .entry)) otherwise retained)) (factorsOf down (depositAt place held .months) (now (lower .entry))) (factorsOf up (depositAt place held .months) (now (upper .entry))) ⌝ }
 {
     let d = deposit_at(place, held);
     let column = position(place / 4).column;
-    values_of(held.balance, d, rates, column, tiers, lower, upper)
+    values_of(
+        held.balance,
+        d,
+        rates,
+        column,
+        count,
+        edges,
+        withdrawals,
+        survivals,
+        otherwise,
+        retained,
+        lower,
+        upper,
+    )
 }
 
 // The deposit at a place.

@@ -40,7 +40,19 @@ fn write_rows(k: Contents, list: &mut [u64])
     discount_tables(&k.yields, longest, &mut lower, &mut upper);
     let mut place: usize = 0;
     while place < 36 {
-        let row = row_of(places[place], place, &k.rates, tiers, &lower, &upper);
+        let row = row_of(
+            places[place],
+            place,
+            &k.rates,
+            tiers.count,
+            &tiers.edges,
+            &tiers.withdrawals,
+            &tiers.survivals,
+            tiers.otherwise,
+            tiers.retained,
+            &lower,
+            &upper,
+        );
         write(list, 15 * place, &row);
         place += 1;
     }

@@ -9,6 +9,11 @@ use Rattle.early_months.specs.Places as months
 use Rattle.deposits.specs.declared.Deposit.{Deposit}
 use Rattle.deposits.specs.DepositTerms.{servicingCost}
 
+-- tiers whose arrays are lent
+abbrev pub lentTiers : ℕ → List ℕ → List ℕ → List ℕ → ℕ → ℕ → WithdrawalTiers
+lentTiers count edges withdrawals survivals otherwise retained =
+    record { count = count; edges = edges; withdrawals = withdrawals; survivals = survivals; otherwise = otherwise; retained = retained }
+
 -- places of all months before the last
 abbrev pub Placed : WithdrawalTiers → Deposit → List ℕ → ℕ → List (List ℕ) → Type 0
 Placed t d rates column places =

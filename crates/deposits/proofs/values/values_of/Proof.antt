@@ -8,6 +8,7 @@ use lib.ListN.{replicate}
 use Rattle.lists.specs.Tables.{tableFrom, table, joined}
 use Rattle.lists.proofs.TableLaws.{table-ext}
 use Rattle.lists.proofs.RunLaws.{Overwritten, overwritten-none, overwritten-row, overwritten-all}
+use Rattle.withdrawal.specs.declared.WithdrawalTiers.{WithdrawalTiers}
 use Rattle.withdrawal.specs.MonthSurvival.{accountOf}
 use Rattle.pricing.specs.Scales.{par, couponGrowth}
 use Rattle.pricing.specs.Rounding.{down, up}
@@ -15,7 +16,7 @@ use Rattle.month_places.proofs.PlaceLaws.{place-survival-le}
 use Rattle.month_steps.specs.Multipliers.{multipliersOf}
 use Rattle.deposits.specs.DepositTerms.{servicingCost}
 use Rattle.deposits.specs.Inner.Discounts.{Discounting, walkedPrices, valuesAt}
-use Rattle.deposits.specs.Inner.Places.{Placed, Multiplied}
+use Rattle.deposits.specs.Inner.Places.{lentTiers}
 use Rattle.deposits.specs.Inner.Values.{listedValues}
 use Rattle.deposits.proofs.TermsLaws.{servicing-le}
 use Rattle.deposits.proofs.WalkLaws.{priceable, prices-le, bounds-are}
@@ -24,16 +25,20 @@ use Rattle.deposits.proofs.values.values_of.Statement.{statement}
 use Rattle.deposits.proofs.values.values_of.Tie as tie
 
 abbrev Inv-loop : tie.InvT-loop
-Inv-loop balance d rates column lower upper values₀ growth servicing last places multipliers scenario₀ values scenario =
+Inv-loop balance d rates column count edges withdrawals survivals otherwise retained lower upper values₀ growth servicing last places paid left carried whole scenario₀ values scenario =
     (scenario ≤ 7)
     × Overwritten
     (joined (table scenario (λ (s : ℕ). valuesAt balance
-    (walkedPrices (multipliers .paid) (multipliers .left) (multipliers .carried) (multipliers .whole) places last lower upper s (d .months)))))
+    (walkedPrices paid left carried whole places last lower upper s (d .months)))))
     (2 * scenario) (replicate 14 0) values
 
 abbrev μ-loop : tie.MeasureT-loop
-μ-loop balance d rates column lower upper values₀ growth servicing last places multipliers scenario₀ values scenario =
+μ-loop balance d rates column count edges withdrawals survivals otherwise retained lower upper values₀ growth servicing last places paid left carried whole scenario₀ values scenario =
     7 - scenario
+
+-- the tiers that are lent
+abbrev lent : tie.Start Inv-loop μ-loop → WithdrawalTiers
+lent s = lentTiers (s .args .count) (s .args .edges .now) (s .args .withdrawals .now) (s .args .survivals .now) (s .args .otherwise) (s .args .retained)
 
 returns : tie.Need-returns Inv-loop μ-loop
 returns c = rw (c .if1 .taken) (no-values _ _ _ _ _ _)
@@ -54,7 +59,7 @@ multipliers-of-requires c κs =
 
 early-places-requires : tie.Need-early-places-requires Inv-loop μ-loop
 early-places-requires c κs =
-    let limits = c .before .before .before .before .before .before .pre .0 in (
+    let limits = c .before .before .before .before .pre .0 in (
       (limits .1 .coupon-le, limits .1 .penalty-le, limits .1 .months-le, record { count-le = limits .3 .count-le; edge-le = limits .3 .edge-le }),
       (limits .2 .within, limits .2 .first-le, limits .2 .last-le),
     )
@@ -65,36 +70,27 @@ place-multipliers-requires c κs =
     let growth = servicing .before in
     let start = growth .before .before in
     let limits = start .pre .0 in (
-      rw (growth .coupon-growth .ensures) (mul-le-mul-left _ (limits .1 .coupon-le)),
-      rw (servicing .servicing-cost .ensures) (servicing-le (accountOf (start .args .d .brokered))),
-      limits .3 .count-le,
-      λ i. place-survival-le (start .args .d .brokered) (start .args .t5) i (limits .3),
+      (
+        rw (growth .coupon-growth .ensures) (mul-le-mul-left _ (limits .1 .coupon-le)),
+        rw (servicing .servicing-cost .ensures) (servicing-le (accountOf (start .args .d .brokered))),
+        limits .3 .count-le,
+        λ i. place-survival-le (start .args .d .brokered) (lent start) i (limits .3),
+      ),
+      (refl, refl, refl, refl),
     )
 
--- what the walk goes by: places and multipliers of the deposit, those of its last month, and tables of discount factors
-walk : (c : tie.After-place-multipliers Inv-loop μ-loop)
-    → let early = c .before .before .before in
-    let last = early .before .before .before in
-    let a = last .before .before .before .before .args in
-    let m = c .place-multipliers .result in
-    Placed (a .t5) (a .d) (a .rates .now) (a .column) (early .early-places .result)
-    × Multiplied (a .t5) (a .d) (m .paid) (m .left) (m .carried) (m .whole)
-    × (last .multipliers-of .result ≡ multipliersOf (couponGrowth * a .d .coupon) (servicingCost (accountOf (a .d .brokered))) par)
+-- the multipliers of the last month, and the tables of discount factors
+last-known : (c : tie.After-multipliers-of Inv-loop μ-loop)
+    → let a = c .before .before .before .before .args in
+    (c .multipliers-of .result ≡ multipliersOf (couponGrowth * a .d .coupon) (servicingCost (accountOf (a .d .brokered))) par)
     × Discounting down (a .d .months) (a .lower .now)
     × Discounting up (a .d .months) (a .upper .now)
-walk c =
-    let early = c .before .before .before in
-    let last = early .before .before .before in
-    let servicing = last .before in
+last-known c =
+    let servicing = c .before in
     let growth = servicing .before in
     let some = growth .before in
-    let tables = some .before .pre .1 (pos-of-ne-zero (some .if1 .left)) in (
-      early .early-places .ensures,
-      rw (← (growth .coupon-growth .ensures), ← (servicing .servicing-cost .ensures)) (c .place-multipliers .ensures),
-      rw (← (growth .coupon-growth .ensures), ← (servicing .servicing-cost .ensures)) (last .multipliers-of .ensures),
-      tables .0,
-      tables .1,
-    )
+    let tables = some .before .pre .1 (pos-of-ne-zero (some .if1 .left)) in
+    (rw (← (growth .coupon-growth .ensures), ← (servicing .servicing-cost .ensures)) (c .multipliers-of .ensures), tables .0, tables .1)
 
 loop-holds : tie.Need-loop-holds Inv-loop μ-loop
 unfolding tableFrom joined
@@ -102,19 +98,23 @@ loop-holds c = (omega arith, overwritten-none _)
 
 value-bounds-requires : tie.Need-value-bounds-requires Inv-loop μ-loop
 value-bounds-requires c κs =
-    let test = c .before .before .before .before .before .before in
+    let test = c .before .before .before .before .before in
     let m = test .before .before in
-    let start = m .before .before .before .before .before .before .before .before .before .before in
+    let early = m .before .before .before .before .before in
+    let last = early .before in
+    let start = last .before .before .before .before in
     let a = start .args in
     let limits = start .pre .0 in
-    let known = walk m in
+    let known = last-known last in
     let lt : test .before .loop .scenario < 7 = omega (arith, test .loop-test .taken) in (
       (limits .0, limits .1 .months-le, lt),
       (
-        priceable (a .t5) (a .d) (a .rates .now) (a .column) _ _ _ _ _ (a .lower .now) (a .upper .now) _ (limits .1) (limits .3) (known .0) (known .1) lt (known .3) (known .4)
-            (known .2),
-        prices-le (a .t5) (a .d) (a .rates .now) (a .column) _ _ _ _ _ (a .lower .now) (a .upper .now) _ (limits .1) (limits .3) (known .0) (known .1) lt (known .3) (known .4)
-            (known .2),
+        priceable (lent start) (a .d) (a .rates .now) (a .column) _ _ _ _ _ (a .lower .now) (a .upper .now) _ (limits .1) (limits .3) (early .early-places .ensures)
+            (rw (← (last .before .before .coupon-growth .ensures), ← (last .before .servicing-cost .ensures)) (m .place-multipliers .ensures)) lt
+            (known .1) (known .2) (known .0),
+        prices-le (lent start) (a .d) (a .rates .now) (a .column) _ _ _ _ _ (a .lower .now) (a .upper .now) _ (limits .1) (limits .3) (early .early-places .ensures)
+            (rw (← (last .before .before .coupon-growth .ensures), ← (last .before .servicing-cost .ensures)) (m .place-multipliers .ensures)) lt
+            (known .1) (known .2) (known .0),
       ),
     )
 
@@ -140,9 +140,9 @@ loop-again : tie.Need-loop-again Inv-loop μ-loop
 unfolding valuesAt
 loop-again c =
     let bounds = c .before .before .before .before in
-    let at = bounds .before .before .before .before .before .before .before .before in
-    let state = at .loop in
-    let more : state .scenario < 7 = omega (arith, bounds .before .before .before .before .before .before .before .loop-test .taken) in (
+    let test = bounds .before .before .before .before .before .before in
+    let state = test .before .loop in
+    let more : state .scenario < 7 = omega (arith, test .loop-test .taken) in (
       omega (arith, more),
       rw (c .before .write .ensures) (overwritten-row [] _ 2 (λ s. refl) (state .scenario) (2 * state .scenario) (2 * (state .scenario + 1)) (replicate 14 0) (state .values)
           (bounds .value-bounds .result) (state .inv .1) (bounds .value-bounds .ensures) (omega (arith, more)) (omega (arith, more))),
@@ -152,16 +152,19 @@ returns-2 : tie.Need-returns-2 Inv-loop μ-loop
 unfolding listedValues
 returns-2 c =
     let m = c .before .before in
-    let start = m .before .before .before .before .before .before .before .before .before .before in
+    let early = m .before .before .before .before .before in
+    let last = early .before in
+    let start = last .before .before .before .before in
     let a = start .args in
     let limits = start .pre .0 in
-    let known = walk m in
+    let known = last-known last in
     let e : c .before .loop .scenario ≡ 7 = omega arith in
     overwritten-all _ _ _ _ (c .before .loop .inv .1) (omega arith)
     ∙ rw e
     (ap joined (table-ext 7 _ _
-    (λ s h. bounds-are (a .t5) (a .d) (a .rates .now) (a .column) _ _ _ _ _ (a .lower .now) (a .upper .now) s (limits .1) (limits .3) (known .0) (known .1) h (known .3) (known .4)
-    (known .2) (a .balance))))
+    (λ s h. bounds-are (lent start) (a .d) (a .rates .now) (a .column) _ _ _ _ _ (a .lower .now) (a .upper .now) s (limits .1) (limits .3) (early .early-places .ensures)
+    (rw (← (last .before .before .coupon-growth .ensures), ← (last .before .servicing-cost .ensures)) (m .place-multipliers .ensures)) h
+    (known .1) (known .2) (known .0) (a .balance))))
 
 pub values-of-spec : {M : Type 1} → statement M
 values-of-spec =

@@ -11,7 +11,7 @@ use Rattle.early_months.proofs.places.place_multipliers.Statement.{stat
 use Rattle.early_months.proofs.places.place_multipliers.Tie as tie
 
 abbrev Inv-loop : tie.InvT-loop
-Inv-loop brokered growth servicing count survivals retained last paid₀ left₀ carried₀ whole₀ i₀ paid left carried whole i =
+Inv-loop brokered growth servicing count survivals retained paid₀ left₀ carried₀ whole₀ last i₀ paid left carried whole i =
     (i ≤ last + 1)
     × FilledBy (λ (j n : ℕ). n ≡ multipliersAt brokered growth servicing count survivals retained j .paid) 0 17 i paid
     × FilledBy (λ (j n : ℕ). n ≡ multipliersAt brokered growth servicing count survivals retained j .left) 0 17 i left
@@ -19,49 +19,51 @@ Inv-loop brokered growth servicing count survivals retained last paid₀ left₀
     × FilledBy (λ (j : ℕ) (b : Bool). b ≡ multipliersAt brokered growth servicing count survivals retained j .whole) false 17 i whole
 
 abbrev μ-loop : tie.MeasureT-loop
-μ-loop brokered growth servicing count survivals retained last paid₀ left₀ carried₀ whole₀ i₀ paid left carried whole i = last + 1 - i
+μ-loop brokered growth servicing count survivals retained paid₀ left₀ carried₀ whole₀ last i₀ paid left carried whole i = last + 1 - i
 
 last-place-requires : tie.Need-last-place-requires Inv-loop μ-loop
 last-place-requires c κs = tt
 
 loop-holds : tie.Need-loop-holds Inv-loop μ-loop
-loop-holds c = (omega arith, filled-none _ 0 0 17, filled-none _ 0 0 17, filled-none _ 0 0 17, filled-none _ false false 17)
+loop-holds c =
+    let zeros = c .before .pre .1 in
+    rw (zeros .0, zeros .1, zeros .2, zeros .3) (omega arith, filled-none _ 0 0 17, filled-none _ 0 0 17, filled-none _ 0 0 17, filled-none _ false false 17)
 
 place-survival-requires : tie.Need-place-survival-requires Inv-loop μ-loop
-place-survival-requires c κs = c .before .before .before .pre .2
+place-survival-requires c κs = c .before .before .before .pre .0 .2
 
 multipliers-of-requires : tie.Need-multipliers-of-requires Inv-loop μ-loop
 multipliers-of-requires c κs =
     let start = c .before .before .before .before in
-    (start .pre .0, start .pre .1, rw (c .place-survival .ensures) (start .pre .3 _))
+    (start .pre .0 .0, start .pre .0 .1, rw (c .place-survival .ensures) (start .pre .0 .3 _))
 
 -- the place is one of the array's
 index-lt : (c : tie.After-multipliers-of Inv-loop μ-loop) → c .before .before .before .loop .i < 17
 index-lt c =
     let last = c .before .before .before .before in
     let start = last .before in
-    omega (arith, c .before .before .loop-test .taken, last .last-place .ensures, last-le (start .args .brokered) (start .args .count) (start .pre .2))
+    omega (arith, c .before .before .loop-test .taken, last .last-place .ensures, last-le (start .args .brokered) (start .args .count) (start .pre .0 .2))
 
 mul-paid : tie.Need-mul-paid Inv-loop μ-loop
 mul-paid c = omega (arith, index-lt c)
 
-array-write-paid : tie.Need-array-write-paid Inv-loop μ-loop
-array-write-paid c = index-lt c
+element-write-paid : tie.Need-element-write-paid Inv-loop μ-loop
+element-write-paid c = index-lt c
 
 mul-left : tie.Need-mul-left Inv-loop μ-loop
 mul-left c = omega (arith, index-lt c)
 
-array-write-left : tie.Need-array-write-left Inv-loop μ-loop
-array-write-left c = index-lt c
+element-write-left : tie.Need-element-write-left Inv-loop μ-loop
+element-write-left c = index-lt c
 
 mul-carried : tie.Need-mul-carried Inv-loop μ-loop
 mul-carried c = omega (arith, index-lt c)
 
-array-write-carried : tie.Need-array-write-carried Inv-loop μ-loop
-array-write-carried c = index-lt c
+element-write-carried : tie.Need-element-write-carried Inv-loop μ-loop
+element-write-carried c = index-lt c
 
-array-write-whole : tie.Need-array-write-whole Inv-loop μ-loop
-array-write-whole c = index-lt c
+element-write-whole : tie.Need-element-write-whole Inv-loop μ-loop
+element-write-whole c = index-lt c
 
 add-i : tie.Need-add-i Inv-loop μ-loop
 add-i c = omega (arith, index-lt c)
@@ -108,12 +110,12 @@ place-multipliers-spec =
     place-survival-requires
     multipliers-of-requires
     mul-paid
-    array-write-paid
+    element-write-paid
     mul-left
-    array-write-left
+    element-write-left
     mul-carried
-    array-write-carried
-    array-write-whole
+    element-write-carried
+    element-write-whole
     add-i
     loop-less
     loop-again

@@ -1,5 +1,5 @@
 -- `valuation::filing_numbers::write_rows` meets its contract: the rows of the places passed are written. Assumes nothing.
-use Prim.Native.Nat.{_+_, _*_, _-_, _≤_}
+use Prim.Native.Nat.{_+_, _*_, _-_, _≤_, _<_}
 use mathlib.Core.List.{[]}
 use mathlib.Core.Path.{_≡_, refl, ap, _∙_}
 use native.Mathlib.Omega.{arith}
@@ -67,7 +67,7 @@ array-copy-out-row-of c = omega arith
 
 row-of-requires : tie.Need-row-of-requires Inv-loop μ-loop
 row-of-requires c κs =
-    let at = c .before .before .before .before .before .before in
+    let at = c .before .before .before .before .before .before .before .before .before .before in
     let state = at .loop in
     let prepared = state .inv .2 in
     let held = held-limits _ _ _ _ _ prepared (state .place) (omega arith) in
@@ -91,15 +91,16 @@ loop-less c = omega arith
 loop-again : tie.Need-loop-again Inv-loop μ-loop
 loop-again c =
     let row = c .before .before .before .before .before in
-    let at = row .before .before .before .before .before .before .before in
-    let state = at .loop in
+    let test = row .before .before .before .before .before .before .before .before .before .before in
+    let state = test .before .loop in
+    let more : state .place < 36 = omega (arith, test .loop-test .taken) in
     let prepared = state .inv .2 in (
-      omega arith,
+      omega (arith, more),
       state .inv .1,
       prepared,
       rw (c .before .before .write .ensures) (overwritten-row [] (placeNumbers _) 15 (row-length _) (state .place) (15 * state .place) (15 * (state .place + 1))
           _ (state .list) (row .row-of .result) (state .inv .3)
-          (row .row-of .ensures ∙ row-is _ _ _ _ _ prepared (state .place) (omega arith)) (omega arith) (omega arith)),
+          (row .row-of .ensures ∙ row-is _ _ _ _ _ prepared (state .place) more) (omega (arith, more)) (omega (arith, more, state .inv .1))),
     )
 
 same-length : tie.Need-same-length Inv-loop μ-loop
