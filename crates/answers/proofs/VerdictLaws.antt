@@ -11,7 +11,8 @@ use lib.Dec.{ltb, eqb}
 use Rattle.lists.specs.Tables.{tableFrom}
 use Rattle.answers.specs.Verdict.{Verdict, accepted, refused, refusedIf, firstRefusal, firstOf, listVerdict}
 
-abbrev number-of : Verdict → ℕ
+-- the number of a verdict, 0 where it accepts
+abbrev pub number-of : Verdict → ℕ
 number-of v = v .number
 
 module _ (v next : Verdict) where

@@ -11,16 +11,13 @@ use Rattle.answers.specs.declared.Answer.{Answer}
 use Rattle.answers.specs.Answers.{verdictOf}
 use Rattle.answers.specs.Verdict.{Verdict, accepted}
 use Rattle.answers.proofs.AnswerLaws.{accepted-answer}
-use Rattle.answers.proofs.VerdictLaws.{Untried, tried-start, tried-here, tried-next, tried-all, first-passed, first-refused}
+use Rattle.answers.proofs.VerdictLaws.{number-of, Untried, tried-start, tried-here, tried-next, tried-all, first-passed, first-refused}
 use Rattle.filing.specs.Verdict.{filingVerdict}
 use Rattle.book_places.specs.declared.Book.{Book}
 use Rattle.book_places.specs.declared.Answered.{Answered}
 use Rattle.books.specs.Changes.{changeVerdict, bookAfterAll}
 use Rattle.books.specs.Promise.{Kept, OpenedOf, ChangedOf}
 use Rattle.book_changes.specs.Changing.{changeCount, changeAt, changesOf, changesVerdict, bookWith, bookVerdict, ChangedAll, BookOf}
-
-abbrev number-of : Verdict → ℕ
-number-of v = v .number
 
 module _ (opened : Book) (l : List ℕ) where
   abbrev verdictAt : ℕ → Verdict

@@ -9,14 +9,13 @@ use mathlib.Core.List.{List}
 use borrow.Author.Tests.{eq-eqb, ne-eqb}
 use lib.Dec.{eqb}
 use Rattle.lists.specs.Sums.{sum, sumWhere, everywhere}
-use Rattle.lists.specs.Tables.{tableFrom, table, those}
+use Rattle.lists.specs.Tables.{tableFrom, table}
 use Rattle.lists.proofs.TableLaws.{table-ext}
 use Rattle.schedule.specs.Limits.{balanceLimit, totalLimit}
 use Rattle.calendar.specs.declared.Date.{Date}
 use Rattle.certificate_terms.specs.Terms.{certificateCount, certificateAt, positionOf}
 use Rattle.certificates.specs.Sums.{positionSum, balanceOf, totalsOf}
 use Rattle.certificates.specs.Verdict.{certificatesVerdict}
-use Rattle.lists.specs.Ranges.{within}
 use Rattle.certificate_terms.proofs.FaultLaws.{sound-position}
 use Rattle.certificates.proofs.SumLaws.{Passed, passed-sound, sum-none, sum-suc, balance-sum-le}
 use Rattle.certified.proofs.FilledLaws.{all-passed}

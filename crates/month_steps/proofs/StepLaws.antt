@@ -8,12 +8,12 @@ use native.Mathlib.Nat.{zero-add, add-zero, mul-zero, mul-add, mul-le-mul, mul-l
 use native.Mathlib.Numerals.{add-one}
 use native.Mathlib.Omega.{arith}
 use Rattle.pricing.specs.declared.Run.{Run}
-use Rattle.pricing.specs.Scales.{par, growthLimit, servicingLimit, amountLimit}
+use Rattle.pricing.specs.Scales.{par, growthLimit, servicingLimit}
 use Rattle.pricing.specs.Rounding.{Rounding, down, up, quotient}
 use Rattle.pricing.specs.Inner.Month.{nextBalance, nextFlow, nextRun, Small, figureLimit}
 use Rattle.pricing.proofs.RoundingLaws.{ceiling-ge, ceiling-lt, quotient-le, quotient-zero}
 use Rattle.pricing.proofs.MultiplierLaws.{floor-near, ceiling-near, halved}
-use Rattle.month_steps.specs.Multipliers.{partBy, carriedOf, beyond, parMultiplier, multipliersOf, discountMultiplier, standsFor, factorOf, Discounts, paidBy, leftBy, productBy, stepBy, lastBy}
+use Rattle.month_steps.specs.Multipliers.{partBy, carriedOf, beyond, parMultiplier, multipliersOf, standsFor, factorOf, Discounts, paidBy, leftBy, productBy, stepBy, lastBy}
 use Rattle.month_steps.specs.declared.MonthMultipliers.{MonthMultipliers}
 
 -- rounded up, of something by something

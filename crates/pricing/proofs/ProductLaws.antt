@@ -1,5 +1,5 @@
 -- A product by the halves of its factors. Assumes nothing.
-use Prim.Native.Nat.{ℕ, suc, _+_, _*_, _/_, _%_, _≤_, _<_}
+use Prim.Native.Nat.{ℕ, _+_, _*_, _/_, _%_, _≤_, _<_}
 use mathlib.Core.Path.{_≡_, ap, _∙_}
 use native.Mathlib.Nat.{div-add-mod', div-eq-of-lt-le, div-le-of-le-mul, mul-comm, mul-le-mul-left, mul-le-mul-right, mod-lt}
 use native.Mathlib.Omega.{arith}

@@ -14,21 +14,26 @@ slice-aggregate-append-line : tie.Need-slice-aggregate-append-line
 slice-aggregate-append-line c = search needs
 
 append-line-requires : tie.Need-append-line-requires
-append-line-requires c κs = omega (
-  arith,
-  c .before .before .before .before .append-number .ensures .end-is,
-  c .before .before .before .before .append-number .kept .0,
-  decimal-length (c .before .before .before .before .before .before .before .args .cell) (omega (arith, c .before .before .before .before .before .before .before .fits .cell)),
-  rest-short (c .before .before .before .before .before .before .before .args .value) (omega (arith, c .before .before .before .before .before .before .before .fits .value)),
-)
+append-line-requires c κs =
+    let number = c .before .before .before .before in
+    let start = number .before .before .before in
+    omega (
+      arith,
+      number .append-number .ensures .end-is,
+      number .append-number .kept .0,
+      decimal-length (start .args .cell) (omega (arith, start .fits .cell)),
+      rest-short (start .args .value) (omega (arith, start .fits .value)),
+    )
 
 same-length : tie.Need-same-length
 same-length c = search needs
 
 returns : tie.Need-returns
-returns c = let a = c .before .before .before .before .before .before .before .before .before .before .args in
-    let line = appended-append _ _ _ _ _ _ _ _ (c .before .before .before .before .before .before .before .append-number .ensures) (c .before .before .append-line .ensures) in
-    (line, omega (arith, line .end-is, line-short (a .cell) (a .value) (omega (arith, c .before .before .before .before .before .before .before .before .before .before .fits .cell)) (omega (arith, c .before .before .before .before .before .before .before .before .before .before .fits .value))))
+returns c =
+    let number = c .before .before .before .before .before .before .before in
+    let start = number .before .before .before in
+    let line = appended-append _ _ _ _ _ _ _ _ (number .append-number .ensures) (c .before .before .append-line .ensures) in
+    (line, omega (arith, line .end-is, line-short (start .args .cell) (start .args .value) (omega (arith, start .fits .cell)) (omega (arith, start .fits .value))))
 
 pub append-cell-spec : {M : Type 1} → statement M
 append-cell-spec =

@@ -18,21 +18,22 @@ slice-aggregate-append-line : tie.Need-slice-aggregate-append-line
 slice-aggregate-append-line c = search needs
 
 append-line-requires : tie.Need-append-line-requires
-append-line-requires c κs = omega (
-  arith,
-  c .before .before .before .before .append .ensures .end-is,
-  c .before .before .before .before .append .kept .0,
-  rest-short (c .before .before .before .before .before .before .before .before .args .line) (omega (arith, c .before .before .before .before .before .before .before .before .fits .line)),
-)
+append-line-requires c κs =
+    let word = c .before .before .before .before in
+    let start = word .before .before .before .before in
+    omega (arith, word .append .ensures .end-is, word .append .kept .0, rest-short (start .args .line) (omega (arith, start .fits .line)))
 
 same-length : tie.Need-same-length
 same-length c = search needs
 
 returns : tie.Need-returns
 unfolding unreadableText unreadableWord
-returns c = let a = c .before .before .before .before .before .before .before .before .before .before .before .args in
-    let line = appended-append _ _ _ _ _ _ _ _ (c .before .before .before .before .before .before .before .append .ensures) (c .before .before .append-line .ensures) in
-    (line, omega (arith, c .before .before .before .before .before .before .before .append .ensures .end-is, c .before .before .append-line .ensures .end-is, rest-short (a .line) (omega (arith, c .before .before .before .before .before .before .before .before .before .before .before .fits .line))))
+returns c =
+    let word = c .before .before .before .before .before .before .before in
+    let start = word .before .before .before .before in
+    let rest = c .before .before .append-line .ensures in
+    let line = appended-append _ _ _ _ _ _ _ _ (word .append .ensures) rest in
+    (line, omega (arith, word .append .ensures .end-is, rest .end-is, rest-short (start .args .line) (omega (arith, start .fits .line))))
 
 pub append-unreadable-spec : {M : Type 1} → statement M
 append-unreadable-spec =

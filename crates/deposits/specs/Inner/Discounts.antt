@@ -6,7 +6,7 @@ use mathlib.Core.List.{List, [], _∷_}
 use lib.ListN.{getD}
 use Rattle.lists.specs.Tables.{table}
 use Rattle.schedule.specs.Shift.{scenarioCount}
-use Rattle.pricing.specs.Scales.{par, valueScale, amountLimit}
+use Rattle.pricing.specs.Scales.{par, valueScale}
 use Rattle.pricing.specs.Rounding.{Rounding, down, up, quotient}
 use Rattle.month_steps.specs.declared.MonthMultipliers.{MonthMultipliers}
 use Rattle.month_steps.specs.Multipliers.{carriedOf, discountMultiplier, factorOf, Discounts}

@@ -1,10 +1,9 @@
 -- `write` meets its contract: the first i numbers of the run are copied. Assumes nothing.
-use Prim.Native.Nat.{ℕ, _+_, _-_, _≤_}
-use mathlib.Core.Path.{_≡_, refl, sym, ap, _∙_}
-use mathlib.Core.List.{List, _++_}
+use Prim.Native.Nat.{_-_, _≤_}
+use mathlib.Core.Path.{_≡_, refl, _∙_}
 use native.Mathlib.Numerals.{add-one}
 use native.Mathlib.Omega.{arith}
-use lib.ListN.{length, take, drop, length-set}
+use lib.ListN.{length, length-set}
 use lib.Seq.{take-length, paste, paste-zero, paste-suc}
 use Rattle.lists.specs.Runs.{written}
 use Rattle.lists.proofs.write.Statement.{statement}

@@ -1,6 +1,6 @@
 -- `first_repetition` meets its contract. The loop's invariant: the first repetition of the blocks passed. A block whose numbers rise has none.
 -- Assumes nothing.
-use Prim.Native.Nat.{_+_, _-_, _≤_}
+use Prim.Native.Nat.{_-_, _≤_}
 use native.Mathlib.Numerals.{add-one}
 use native.Mathlib.Omega.{arith}
 use mathlib.Core.Path.{_≡_, refl, sym, ap, _∙_}

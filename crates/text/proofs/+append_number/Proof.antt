@@ -65,8 +65,9 @@ module _ (t : ℕ) where
   returns-2 : lts.Need-returns-2 (byte.Asked, byte.Learnt, below t, number.Post) (at t) number.Post
   unfolding digit
   returns-2 c =
-      rw (decimal-more (c .before .before .before .before .before .before .before .before .before .before .args .n) (omega arith))
-      (appended-append _ _ _ _ _ _ _ _ (c .before .before .before .before .before .before .append-number .ensures) (c .before .before .append-byte2 .ensures))
+      let tenth = c .before .before .before .before .before .before in
+      rw (decimal-more (tenth .before .before .before .before .args .n) (omega arith))
+      (appended-append _ _ _ _ _ _ _ _ (tenth .append-number .ensures) (c .before .before .append-byte2 .ensures))
 
 pub +append-number-spec : {M : Type 1} → statement M
 +append-number-spec =

@@ -1,4 +1,4 @@
--- `text::append_difference` meets its contract. Assumes nothing.
+-- `text_lines::append_difference` meets its contract. Assumes nothing.
 use mathlib.Core.Path.{ap}
 use native.Mathlib.Omega.{arith}
 use lib.ListN.{length}
@@ -26,9 +26,10 @@ same-length c = search needs
 
 returns : tie.Need-returns
 returns c =
-    let s = c .before .before .before .before .before .before .before .before .before .before .args in
+    let sign = c .before .before .before .before .before .before in
+    let s = sign .before .before .before .before .args in
     rw (signed-negative (s .a) (s .b) (omega arith))
-    (appended-append _ _ _ _ _ _ _ _ (c .before .before .before .before .before .before .append-byte .ensures) (c .before .before .append-number .ensures))
+    (appended-append _ _ _ _ _ _ _ _ (sign .append-byte .ensures) (c .before .before .append-number .ensures))
 
 append-number-requires-2 : tie.Need-append-number-requires-2
 append-number-requires-2 c κs =

@@ -72,10 +72,10 @@ same-length c = search needs
 returns : tie.Need-returns
 unfolding totalsIn
 returns c =
-    let d = c .before .before .before .before .before .before .before .before .before .before .before in
+    let line = c .before .before in
+    let d = line .before .before .before .before .before .before .before .before .before in
     let s = d .before .before .before .before .args in
-    rw (line-is (s .numbers .now) (s .from) (s .scenario))
-    (appended-append _ _ _ _ _ _ _ _ (d .append-difference .ensures) (c .before .before .append-line .ensures))
+    rw (line-is (s .numbers .now) (s .from) (s .scenario)) (appended-append _ _ _ _ _ _ _ _ (d .append-difference .ensures) (line .append-line .ensures))
 
 pub append-scenario-spec : {M : Type 1} → statement M
 append-scenario-spec =

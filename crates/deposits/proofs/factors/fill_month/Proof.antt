@@ -1,13 +1,11 @@
 -- `deposits::factors::fill_month` meets its contract. Assumes nothing.
-use Prim.Native.Nat.{ℕ}
-use mathlib.Core.List.{List}
-use mathlib.Core.Path.{_≡_, _∙_}
+use mathlib.Core.Path.{_∙_}
 use native.Mathlib.Numerals.{add-one}
 use borrow.Author.Needs.{needs}
-use Rattle.schedule.specs.Shift.{shiftedRates, shiftedLimit}
+use Rattle.schedule.specs.Shift.{shiftedLimit}
 use Rattle.schedule.proofs.ShiftLaws.{shifted-rates-le}
 use Rattle.pricing.specs.Rounding.{up}
-use Rattle.pricing.specs.Inner.Multipliers.{multipliersBy, AtMost}
+use Rattle.pricing.specs.Inner.Multipliers.{AtMost}
 use Rattle.pricing.proofs.MultiplierLaws.{chained-at-most, upper-chained}
 use Rattle.deposits.specs.Inner.Factors.{yieldFactors}
 use Rattle.deposits.proofs.factors.fill_month.Statement.{statement}

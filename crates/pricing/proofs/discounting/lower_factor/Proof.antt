@@ -1,8 +1,6 @@
 -- `pricing::discounting::lower_factor` meets its contract. Assumes nothing.
 use Prim.Native.Nat.{ℕ, zero, suc}
-use native.Mathlib.Omega.{arith}
-use mathlib.Core.Path.{_≡_, refl, sym}
-use Rattle.pricing.specs.Scales.{par}
+use mathlib.Core.Path.{_≡_, refl}
 use Rattle.pricing.specs.Rounding.{down}
 use Rattle.pricing.specs.Inner.Multipliers.{factorBy}
 use Rattle.pricing.proofs.discounting.lower_factor.Statement.{statement}

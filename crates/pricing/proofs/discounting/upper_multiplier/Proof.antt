@@ -1,5 +1,5 @@
 -- `pricing::discounting::upper_multiplier` meets its contract. Assumes nothing.
-use Prim.Native.Nat.{_+_, _*_, _-_, _/_, _^_, _≤_}
+use Prim.Native.Nat.{_+_, _-_, _^_}
 use mathlib.Core.Path.{refl}
 use native.Mathlib.Nat.{div-mul-le-self}
 use native.Mathlib.Omega.{arith}

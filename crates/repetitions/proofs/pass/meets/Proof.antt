@@ -1,6 +1,6 @@
 -- `meets` meets its contract.
 -- Assumes nothing.
-use Prim.Native.Nat.{_+_, _*_, _/_, _^_, _<_}
+use Prim.Native.Nat.{_+_, _*_, _/_}
 use native.Mathlib.Omega.{arith}
 use mathlib.Core.Path.{_≡_, sym, _∙_}
 use borrow.Author.Tests.{eq-eqb, ne-eqb}

@@ -38,6 +38,10 @@ discount-tables-requires c κs =
     let longest = term .longest-term .ensures ∙ ap longestTerm (term .before .places-of .ensures) in
     (yields-within (start .args .t1) (start .pre .0), rw longest (longest-limit (start .args .t1) (start .pre .0)), refl, refl)
 
+-- the loop's test, from the row of a place
+abbrev turn : tie.After-row-of Inv-loop μ-loop → tie.In-loop Inv-loop μ-loop
+turn r = r .before .before .before .before .before .before .before .before .before .before
+
 loop-holds : tie.Need-loop-holds Inv-loop μ-loop
 unfolding tableFrom joined
 loop-holds c =
@@ -67,8 +71,8 @@ array-copy-out-row-of c = omega arith
 
 row-of-requires : tie.Need-row-of-requires Inv-loop μ-loop
 row-of-requires c κs =
-    let at = c .before .before .before .before .before .before .before .before .before .before in
-    let state = at .loop in
+    let test = c .before .before .before .before .before .before .before .before .before in
+    let state = test .before .loop in
     let prepared = state .inv .2 in
     let held = held-limits _ _ _ _ _ prepared (state .place) (omega arith) in
     ((omega arith, held .0, held .1), ((rates-within _ (prepared .valid), prepared .usable), tables _ _ _ _ _ prepared (state .place) (omega arith)))
@@ -91,7 +95,7 @@ loop-less c = omega arith
 loop-again : tie.Need-loop-again Inv-loop μ-loop
 loop-again c =
     let row = c .before .before .before .before .before in
-    let test = row .before .before .before .before .before .before .before .before .before .before in
+    let test = turn row in
     let state = test .before .loop in
     let more : state .place < 36 = omega (arith, test .loop-test .taken) in
     let prepared = state .inv .2 in (
