@@ -21,6 +21,13 @@ within true inside e h = absurd (true≢false e)
 within false true e h = tt
 within false false e h = absurd (true≢false h)
 
+-- 7, then 8, then 9
+pub cells-in-turn : (cells : List ℕ) {first later months columns total : Verdict} → first ≡ firstRefusal months later → later ≡ firstRefusal columns total
+    → months ≡ monthsVerdict cells → columns ≡ columnsVerdict cells → total ≡ totalVerdict cells
+    → first ≡ cellsVerdict cells
+unfolding cellsVerdict
+cells-in-turn cells f l m c t = rw (f, l, m, c, t)
+
 module _ (cells : List ℕ) (passed : cellsVerdict cells .number ≡ 0) where
   columns-passed : firstRefusal (columnsVerdict cells) (totalVerdict cells) .number ≡ 0
   unfolding cellsVerdict

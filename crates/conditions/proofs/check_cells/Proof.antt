@@ -1,6 +1,6 @@
 -- `check_cells` meets its contract: 7, then 8, then 9. Assumes nothing.
 use borrow.Author.Needs.{needs}
-use Rattle.conditions.specs.CellVerdicts.{cellsVerdict}
+use Rattle.conditions.proofs.CellVerdictLaws.{cells-in-turn}
 use Rattle.conditions.proofs.check_cells.Statement.{statement}
 use Rattle.conditions.proofs.check_cells.Tie as tie
 
@@ -25,12 +25,11 @@ first-refusal-requires-2 : tie.Need-first-refusal-requires-2
 first-refusal-requires-2 c κs = search needs
 
 returns : tie.Need-returns
-unfolding cellsVerdict
 returns c =
     let total = c .before .before in
     let columns = total .before .before .before in
-    rw (← columns .before .before .before .check-months .ensures, ← columns .check-columns .ensures, ← total .check-total .ensures, ← c .before .first-refusal .ensures)
-    (c .first-refusal2 .ensures)
+    cells-in-turn _ (c .first-refusal2 .ensures) (c .before .first-refusal .ensures) (columns .before .before .before .check-months .ensures) (columns .check-columns .ensures)
+    (total .check-total .ensures)
 
 pub check-cells-spec : {M : Type 1} → statement M
 check-cells-spec =

@@ -5,10 +5,10 @@ use Rattle.notes.proofs.counting_of.Statement.{statement}
 use Rattle.notes.proofs.counting_of.Tie as tie
 
 returns : tie.Need-returns
-returns c = simp (lt-ltb _ _ (c .if1 .taken))
+returns c = simp (lt-ltb (c .before .args .high) (c .before .args .own) (c .if1 .taken))
 
 returns-2 : tie.Need-returns-2
-returns-2 c = simp (le-ltb _ _ (c .if1 .left))
+returns-2 c = simp (le-ltb (c .before .args .high) (c .before .args .own) (c .if1 .left))
 
 pub counting-of-spec : {M : Type 1} → statement M
 counting-of-spec = tie.close (tie.spec returns returns-2)

@@ -22,17 +22,17 @@ both-hold true false = refl
 both-hold false b = refl
 
 returns : tie.Need-returns
-returns c = simp (eq-eqb _ _ (c .if1 .taken))
+returns c = simp (eq-eqb (c .before .args .number) 0 (c .if1 .taken))
 
 returns-2 : tie.Need-returns-2
 returns-2 c =
     let a = c .before .before .args in
-    simp (ne-eqb _ _ (c .before .if1 .left), eq-eqb _ _ (c .if2 .taken)) (not-above (a .value) (a .limit))
+    simp (ne-eqb (a .number) 0 (c .before .if1 .left), eq-eqb (a .state) 0 (c .if2 .taken)) (not-above (a .value) (a .limit))
 
 returns-3 : tie.Need-returns-3
 returns-3 c =
     let a = c .before .before .args in
-    simp (ne-eqb _ _ (c .before .if1 .left), ne-eqb _ _ (c .if2 .left)) (both-hold (eqb (a .state) 1) (eqb (a .value) 0))
+    simp (ne-eqb (a .number) 0 (c .before .if1 .left), ne-eqb (a .state) 0 (c .if2 .left)) (both-hold (eqb (a .state) 1) (eqb (a .value) 0))
 
 pub fits-spec : {M : Type 1} → statement M
 fits-spec = tie.close (tie.spec returns returns-2 returns-3)
