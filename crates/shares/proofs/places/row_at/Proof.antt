@@ -32,10 +32,6 @@ total-is c =
 above-is : (c : tie.Start) → getD (c .args .t2 .above) (c .args .i) 0 ≡ columnSum (c .args .cells .now) (positionAt (c .args .i) .column) (c .args .i)
 above-is c = ap (λ (s : ColumnSums). getD (s .above) (c .args .i) 0) (c .pre .0) ∙ above-at (c .args .cells .now) (c .args .i) (c .pre .1)
 
--- the position, from where the column's two balances are read
-abbrev placed : tie.After-cell-value2 → tie.After-position
-placed two = two .before .before .before .before .before .before
-
 sub-column : tie.Need-sub-column
 sub-column c = in-range (c .before) .0
 
@@ -73,7 +69,9 @@ cell-value-requires-5 : tie.Need-cell-value-requires-5
 cell-value-requires-5 c κs = search needs
 
 add-cell-value-3 : tie.Need-add-cell-value-3
-add-cell-value-3 c = omega (arith, in-range (placed (c .before .before .before .before .before)))
+add-cell-value-3 c =
+    let two = c .before .before .before .before .before in
+    omega (arith, in-range (two .before .before .before .before .before .before))
 
 cell-value-requires-6 : tie.Need-cell-value-requires-6
 cell-value-requires-6 c κs = search needs
@@ -82,7 +80,7 @@ returns : tie.Need-returns
 unfolding rowAt brokeredCell penaltyBalanceCell penaltyMonthsCell
 returns c =
     let two = c .before .before .before .before .before .before in
-    let at = placed two in
+    let at = two .before .before .before .before .before .before in
     rw (
       total-is at,
       above-is (at .before),
