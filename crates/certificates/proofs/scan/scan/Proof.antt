@@ -1,7 +1,7 @@
 -- `scan` meets its contract. The loop's invariant: the certificates before k pass, and the sums are theirs. Assumes nothing.
 use Prim.Native.Nat.{ℕ, _-_, _<_}
 use native.Mathlib.Omega.{arith}
-use mathlib.Core.Path.{_≡_, sym, ap, _∙_}
+use mathlib.Core.Path.{_≡_, ap, _∙_}
 use lib.ListN.{length, getD}
 use Rattle.answers.specs.Verdict.{Verdict, accepted, refused}
 use Rattle.answers.specs.Answers.{verdictOf}
@@ -63,14 +63,14 @@ returns c =
     let n = c .before in
     let inv = turn n .loop .inv in
     let at = own n .certificate-at in
-    let some : n .number .result ≡ 0 → ⊥ = c .if1 .taken in
+    let some : n .number .result ≡ 0 → ⊥ = λ z. omega (arith, c .if1 .taken, z) in
     let found = n .before .check-certificate .ensures in
     let first = scan-own _ _ _ _ inv (counted (own n .before)) (at .result) (at .ensures) (λ e. some (own-number n ∙ e)) in
     let summed = own-summed _ _ _ _ inv (counted (own n .before)) (at .result) (at .ensures) (λ e. some (own-number n ∙ e)) in
     (found ∙ first, rw found summed)
 
 own-none : (c : tie.Else1 Inv-loop μ-loop) → ownVerdict (valuation (c .before)) (turn (c .before) .loop .k) (own (c .before) .certificate-at .result) .number ≡ 0
-own-none c = sym (own-number (c .before)) ∙ c .if1 .left
+own-none c = omega (arith, own-number (c .before), c .if1 .left)
 
 sound : (c : tie.Else1 Inv-loop μ-loop) → Sound (valuation (c .before)) (own (c .before) .certificate-at .result)
 sound c =
