@@ -1,6 +1,7 @@
 // The multipliers of a month.
 use crate::MonthMultipliers;
 use pricing::PAR;
+use pricing::products::upper_half;
 ghost use mathlib.Core.Path.{_≡_};
 ghost use Prim.Native.Nat.{_+_, _*_, _-_, _^_, _<_, _≤_};
 ghost use Rattle.pricing.specs.Scales.{par, growthLimit, servicingLimit};
@@ -10,10 +11,10 @@ ghost use Rattle.month_steps.specs.Multipliers.{beyond, carriedOf, parMu
 // The scale of a month's growth and survivors (01:56).
 const GROWTH_SCALE: u64 = 3 * PAR;
 
-// 2^63 / 10^9: the whole part, and the rest in billionths.
-const PAR_WHOLE: u64 = 9_223_372_036;
+// 2^63 / 10^9, rounded up, and by how much that is too high, 283,641 / 1,953,125, in units of 1 / 2^64, rounded up.
+const PAR_WHOLE: u64 = 9_223_372_037;
 
-const PAR_REST: u64 = 854_775_808;
+const PAR_OVER: u64 = 2_678_913_503_135_258_077;
 
 // 2^64 / (3 x 10^9): the whole part, and the rest in units of 1 / (3 x 10^9).
 const GROWTH_WHOLE: u64 = 6_148_914_691;
@@ -84,7 +85,7 @@ fn par_multiplier(n: u64) -> u64
     requires { ⌜ n ≤ par + servicingLimit ⌝ }
     ensures { λ r. ⌜ r ≡ parMultiplier n ⌝ }
 {
-    PAR_WHOLE * n + (PAR_REST * n + (PAR - 1)) / PAR
+    PAR_WHOLE * n - upper_half(n, PAR_OVER)
 }
 
 // n / (3 x 10^9) in units of 1 / 2^64, rounded up.
