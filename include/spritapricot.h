@@ -37,7 +37,7 @@ uint64_t spritapricot_cells(uint64_t year, uint64_t month, uint64_t day, const u
  * hundredths of a month; with the last four 0 the place is cleared. A last part of fewer than five does not count. Answers 0 for acceptance: `totals`
  * then holds the sum of the balances, and for each scenario the short lower, short upper, long lower and long upper total; *place is 0. Otherwise
  * answers the number of the first refusal, the filing's own or 17, with its place in *place, and leaves `totals` as it was. Memory as above, but about
- * 110 KiB of stack.
+ * 111 KiB of stack.
  */
 uint64_t spritapricot_book(const uint8_t *filing, size_t filing_length, const uint64_t *changes, size_t changes_length, uint64_t totals[29],
     uint64_t *place);
