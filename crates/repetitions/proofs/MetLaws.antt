@@ -15,11 +15,12 @@ use Rattle.numbers.specs.Members.{bit, member, withMember}
 use Rattle.numbers.proofs.BitLaws.{member-with}
 use Rattle.records.specs.declared.items.Item.{Item}
 use Rattle.records.specs.declared.items.Item.the-variants.{Cell, Sheet, Amendment, Nothing}
-use Rattle.fields.specs.Records.{nextRecord, searchRecords, firstRecord}
+use Rattle.fields.specs.Records.{amendmentNumber, nextRecord, searchRecords, firstRecord}
 use Rattle.records.specs.Items.{firstCell, cellCount, sameItem, recordItem, firstWith}
-use Rattle.notes.specs.Inner.Notes.{blockOf, amendsIn}
+use Rattle.notes.specs.Inner.Notes.{blockSize, blockOf, amendsIn}
 use Rattle.fields.proofs.ByteLaws.{Bytes, number-lt}
 use Rattle.records.proofs.ItemLaws.{record-of-amendment}
+use Rattle.notes.proofs.NoteLaws.{block-is}
 use Rattle.faults.specs.Faults.{standsBefore}
 use Rattle.fields.proofs.SearchLaws.{Reached, found-next}
 use Rattle.repetitions.specs.Inner.Repetitions.{repeats, keyOf, metAgain, metWith}
@@ -70,6 +71,27 @@ key-same {block} {cell} {number} {n} {m} h o = by (eqb n cell) (eqb m number) re
     by true true p q = eq-eqb (keyOf cell number) (keyOf n m) (rw (eqb-true n cell p, eqb-true m number q))
     by true false p q = ne-eqb (keyOf cell number) (keyOf n m) (λ k. eqb-false m number q (sym (key-alone h o k .1)))
     by false b p q = ne-eqb (keyOf cell number) (keyOf n m) (λ k. eqb-false n cell p (sym (key-alone h o k .0)))
+
+-- the number of an amendment is what is read for it, in its block
+pub number-block : (s : List ℕ) (at n number : ℕ) → Bytes s → recordItem s at ≡ Amendment n number → amendmentNumber s at / blockSize ≡ blockOf number
+number-block s at n number bytes e =
+    let of = record-of-amendment s at n number e in
+    let small : number < 2 ^ 16 = omega (arith, number-lt s (at + 2 + 2 * 2) 2 bytes, of .number-is) in
+    ap (λ (v : ℕ). v / blockSize) (of .number-is) ∙ block-is number small
+
+-- where what would be its number is of another block, a record meets nothing
+pub other-met : (s : List ℕ) (block at : ℕ) (met : List ℕ) → Bytes s → (amendmentNumber s at / blockSize ≡ block → ⊥)
+    → (metAgain block (recordItem s at) met ≡ false) × (metWith block (recordItem s at) met ≡ met)
+unfolding metAgain metWith
+other-met s block at met bytes other = by (recordItem s at) refl
+  where
+    by : (item : Item) → recordItem s at ≡ item → (metAgain block item met ≡ false) × (metWith block item met ≡ met)
+    by (Cell n) e = (refl, refl)
+    by (Sheet kind) e = (refl, refl)
+    by (Amendment n number) e =
+        let none = ne-eqb (blockOf number) block (λ q. other (number-block s at n number bytes e ∙ q)) in
+        (simp none, simp none)
+    by Nothing e = (refl, refl)
 
 module _ (s : List ℕ) (block : ℕ) where
   -- the members of the set are the cells and numbers of the block's amendments before `at`

@@ -1,4 +1,5 @@
 // A pass over the records for one block of numbers.
+use fields::amendment_number;
 use fields::record_length;
 use notes::BLOCK;
 use numbers::WORDS;
@@ -33,19 +34,19 @@ pub(crate) fn repetition(s: &[u8], block: usize, end: usize) -> usize
     end
 }
 
-// The record amends a cell with a number of the block that was met for it; it is met.
+// The record amends a cell with a number of the block that was met for it; it is met. Most records are told by what would be their number.
 fn meets(s: &[u8], block: usize, at: usize, met: &mut [u64; WORDS]) -> bool
     requires { ⌜ block < blockCount ⌝ }
     ensures { λ r. ⌜ (r ≡ metAgain block (recordItem (now (s .entry)) at) (now (met .entry)))
         × (now (met .exit) ≡ metWith block (recordItem (now (s .entry)) at) (now (met .entry))) ⌝ }
 {
+    if (amendment_number(s, at) / BLOCK) as usize != block {
+        return false;
+    }
     match record_item(s, at) {
         Item::Cell(_) => false,
         Item::Sheet(_) => false,
         Item::Amendment(cell, number) => {
-            if (number / BLOCK) as usize != block {
-                return false;
-            }
             let key = key_of(cell, number);
             let again = holds(met, key);
             put(met, key);

@@ -1,17 +1,30 @@
 -- `meets` meets its contract.
 -- Assumes nothing.
-use Prim.Native.Nat.{_+_, _*_, _/_}
-use native.Mathlib.Omega.{arith}
-use mathlib.Core.Path.{_≡_, sym, _∙_}
-use borrow.Author.Tests.{eq-eqb, ne-eqb}
+use Prim.Native.Nat.{ℕ, _/_}
+use mathlib.Core.Path.{_≡_, sym, ap, _∙_}
+use borrow.Author.Tests.{eq-eqb}
 use borrow.Author.Needs.{needs}
 use Rattle.notes.specs.Inner.Notes.{blockSize, blockOf}
-use Rattle.fields.proofs.ByteLaws.{number-lt}
 use Rattle.records.proofs.ItemLaws.{OfAmendment, record-of-amendment}
-use Rattle.notes.proofs.NoteLaws.{block-is}
 use Rattle.repetitions.specs.Inner.Repetitions.{metAgain, metWith}
+use Rattle.repetitions.proofs.MetLaws.{number-block, other-met}
 use Rattle.repetitions.proofs.pass.meets.Statement.{statement}
 use Rattle.repetitions.proofs.pass.meets.Tie as tie
+
+amendment-number-requires : tie.Need-amendment-number-requires
+amendment-number-requires c κs = search needs
+
+cast-if1 : tie.Need-cast-if1
+cast-if1 c = search needs
+
+-- what would be the number is of another block
+returns : tie.Need-returns
+returns c =
+    let read = c .before in
+    let start = read .before .before in
+    let none = other-met (start .args .s .now) (start .args .block) (start .args .at) (start .args .met .now) (read .before .shared-slice-known .given)
+    (λ e. c .if1 .taken (ap (λ (n : ℕ). n / blockSize) (read .amendment-number .ensures) ∙ e)) in
+    (sym (none .0), sym (none .1))
 
 record-item-requires : tie.Need-record-item-requires
 record-item-requires c κs = search needs
@@ -25,33 +38,26 @@ enum-told-2 c = search needs
 enum-known-cell : tie.Need-enum-known-cell
 enum-known-cell c = search needs
 
-cast-if1 : tie.Need-cast-if1
-cast-if1 c = search needs
+-- what would be the number, from an amendment, and the entry
+abbrev numbered : tie.After-cell → tie.After-amendment-number
+numbered c = c .before .before .before .before
 
--- the entry from an amendment, what it says, and the block of its number
 abbrev entry : tie.After-cell → tie.Start
-entry c = c .before .before .before .before
+entry c = numbered c .before .before
 
 of-amendment : (c : tie.After-cell) → OfAmendment (entry c .args .s .now) (entry c .args .at) (c .cell .given .0 .0) (c .cell .given .0 .1 .0)
 of-amendment c = record-of-amendment _ _ _ _ (sym (c .before .before .record-item .ensures) ∙ c .cell .given .1)
 
-block-of : (c : tie.After-cell) → c .cell .given .0 .1 .0 / blockSize ≡ blockOf (c .cell .given .0 .1 .0)
-block-of c =
-    let args = entry c .args in
-    let known = c .before .before .before .shared-slice-known .given in
-    block-is _ (omega (arith, number-lt (args .s .now) (args .at + 2 + 2 * 2) 2 known, of-amendment c .number-is))
-
-returns : tie.Need-returns
-unfolding metAgain metWith
-returns c =
-    let at-cell = c .before .before in
-    let other = ne-eqb _ _ (λ e. c .if1 .taken (block-of at-cell ∙ e)) in (
-      rw (← at-cell .before .before .record-item .ensures, at-cell .cell .given .1) (simp other),
-      rw (← at-cell .before .before .record-item .ensures, at-cell .cell .given .1) (simp other),
-    )
+-- its number is of the block
+same-block : (c : tie.After-cell) → blockOf (c .cell .given .0 .1 .0) ≡ entry c .args .block
+same-block c =
+    let read = numbered c in
+    sym (number-block _ _ _ _ (read .before .shared-slice-known .given) (sym (c .before .before .record-item .ensures) ∙ c .cell .given .1))
+    ∙ ap (λ (n : ℕ). n / blockSize) (sym (read .amendment-number .ensures))
+    ∙ c .before .before .before .if1 .left
 
 key-of-requires : tie.Need-key-of-requires
-key-of-requires c κs = let of = of-amendment (c .before .before) in
+key-of-requires c κs = let of = of-amendment (c .before) in
     (of .from-first, of .to-last)
 
 holds-requires : tie.Need-holds-requires
@@ -76,9 +82,8 @@ unfolding metAgain metWith
 returns-4 c =
     let at-holds = c .before .before in
     let at-key = at-holds .before .before in
-    let at-else = at-key .before in
-    let at-cell = at-else .before .before in
-    let same = eq-eqb _ _ (sym (block-of at-cell) ∙ at-else .if1 .left) in (
+    let at-cell = at-key .before .before in
+    let same = eq-eqb _ _ (same-block at-cell) in (
       rw (← at-cell .before .before .record-item .ensures, at-cell .cell .given .1, ← at-key .key-of .ensures) (simp same (at-holds .holds .ensures)),
       rw (← at-cell .before .before .record-item .ensures, at-cell .cell .given .1, ← at-key .key-of .ensures) (simp same (c .put .ensures)),
     )
@@ -91,12 +96,13 @@ pub meets-spec : {M : Type 1} → statement M
 meets-spec =
     tie.close
     (tie.spec
+    amendment-number-requires
+    cast-if1
+    returns
     record-item-requires
     enum-told
     enum-told-2
     enum-known-cell
-    cast-if1
-    returns
     key-of-requires
     holds-requires
     put-requires
