@@ -6,11 +6,11 @@ use lib.ListN.{getD}
 use lib.Dec.{leb, ltb, eqb}
 use Rattle.lists.specs.Sums.{sum}
 use Rattle.schedule.specs.declared.Position.{Position}
-use Rattle.schedule.specs.Cells.{positions, inColumn, withinRow, totalCell}
+use Rattle.schedule.specs.Cells.{firstCell, lastCell, positions, inColumn, withinRow, totalCell}
 
--- the value of a cell, 601 to 661, among the cells from 601 on; another number has none, and is 0
+-- the value of a cell among the cells from the first on; a number outside them has none, and is 0
 unfoldable pub cellIn : List ℕ → ℕ → ℕ
-cellIn cells n = cond (leb 601 n && leb n 661) (getD cells (n - 601) 0) 0
+cellIn cells n = cond (leb firstCell n && leb n lastCell) (getD cells (n - firstCell) 0) 0
 
 -- 7: a balance that is not zero, with remaining months (WARM) outside its row
 unfoldable pub monthsOutside : List ℕ → Position → Bool

@@ -1,17 +1,21 @@
-// The cells of a filing, the values of cells 601 to 661.
+// The cells of a filing: the values of the listed cells.
+use schedule::CELLS;
+use schedule::FIRST_CELL;
+use schedule::LAST_CELL;
 ghost use mathlib.Core.Path.{_≡_};
 ghost use Rattle.conditions.specs.Conditions.{cellIn};
 
-// The value of a cell, 601 to 661; 0 for another number.
-pub fn cell_value(cells: &[u64; 61], n: usize) -> u64
+// The value of a cell; 0 for a number outside the listed cells.
+pub fn cell_value(cells: &[u64; CELLS], n: usize) -> u64
     ensures { λ r. ⌜ r ≡ cellIn (now (cells .entry)) n ⌝ }
 {
-    if n < 601 {
+    let cell = n as u64;
+    if cell < FIRST_CELL {
         return 0;
     }
-    if 661 < n {
+    if LAST_CELL < cell {
         return 0;
     }
-    let i = n - 601;
+    let i = (cell - FIRST_CELL) as usize;
     cells[i]
 }

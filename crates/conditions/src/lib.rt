@@ -7,6 +7,7 @@ use crate::cells::cell_value;
 use crate::sums::column_sums;
 use answers::Answer;
 use answers::first_refusal;
+use schedule::CELLS;
 use schedule::Position;
 use schedule::positions::position;
 use schedule::positions::within_row;
@@ -17,7 +18,7 @@ ghost use Rattle.conditions.specs.CellVerdicts.{monthsVerdict, columnsVe
 ghost use Rattle.conditions.specs.Inner.Sums.{BalancesWithin, columnSums};
 
 // 7 to 9, on the cells of a filing.
-pub fn check_cells(cells: &[u64; 61]) -> Answer
+pub fn check_cells(cells: &[u64; CELLS]) -> Answer
     requires { ⌜ BalancesWithin (now cells) ⌝ }
     ensures { λ r. ⌜ verdictOf r ≡ cellsVerdict (now (cells .entry)) ⌝ }
 {
@@ -29,7 +30,7 @@ pub fn check_cells(cells: &[u64; 61]) -> Answer
 }
 
 // 7, by ascending WARM cell.
-fn check_months(cells: &[u64; 61]) -> Answer
+fn check_months(cells: &[u64; CELLS]) -> Answer
     ensures { λ r. ⌜ verdictOf r ≡ monthsVerdict (now (cells .entry)) ⌝ }
 {
     let mut i = 0;
@@ -44,7 +45,7 @@ fn check_months(cells: &[u64; 61]) -> Answer
 }
 
 // A position has a balance, and its remaining months lie outside its row.
-fn months_outside(cells: &[u64; 61], p: Position) -> bool
+fn months_outside(cells: &[u64; CELLS], p: Position) -> bool
     ensures { λ r. ⌜ r ≡ monthsOutside (now (cells .entry)) p ⌝ }
 {
     if cell_value(cells, p.balance) == 0 {
@@ -55,7 +56,7 @@ fn months_outside(cells: &[u64; 61], p: Position) -> bool
 }
 
 // 8, by ascending cell: the brokered balances 650 to 652, then the balances subject to penalty 653 to 655.
-fn check_columns(cells: &[u64; 61], totals: &[u64; 3]) -> Answer
+fn check_columns(cells: &[u64; CELLS], totals: &[u64; 3]) -> Answer
     requires { ⌜ now totals ≡ columnSums (now cells) .totals ⌝ }
     ensures { λ r. ⌜ verdictOf r ≡ columnsVerdict (now (cells .entry)) ⌝ }
 {
@@ -71,7 +72,7 @@ fn check_columns(cells: &[u64; 61], totals: &[u64; 3]) -> Answer
 }
 
 // 9, at the total.
-fn check_total(cells: &[u64; 61], totals: &[u64; 3]) -> Answer
+fn check_total(cells: &[u64; CELLS], totals: &[u64; 3]) -> Answer
     requires { ⌜ BalancesWithin (now cells) × (now totals ≡ columnSums (now cells) .totals) ⌝ }
     ensures { λ r. ⌜ verdictOf r ≡ totalVerdict (now (cells .entry)) ⌝ }
 {

@@ -1,12 +1,13 @@
 // The sums of the columns' balances, in thousands of dollars. Balances within their limit cannot make a sum wrap.
 use crate::ColumnSums;
 use crate::cells::cell_value;
+use schedule::CELLS;
 use schedule::positions::position;
 ghost use mathlib.Core.Path.{_≡_};
 ghost use Rattle.conditions.specs.Inner.Sums.{BalancesWithin, columnSums};
 
 // The sums of the three columns, and before each position the sum of its column's rows above it.
-pub fn column_sums(cells: &[u64; 61]) -> ColumnSums
+pub fn column_sums(cells: &[u64; CELLS]) -> ColumnSums
     requires { ⌜ BalancesWithin (now cells) ⌝ }
     ensures { λ r. ⌜ r ≡ columnSums (now (cells .entry)) ⌝ }
 {

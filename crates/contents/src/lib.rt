@@ -1,8 +1,10 @@
-// What an accepted filing says: the values of cells 601 to 661, the CD yields of months 1 to 120, the retail rates of months 1 to 120 column by column, and
-// its tiers of annual withdrawal. Cells are in their own units, coupons among them in
-// thousandths of a percent a year, yields and rates in hundredths.
+// What an accepted filing says.
+use schedule::CELLS;
+
+// The values of cells 601 to 661, the CD yields of months 1 to 120, the retail rates of months 1 to 120 column by column, and its tiers of annual withdrawal.
+// Cells are in their own units, coupons among them in thousandths of a percent a year, yields and rates in hundredths.
 pub struct Contents {
-    pub cells: [u64; 61],
+    pub cells: [u64; CELLS],
     pub yields: [u16; 120],
     pub rates: [u16; 360],
     pub tiers: FiledTiers,

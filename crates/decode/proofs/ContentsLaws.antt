@@ -13,12 +13,11 @@ use lib.Seq.{ext-getD}
 use Rattle.lists.specs.Tables.{table, tableFrom, contains}
 use Rattle.lists.proofs.TableLaws.{tableFrom-getD, table-getD, table-length, table-ext}
 use Rattle.lists.proofs.FillLaws.{Filled}
-use Rattle.schedule.specs.Cells.{position, positions, brokeredCell, penaltyBalanceCell, penaltyMonthsCell, unusedCells}
+use Rattle.schedule.specs.Cells.{firstCell, cellCount, position, positions, brokeredCell, penaltyBalanceCell, penaltyMonthsCell, unusedCells}
 use Rattle.schedule.specs.Limits.{cellClass, monthsLimit}
 use Rattle.records.specs.declared.items.Item.the-variants.{Sheet}
 use Rattle.fields.specs.Records.{sheetNumber}
 use Rattle.records.specs.Kinds.{kindCount, flatRatesKind, ratePathKind}
-use Rattle.records.specs.Items.{firstCell, cellCount}
 use Rattle.notes.specs.Inner.Notes.{notedBefore}
 use Rattle.fields.proofs.ByteLaws.{number-past}
 use Rattle.notes.proofs.NoteLaws.{noted-counting, noted-sheet, offset-end}

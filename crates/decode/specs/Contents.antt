@@ -5,9 +5,10 @@ use mathlib.Core.List.{List}
 use lib.ListN.{length}
 use lib.Dec.{ltb, eqb}
 use Rattle.lists.specs.Tables.{table, tableFrom}
+use Rattle.schedule.specs.Cells.{firstCell, cellCount}
 use Rattle.schedule.specs.Limits.{couponClass, cellClass, monthsLimit, tierLimit}
 use Rattle.fields.specs.Records.{recordKind, recordCell, recordValue, amendmentState, amendmentValue, sheetNumber, tierCount}
-use Rattle.records.specs.Kinds.{flatRatesKind, tiersKind, ratePathKind, fineCouponKind, amendmentKind}
+use Rattle.records.specs.Kinds.{yieldsKind, flatRatesKind, tiersKind, ratePathKind, fineCouponKind, amendmentKind}
 use Rattle.records.specs.declared.items.Item.the-variants.{Sheet}
 use Rattle.records.specs.Items.{firstWith}
 use Rattle.notes.specs.Counting.{countingBefore}
@@ -68,8 +69,8 @@ tiersAt s at =
 unfoldable pub contentsOf : List ℕ → Contents
 contentsOf s =
     record {
-      cells = tableFrom 601 61 (cellValue s);
-      yields = tableFrom 1 120 (sheetNumber s (sheetOffset s 2));
+      cells = tableFrom firstCell cellCount (cellValue s);
+      yields = tableFrom 1 monthsLimit (sheetNumber s (sheetOffset s yieldsKind));
       rates = table rateCount (rateNumber s);
       tiers = tiersAt s (sheetOffset s tiersKind);
     }

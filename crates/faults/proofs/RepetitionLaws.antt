@@ -10,11 +10,12 @@ use borrow.Author.Tests.{ltb-true, lt-ltb, le-ltb, eqb-true, eq-eqb, ne-eqb}
 use lib.Dec.{ltb, eqb}
 use lib.ListN.{length, getD}
 use Rattle.lists.proofs.TestLaws.{and-false}
+use Rattle.schedule.specs.Cells.{firstCell}
 use Rattle.records.specs.declared.items.Item.{Item}
 use Rattle.records.specs.declared.items.Item.the-variants.{Cell, Sheet, Amendment, Nothing}
 use Rattle.records.specs.Kinds.{kindCount, givesCell, amendmentKind}
 use Rattle.fields.specs.Records.{recordKind}
-use Rattle.records.specs.Items.{sameItem, recordItem, firstWith, firstCell}
+use Rattle.records.specs.Items.{sameItem, recordItem, firstWith}
 use Rattle.notes.specs.Inner.Notes.{offsetBefore, notedBefore}
 use Rattle.records.proofs.ItemLaws.{same-nothing, record-of-cell, record-of-sheet, record-of-amendment}
 use Rattle.notes.proofs.NoteLaws.{noted-cell, noted-sheet}

@@ -1,8 +1,6 @@
 // The tests of one record before its body: refusals 1 to 4 and 12. Those of its body stand in `bodies`.
 use fields::record_kind;
 use fields::record_length;
-use records::CELLS;
-use records::FIRST_CELL;
 use records::KINDS;
 use records::items::Item;
 use records::items::record_class;
@@ -11,6 +9,8 @@ use records::kinds::FLAT_RATES_KIND;
 use records::kinds::RATE_PATH_KIND;
 use records::kinds::due_length;
 use records::kinds::names_cell;
+use schedule::CELLS;
+use schedule::FIRST_CELL;
 ghost use mathlib.Core.Path.{_≡_};
 ghost use Prim.Native.Nat.{_≤_};
 ghost use lib.ListN.{length};

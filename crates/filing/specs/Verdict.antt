@@ -7,7 +7,7 @@ use mathlib.Core.List.{List}
 use lib.ListN.{length}
 use lib.Dec.{leb}
 use Rattle.answers.specs.Verdict.{Verdict, accepted, refusedIf, firstRefusal}
-use Rattle.records.specs.Kinds.{flatRatesKind, ratePathKind}
+use Rattle.records.specs.Kinds.{yieldsKind, flatRatesKind, ratePathKind}
 use Rattle.record_verdicts.specs.RecordVerdicts.{recordsVerdict}
 use Rattle.conditions.specs.CellVerdicts.{cellsVerdict}
 use Rattle.contents.specs.declared.Contents.{Contents}
@@ -16,7 +16,7 @@ use Rattle.decode.specs.Contents.{sheetOffset, contentsOf}
 -- 6: kind 2 is missing, or both of kinds 3 and 5
 unfoldable pub sheetMissing : List ℕ → Bool
 sheetMissing s =
-    leb (length s) (sheetOffset s 2)
+    leb (length s) (sheetOffset s yieldsKind)
     || (leb (length s) (sheetOffset s flatRatesKind) && leb (length s) (sheetOffset s ratePathKind))
 
 -- 6, at the input's length

@@ -11,8 +11,8 @@ use contents::Contents;
 use contents::FiledTiers;
 use decode::contents_of;
 use notes::BLOCKS;
-use records::CELLS;
 use records::KINDS;
+use schedule::CELLS;
 ghost use mathlib.Core.Path.{_≡_};
 ghost use lib.ListN.{length};
 ghost use Rattle.answers.specs.Answers.{verdictOf};
@@ -67,7 +67,7 @@ fn refusal(answer: Answer) -> Reading
     ensures { λ r. ⌜ (r .answer ≡ answer) × (r .contents ≡ emptyContents) ⌝ }
 {
     let contents = Contents {
-        cells: [0; 61],
+        cells: [0; CELLS],
         yields: [0; 120],
         rates: [0; 360],
         tiers: FiledTiers {

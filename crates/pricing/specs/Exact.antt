@@ -8,7 +8,7 @@ use Rattle.fraction.specs.Fraction.{Fraction, whole, scaled, product, plus}
 use Rattle.pricing.specs.Scales.{par, rateScale, valueScale}
 use Rattle.pricing.specs.Terms.{Terms}
 
--- B_t, Equation 6.A.6 (01:56): B_0 = 10^9; B_t = B_(t-1) × (25,000 × c + 3 × q) / (3 × 10^9)
+-- B_t, Equation 6.A.6 (01:56): B_0 = 10^9; B_t = B_(t-1) × (25,000 × c + 3 × q) / (3 × 10^9), c in hundredths of a percent a year
 unfoldable pub exactBalance : Terms → ℕ → Fraction
 exactBalance k zero = whole par
 exactBalance k (suc t) = scaled (exactBalance k t) (k .growth + 3 * k .survival (suc t)) (3 * par)

@@ -10,13 +10,6 @@ use Rattle.records.specs.declared.items.Item.the-variants.{Cell, Sheet, 
 use Rattle.fields.specs.Records.{recordKind, recordCell, amendmentNumber, firstRecord}
 use Rattle.records.specs.Kinds.{givesCell, fineCouponKind, amendmentKind, dueLength}
 
--- the cells that may be listed: so many from the first on
-abbrev pub firstCell : ℕ
-firstCell = 601
-
-abbrev pub cellCount : ℕ
-cellCount = 61
-
 -- the same cell, the same kind of sheet, or the same amendment of a cell
 unfoldable pub sameItem : Item → Item → Bool
 sameItem (Cell m) (Cell n) = eqb m n

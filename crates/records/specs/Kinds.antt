@@ -55,6 +55,10 @@ amendmentKind = 7
 unfoldable pub namesCell : ℕ → Bool
 namesCell kind = givesCell kind || eqb kind amendmentKind
 
+-- the kind of the CD yields (01:8)
+abbrev pub yieldsKind : ℕ
+yieldsKind = 2
+
 -- the kinds of the retail rates, flat (01:9) and by month (02:CR 3)
 abbrev pub flatRatesKind : ℕ
 flatRatesKind = 3

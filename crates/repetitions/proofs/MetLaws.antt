@@ -13,10 +13,11 @@ use lib.Pow.{pow-pos}
 use Rattle.lists.proofs.TestLaws.{and-false}
 use Rattle.numbers.specs.Members.{bit, member, withMember}
 use Rattle.numbers.proofs.BitLaws.{member-with}
+use Rattle.schedule.specs.Cells.{firstCell, cellCount}
 use Rattle.records.specs.declared.items.Item.{Item}
 use Rattle.records.specs.declared.items.Item.the-variants.{Cell, Sheet, Amendment, Nothing}
 use Rattle.fields.specs.Records.{amendmentNumber, nextRecord, searchRecords, firstRecord}
-use Rattle.records.specs.Items.{firstCell, cellCount, sameItem, recordItem, firstWith}
+use Rattle.records.specs.Items.{sameItem, recordItem, firstWith}
 use Rattle.notes.specs.Inner.Notes.{blockSize, blockOf, amendsIn}
 use Rattle.fields.proofs.ByteLaws.{Bytes, number-lt}
 use Rattle.records.proofs.ItemLaws.{record-of-amendment}

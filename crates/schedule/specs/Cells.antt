@@ -7,6 +7,16 @@ use lib.Dec.{leb, eqb}
 use Rattle.lists.specs.Tables.{those}
 use Rattle.schedule.specs.declared.Position.{Position}
 
+-- the listed cells (01:13-22) lie from the first to the last, which are so many numbers
+abbrev pub firstCell : ℕ
+firstCell = 601
+
+abbrev pub lastCell : ℕ
+lastCell = 661
+
+abbrev pub cellCount : ℕ
+cellCount = 61
+
 -- One of the nine balances is a `Position`: its row (remaining months, 1 to 4), its column (original maturity, 1 to 3), and the numbers of its
 -- cells: balance (thousands of dollars), WAC (hundredths of a percent a year as filed) and WARM (months). This one from those five, in that order
 unfoldable pub position : ℕ → ℕ → ℕ → ℕ → ℕ → Position

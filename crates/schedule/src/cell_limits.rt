@@ -1,11 +1,13 @@
 // The largest value of each cell from 601 to 661, as filed: 0 where it is not listed. The check tests the table against the definitions.
+use crate::CELLS;
 ghost use mathlib.Core.Path.{_≡_};
 ghost use Rattle.lists.specs.Tables.{tableFrom};
+ghost use Rattle.schedule.specs.Cells.{firstCell, cellCount};
 ghost use Rattle.schedule.specs.Limits.{cellClass, classLimit};
 
 // Made once for a filing: a constant array is built anew at each read of an element.
-pub fn cell_limits() -> [u64; 61]
-    ensures { λ r. ⌜ r ≡ tableFrom 601 61 (λ n. classLimit (cellClass n)) ⌝ }
+pub fn cell_limits() -> [u64; CELLS]
+    ensures { λ r. ⌜ r ≡ tableFrom firstCell cellCount (λ n. classLimit (cellClass n)) ⌝ }
 {
     [
         999_999_999,

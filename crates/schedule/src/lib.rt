@@ -4,6 +4,13 @@ pub mod positions;
 pub mod scenarios;
 pub mod tables;
 
+// The listed cells lie from the first to the last, which are so many numbers.
+pub const FIRST_CELL: u64 = 601;
+
+pub const LAST_CELL: u64 = 661;
+
+pub const CELLS: usize = 61;
+
 // One of the nine balances: its row (remaining months, 1 to 4), its column (original maturity, 1 to 3), and the cells of its balance, its coupon
 // (WAC) and its remaining months (WARM).
 pub struct Position {

@@ -1,4 +1,6 @@
 // The class of a cell and the limit of a class, from tables that the check tests against the definitions.
+use crate::FIRST_CELL;
+use crate::LAST_CELL;
 ghost use mathlib.Core.Path.{_≡_};
 ghost use Prim.Native.Nat.{_-_};
 ghost use lib.ListN.{getD};
@@ -19,17 +21,17 @@ const LIMITS: [u64; 8] = [
     18_446_744_073_709_551_615,
 ];
 
-// The class of a cell: 0 where it is not listed. The digits are the classes of cells 601 to 661.
+// The class of a cell: 0 where it is not listed. The digits are the classes of the cells from the first to the last.
 pub fn cell_class(cell: u64) -> usize
     ensures { λ r. ⌜ r ≡ cellClass cell ⌝ }
 {
-    if cell < 601 {
+    if cell < FIRST_CELL {
         return 0;
     }
-    if 661 < cell {
+    if LAST_CELL < cell {
         return 0;
     }
-    let i = (cell - 601) as usize;
+    let i = (cell - FIRST_CELL) as usize;
     digit_at(
         b"1117222333000011172223330000001172233000172360000444444555777",
         i,

@@ -5,6 +5,7 @@ use conditions::ColumnSums;
 use conditions::cells::cell_value;
 use conditions::sums::column_sums;
 use contents::Contents;
+use schedule::CELLS;
 use schedule::positions::position;
 use sub_balances::NO_PLACE;
 use sub_balances::SubBalance;
@@ -50,7 +51,7 @@ fn place_in(row: Row, balance: u64, penalty: u64) -> SubBalance
 }
 
 // The row of a position.
-fn row_at(cells: &[u64; 61], sums: ColumnSums, i: usize) -> Row
+fn row_at(cells: &[u64; CELLS], sums: ColumnSums, i: usize) -> Row
     requires { ⌜ (sums ≡ columnSums (now cells)) × (i < 9) ⌝ }
     ensures { λ r. ⌜ r ≡ rowAt (now (cells .entry)) i ⌝ }
 {

@@ -13,12 +13,12 @@ use Rattle.lists.specs.Tables.{contains}
 use Rattle.lists.proofs.TableLaws.{tableFrom-getD}
 use Rattle.lists.proofs.TestLaws.{either}
 use Rattle.schedule.specs.declared.Position.{Position}
-use Rattle.schedule.specs.Cells.{positions, brokeredCell, penaltyBalanceCell, penaltyMonthsCell, totalCell, unusedCells}
+use Rattle.schedule.specs.Cells.{firstCell, cellCount, positions, brokeredCell, penaltyBalanceCell, penaltyMonthsCell, totalCell, unusedCells}
 use Rattle.schedule.specs.Limits.{couponClass, filedCouponLimit, couponLimit, cellClass, classLimit}
 use Rattle.schedule.proofs.ClassLaws.{class-outside}
 use Rattle.fields.specs.Records.{recordKind, recordCell}
 use Rattle.records.specs.Kinds.{fineCouponKind, amendmentKind}
-use Rattle.records.specs.Items.{firstCell, cellCount, recordClass}
+use Rattle.records.specs.Items.{recordClass}
 use Rattle.bodies.specs.Bodies.{valueLimit}
 use Rattle.sound_records.specs.Inner.SoundRecords.{cellLimits, mostIn}
 

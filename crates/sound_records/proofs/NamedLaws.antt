@@ -9,13 +9,14 @@ use borrow.Author.Tests.{ltb-false, le-ltb, eqb-true, eqb-false, eq-eqb, ne-eqb}
 use lib.Dec.{ltb, eqb}
 use lib.ListN.{length, getD}
 use Rattle.lists.proofs.TestLaws.{and-false}
+use Rattle.schedule.specs.Cells.{firstCell, cellCount}
 use Rattle.answers.specs.Verdict.{accepted, refusedIf, firstRefusal, firstOf}
 use Rattle.schedule.specs.Limits.{cellClass, classLimit}
 use Rattle.fields.specs.Bytes.{numberAt}
 use Rattle.fields.specs.Records.{recordLength, recordKind, recordCell, recordValue, nextRecord}
 use Rattle.records.specs.Kinds.{cellKind, flatRatesKind, tiersKind, ratePathKind, fineCouponKind, amendmentKind, givesCell, namesCell, dueLength}
 use Rattle.records.specs.declared.items.Item.the-variants.{Cell}
-use Rattle.records.specs.Items.{firstCell, cellCount, recordClass, recordItem}
+use Rattle.records.specs.Items.{recordClass, recordItem}
 use Rattle.records.proofs.ItemLaws.{record-of-cell}
 use Rattle.notes.specs.Inner.Notes.{notedBefore}
 use Rattle.bodies.specs.Bodies.{valueLimit, unfitAmendment, overLimit}

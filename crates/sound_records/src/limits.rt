@@ -1,6 +1,6 @@
 // The largest value of a cell in a record, from the table of the cells' limits: 0 where the cell is not listed.
-use records::CELLS;
-use records::FIRST_CELL;
+use schedule::CELLS;
+use schedule::FIRST_CELL;
 ghost use mathlib.Core.Path.{_≡_};
 ghost use Rattle.schedule.specs.Limits.{cellClass, classLimit};
 ghost use Rattle.sound_records.specs.Inner.SoundRecords.{cellLimits, mostIn};

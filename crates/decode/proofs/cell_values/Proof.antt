@@ -6,7 +6,7 @@ use mathlib.Core.Path.{_≡_, ap, _∙_}
 use mathlib.Core.List.{List}
 use lib.ListN.{getD}
 use Rattle.lists.proofs.FillLaws.{Filled, fill-none, fill-more}
-use Rattle.records.specs.Items.{firstCell, cellCount}
+use Rattle.schedule.specs.Cells.{firstCell, cellCount}
 use Rattle.decode.specs.Contents.{amountAt, cellOffset, cellValue, contentsOf}
 use Rattle.decode.proofs.ContentsLaws.{filled-from, cell-noted, value-noted}
 use Rattle.decode.proofs.SoundLaws.{offset-limit}

@@ -6,11 +6,12 @@ use mathlib.Core.List.{List}
 use lib.ListN.{length, getD, set, replicate}
 use lib.Dec.{leb, ltb, eqb}
 use Rattle.lists.specs.Tables.{table, tableFrom}
+use Rattle.schedule.specs.Cells.{firstCell, cellCount}
 use Rattle.records.specs.declared.items.Item.{Item}
 use Rattle.records.specs.declared.items.Item.the-variants.{Cell, Sheet, Amendment, Nothing}
 use Rattle.fields.specs.Records.{firstRecord}
 use Rattle.records.specs.Kinds.{kindCount}
-use Rattle.records.specs.Items.{firstCell, cellCount, recordItem, firstWith}
+use Rattle.records.specs.Items.{recordItem, firstWith}
 use Rattle.notes.specs.Counting.{rank, counting, countingBefore}
 
 -- What is noted: the offset of the first record of each kind of sheet, and of each cell from 601 on; of the record that counts for each cell: the input's

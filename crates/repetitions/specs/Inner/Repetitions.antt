@@ -5,10 +5,11 @@ use mathlib.Core.Bool.{Bool, false, cond, _&&_}
 use mathlib.Core.List.{List}
 use lib.Dec.{eqb}
 use Rattle.numbers.specs.Members.{member, withMember}
+use Rattle.schedule.specs.Cells.{firstCell}
 use Rattle.records.specs.declared.items.Item.{Item}
 use Rattle.records.specs.declared.items.Item.the-variants.{Cell, Sheet, Amendment, Nothing}
 use Rattle.fields.specs.Records.{firstRecord}
-use Rattle.records.specs.Items.{firstCell, recordItem}
+use Rattle.records.specs.Items.{recordItem}
 use Rattle.notes.specs.Inner.Notes.{blockSize, blockOf, amendsIn}
 use Rattle.faults.specs.Faults.{standsBefore}
 

@@ -9,10 +9,10 @@ use mathlib.Core.List.{List}
 use borrow.Author.Tests.{leb-true, le-leb}
 use lib.Dec.{eqb}
 use lib.ListN.{getD}
+use Rattle.schedule.specs.Cells.{firstCell, cellCount}
 use Rattle.fields.specs.Bytes.{numberAt}
 use Rattle.fields.specs.Records.{recordLength, recordKind, recordCell}
 use Rattle.records.specs.Kinds.{fineCouponKind}
-use Rattle.records.specs.Items.{firstCell, cellCount}
 use Rattle.notes.specs.Inner.Notes.{notedBefore}
 use Rattle.sound_records.specs.Inner.SoundRecords.{mostIn}
 use Rattle.sound_records.proofs.LimitLaws.{most-listed, listed-most, most-limit}

@@ -4,10 +4,10 @@ use mathlib.Core.Bool.{Bool, cond, _&&_}
 use mathlib.Core.List.{List}
 use lib.Dec.{eqb}
 use Rattle.lists.specs.Tables.{tableFrom}
+use Rattle.schedule.specs.Cells.{firstCell, cellCount}
 use Rattle.schedule.specs.Limits.{couponClass, couponLimit, cellClass, classLimit}
 use Rattle.fields.specs.Records.{recordKind}
 use Rattle.records.specs.Kinds.{namesCell}
-use Rattle.records.specs.Items.{firstCell, cellCount}
 use Rattle.record_verdicts.specs.Inner.PlainVerdicts.{plainVerdict}
 
 -- a record of kind 1, 6 or 7 that no test but perhaps 16 refuses
