@@ -33,8 +33,7 @@ pub fn tier_for(filing: &[u8], incentive: Incentive) -> TierAnswer
     if too_large(incentive) {
         return TierAnswer::TooLarge;
     }
-    let contents = reading.contents;
-    let filed = contents.tiers;
+    let filed = reading.contents.tiers;
     TierAnswer::Reached(reached_tier(tiers_of(filed), incentive))
 }
 

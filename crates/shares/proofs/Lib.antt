@@ -1,3 +1,4 @@
+pub mod CellLaws
 pub mod PartLaws
 pub mod PlaceLaws
 pub mod RowLaws

@@ -4,7 +4,6 @@ use apportion::row_shares;
 use conditions::ColumnSums;
 use conditions::cells::cell_value;
 use conditions::sums::column_sums;
-use contents::Contents;
 use schedule::CELLS;
 use schedule::positions::position;
 use sub_balances::NO_PLACE;
@@ -13,19 +12,20 @@ ghost use mathlib.Core.Path.{_≡_};
 ghost use Prim.Native.Nat.{_<_};
 ghost use Rattle.contents.specs.Valid.{Valid};
 ghost use Rattle.conditions.specs.Inner.Sums.{columnSums};
+ghost use Rattle.shares.specs.Inner.Cells.{cellsAlone};
 ghost use Rattle.shares.specs.Inner.Rows.{rowAt, rowPlace};
 ghost use Rattle.shares.specs.Places.{placesOf};
 
-// The thirty-six places of a filing: nine positions ascending, four places each.
-pub fn places_of(k: Contents) -> [SubBalance; 36]
-    requires { ⌜ Valid k ⌝ }
-    ensures { λ r. ⌜ r ≡ placesOf k ⌝ }
+// The thirty-six places of a filing, whose cells are lent: nine positions ascending, four places each.
+pub fn places_of(cells: &[u64; CELLS]) -> [SubBalance; 36]
+    requires { ⌜ Valid (cellsAlone (now cells)) ⌝ }
+    ensures { λ r. ⌜ r ≡ placesOf (cellsAlone (now (cells .entry))) ⌝ }
 {
-    let sums = column_sums(&k.cells);
+    let sums = column_sums(cells);
     let mut places = [NO_PLACE; 36];
     let mut i = 0;
     while i < 9 {
-        let row = row_at(&k.cells, sums, i);
+        let row = row_at(cells, sums, i);
         let four = row_shares(row);
         let at = 4 * i;
         places[at] = place_in(row, four[0], row.penalty);

@@ -29,8 +29,7 @@ pub fn outcome_of(filing: &[u8], size: usize) -> Outcome
     if number(answer) != 0 {
         return refusal(answer);
     }
-    let contents = reading.contents;
-    let places = places_of(contents);
+    let places = places_of(&reading.contents.cells);
     Outcome {
         answer,
         places,

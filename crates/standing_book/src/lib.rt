@@ -19,12 +19,11 @@ pub fn open(filing: &[u8]) -> Answered
     ensures { λ r. ⌜ OpenedOf (now (filing .entry)) r ⌝ }
 {
     let reading = read(filing);
-    let k = reading.contents;
     let mut lower = [0u64; 840];
     let mut upper = [0u64; 840];
-    fill_factors(&k.yields, 120, &mut lower, &mut upper);
-    let rates = k.rates;
-    let tiers = k.tiers;
+    fill_factors(&reading.contents.yields, 120, &mut lower, &mut upper);
+    let rates = reading.contents.rates;
+    let tiers = reading.contents.tiers;
     let answer = reading.answer;
     let book = empty_book(rates, tiers, lower, upper);
     Answered { answer, book }

@@ -20,6 +20,13 @@ pub fn value(filing: &[u8], numbers: &mut [u64]) -> Answer
     if number(answer) != 0 {
         return answer;
     }
-    write_numbers(reading.contents, numbers);
+    let tiers = reading.contents.tiers;
+    write_numbers(
+        &reading.contents.cells,
+        &reading.contents.yields,
+        &reading.contents.rates,
+        tiers,
+        numbers,
+    );
     answer
 }

@@ -22,9 +22,9 @@ returns-2 c =
 
 write-numbers-requires : tie.Need-write-numbers-requires
 write-numbers-requires c κs =
-    let tested = c .before .before in
-    let reading = tested .before in
-    let zero = sym (tested .number .ensures) ∙ c .before .if2 .left in
+    let accepted = c .before .before .before .before .before .before in
+    let reading = accepted .before .before in
+    let zero = sym (accepted .before .number .ensures) ∙ accepted .if2 .left in
     (reading-accepted _ _ _ (reading .read .ensures .0) (reading .read .ensures .1) zero .1, reading .before .if1 .left)
 
 same-length : tie.Need-same-length
@@ -33,9 +33,9 @@ same-length c = search needs
 returns-3 : tie.Need-returns-3
 returns-3 c =
     let written = c .before .before in
-    let tested = written .before .before .before in
-    let reading = tested .before in
-    valued-filing _ _ (reading .before .if1 .left) _ (reading .read .ensures .0) (sym (tested .number .ensures) ∙ written .before .before .if2 .left)
+    let accepted = written .before .before .before .before .before .before .before in
+    let reading = accepted .before .before in
+    valued-filing _ _ (reading .before .if1 .left) _ (reading .read .ensures .0) (sym (accepted .before .number .ensures) ∙ accepted .if2 .left)
     _ (reading .read .ensures .1) _ (written .write-numbers .ensures)
 
 pub value-spec : {M : Type 1} → statement M

@@ -30,20 +30,20 @@ returns-2 c =
 
 tiers-of-requires : tie.Need-tiers-of-requires
 tiers-of-requires c κs =
-    let tested = c .before .before .before .before in
+    let tested = c .before .before .before in
     let reading = tested .before .before in
     filed-limits _
     (reading-accepted _ _ _ (reading .read .ensures .0) (reading .read .ensures .1) (sym (tested .before .number .ensures) ∙ tested .if1 .left) .1)
 
 reached-tier-requires : tie.Need-reached-tier-requires
 reached-tier-requires c κs =
-    let large = c .before .before .before in
+    let large = c .before .before in
     (c .tiers-of .ensures .1, small-of-test _ (sym (large .before .too-large .ensures) ∙ large .if2 .left))
 
 returns-3 : tie.Need-returns-3
 returns-3 c =
     let tiers = c .before in
-    let large = tiers .before .before .before in
+    let large = tiers .before .before in
     let tested = large .before .before in
     let reading = tested .before .before in
     reached-tier _ _ _ (reading .read .ensures .0) (sym (tested .before .number .ensures) ∙ tested .if1 .left)

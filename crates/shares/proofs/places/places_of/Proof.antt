@@ -10,34 +10,35 @@ use Rattle.contents.specs.Valid.{Valid}
 use Rattle.sub_balances.specs.Places.{noPlace}
 use Rattle.shares.specs.Places.{placeAt, placesOf}
 use Rattle.apportion.specs.Inner.Rows.{RowWithin}
+use Rattle.shares.specs.Inner.Cells.{cellsAlone}
 use Rattle.shares.proofs.RowLaws.{row-within}
 use Rattle.shares.proofs.PlaceLaws.{place-of, fill-place}
 use Rattle.shares.proofs.places.places_of.Statement.{statement}
 use Rattle.shares.proofs.places.places_of.Tie as tie
 
 abbrev Inv-loop : tie.InvT-loop
-Inv-loop k sums places₀ i₀ places i = (i ≤ 9) × Filled (placeAt k) noPlace 36 (4 * i) places
+Inv-loop cells sums places₀ i₀ places i = (i ≤ 9) × Filled (placeAt (cellsAlone cells)) noPlace 36 (4 * i) places
 
 abbrev μ-loop : tie.MeasureT-loop
-μ-loop k sums places₀ i₀ places i = 9 - i
+μ-loop cells sums places₀ i₀ places i = 9 - i
 
 column-sums-requires : tie.Need-column-sums-requires Inv-loop μ-loop
-column-sums-requires c κs = c .before .before .pre .balance-limit
+column-sums-requires c κs = c .pre .balance-limit
 
 loop-holds : tie.Need-loop-holds Inv-loop μ-loop
 loop-holds c = (omega arith, fill-none (placeAt _) noPlace noPlace 36)
 
--- what holds at the loop's head: the contents are valid
-valid : (c : tie.At-loop Inv-loop μ-loop) → Valid (c .before .before .before .before .args .t1)
-valid c = c .before .before .before .before .pre
+-- what holds at the loop's head: the cells are valid
+valid : (c : tie.At-loop Inv-loop μ-loop) → Valid (cellsAlone (c .before .before .args .cells .now))
+valid c = c .before .before .pre
 
 row-at-requires : tie.Need-row-at-requires Inv-loop μ-loop
-row-at-requires c κs = (c .before .before .before .before .column-sums .ensures, c .before .before .loop-test .taken)
+row-at-requires c κs = (c .before .before .column-sums .ensures, c .loop-test .taken)
 
 row-shares-requires : tie.Need-row-shares-requires Inv-loop μ-loop
 row-shares-requires c κs =
-    let loop = c .before .before .before .before in
-    subst RowWithin (sym (c .row-at .ensures)) (row-within _ (valid loop) (loop .loop .i) (c .before .before .before .loop-test .taken))
+    let loop = c .before .before in
+    subst RowWithin (sym (c .row-at .ensures)) (row-within _ (valid loop) (loop .loop .i) (c .before .loop-test .taken))
 
 mul-at : tie.Need-mul-at Inv-loop μ-loop
 mul-at c = search needs
@@ -108,8 +109,8 @@ loop-less c = omega arith
 loop-again : tie.Need-loop-again Inv-loop μ-loop
 loop-again c =
     let shares = c .before .before .before .before in
-    let test = shares .before .before .before .before in
-    let k = test .before .before .before .before .before .args .t1 in
+    let test = shares .before .before in
+    let k = cellsAlone (test .before .before .before .args .cells .now) in
     let loop = test .before .loop in
     let i = loop .i in
     let place = place-of k (valid (test .before)) i (test .loop-test .taken) _ (shares .before .row-at .ensures) _ (shares .row-shares .ensures) in (

@@ -1,12 +1,16 @@
 -- `valuation::filing_numbers::write_rows` meets its contract: the rows of the places passed are written. Assumes nothing.
-use Prim.Native.Nat.{_+_, _*_, _-_, _≤_, _<_}
-use mathlib.Core.List.{[]}
+use Prim.Native.Nat.{ℕ, _+_, _*_, _-_, _≤_, _<_}
+use mathlib.Core.List.{List, []}
 use mathlib.Core.Path.{_≡_, refl, ap, _∙_}
 use native.Mathlib.Omega.{arith}
 use lib.ListN.{length}
 use Rattle.lists.specs.Tables.{tableFrom, table, joined}
 use Rattle.lists.proofs.RunLaws.{Overwritten, overwritten-none, overwritten-row}
+use Rattle.contents.specs.declared.Contents.{Contents}
+use Rattle.contents.specs.declared.FiledTiers.{FiledTiers}
 use Rattle.valuation.specs.Numbers.{placeNumbers}
+use Rattle.shares.specs.Places.{placesOf}
+use Rattle.shares.proofs.CellLaws.{cells-valid, cells-places}
 use Rattle.place_values.specs.Inner.LongestTerm.{longestTerm}
 use Rattle.place_values.proofs.FilingTierLaws.{filed-limits}
 use Rattle.valuation.proofs.NumberLaws.{row-length}
@@ -15,53 +19,77 @@ use Rattle.valuation.proofs.RowLaws.{Prepared, longest-limit, held-limi
 use Rattle.valuation.proofs.filing_numbers.write_rows.Statement.{statement}
 use Rattle.valuation.proofs.filing_numbers.write_rows.Tie as tie
 
+-- what a filing says, of the arrays and the tiers that are passed
+abbrev said : List ℕ → List ℕ → List ℕ → FiledTiers → Contents
+said cells yields rates filed = record { cells = cells; yields = yields; rates = rates; tiers = filed }
+
+-- the filing's own tiers are no variable of the loop: the rows are those of every filing with these arrays that the code is prepared for
 abbrev Inv-loop : tie.InvT-loop
-Inv-loop list₀ k tiers places longest lower upper place₀ list place =
-    (place ≤ 36) × (540 ≤ length list₀) × Prepared k tiers places lower upper × Overwritten (joined (table place (placeNumbers k))) (15 * place) list₀ list
+Inv-loop cells yields rates list₀ tiers places longest lower upper place₀ list place =
+    (place ≤ 36)
+    × (540 ≤ length list₀)
+    × ((filed : FiledTiers) → Prepared (said cells yields rates filed) tiers places lower upper
+    → Overwritten (joined (table place (placeNumbers (said cells yields rates filed)))) (15 * place) list₀ list)
 
 abbrev μ-loop : tie.MeasureT-loop
-μ-loop list₀ k tiers places longest lower upper place₀ list place = 36 - place
+μ-loop cells yields rates list₀ tiers places longest lower upper place₀ list place = 36 - place
+
+abbrev contents : tie.Start Inv-loop μ-loop → Contents
+contents c = said (c .args .cells .now) (c .args .yields .now) (c .args .rates .now) (c .args .filed)
 
 tiers-of-requires : tie.Need-tiers-of-requires Inv-loop μ-loop
-tiers-of-requires c κs = filed-limits _ (c .before .before .pre .0)
+tiers-of-requires c κs = filed-limits (contents (c .before)) (c .before .pre .0)
 
 places-of-requires : tie.Need-places-of-requires Inv-loop μ-loop
-places-of-requires c κs = c .before .before .before .pre .0
+places-of-requires c κs =
+    let start = c .before .before in
+    cells-valid (contents start) (start .pre .0)
 
 longest-term-requires : tie.Need-longest-term-requires Inv-loop μ-loop
 longest-term-requires c κs = tt
 
+-- the places that are made are the filing's, and the term is their longest
+places-are : (c : tie.After-places-of Inv-loop μ-loop) → c .places-of .result ≡ placesOf (contents (c .before .before .before))
+places-are c = c .places-of .ensures ∙ cells-places (contents (c .before .before .before))
+
+longest-is : (c : tie.After-longest-term Inv-loop μ-loop) → c .longest-term .result ≡ longestTerm (placesOf (contents (c .before .before .before .before)))
+longest-is c = c .longest-term .ensures ∙ ap longestTerm (places-are (c .before))
+
 discount-tables-requires : tie.Need-discount-tables-requires Inv-loop μ-loop
 discount-tables-requires c κs =
-    let start = c .before .before .before .before .before .before .before .before .before in
-    let term = c .before .before .before .before in
-    let longest = term .longest-term .ensures ∙ ap longestTerm (term .before .places-of .ensures) in
-    (yields-within (start .args .t1) (start .pre .0), rw longest (longest-limit (start .args .t1) (start .pre .0)), refl, refl)
+    let term = c .before .before in
+    let start = term .before .before .before .before in
+    (yields-within (contents start) (start .pre .0), rw (longest-is term) (longest-limit (contents start) (start .pre .0)), refl, refl)
 
--- the loop's test, from the row of a place
-abbrev turn : tie.After-row-of Inv-loop μ-loop → tie.In-loop Inv-loop μ-loop
-turn r = r .before .before .before .before .before .before .before .before .before .before
+-- the code is prepared for the filing when the loop begins
+prepared : (c : tie.After-discount-tables Inv-loop μ-loop)
+    → Prepared (contents (c .before .before .before .before .before .before .before)) (c .before .before .before .before .before .tiers-of .result)
+    (c .before .before .before .before .places-of .result) (c .discount-tables .last .1 .1 .0) (c .discount-tables .last .1 .1 .1 .0)
+prepared c =
+    let term = c .before .before .before in
+    let tiers = term .before .before in
+    record {
+      valid = tiers .before .before .pre .0;
+      tiers-are = tiers .tiers-of .ensures .0;
+      usable = tiers .tiers-of .ensures .1;
+      places-are = places-are (term .before);
+      lower-holds = rw (longest-is term) at (c .discount-tables .ensures .0);
+      upper-holds = rw (longest-is term) at (c .discount-tables .ensures .1);
+    }
 
 loop-holds : tie.Need-loop-holds Inv-loop μ-loop
 unfolding tableFrom joined
-loop-holds c =
-    let term = c .before .before .before .before .before in
-    let places = term .before in
-    let tiers = places .before in
-    let start = tiers .before .before .before in
-    let longest = term .longest-term .ensures ∙ ap longestTerm (places .places-of .ensures) in (
-      omega arith,
-      start .pre .1,
-      record {
-        valid = start .pre .0;
-        tiers-are = tiers .tiers-of .ensures .0;
-        usable = tiers .tiers-of .ensures .1;
-        places-are = places .places-of .ensures;
-        lower-holds = rw longest at (c .discount-tables .ensures .0);
-        upper-holds = rw longest at (c .discount-tables .ensures .1);
-      },
-      overwritten-none _,
-    )
+loop-holds c = (omega arith, c .before .before .before .before .before .before .before .pre .1, λ filed p. overwritten-none _)
+
+-- at the loop's head: the rows of the places passed are written
+written : (c : tie.At-loop Inv-loop μ-loop)
+    → Overwritten (joined (table (c .loop .place) (placeNumbers (contents (c .before .before .before .before .before .before .before .before)))))
+    (15 * c .loop .place) (c .before .before .before .before .before .before .before .before .args .list .now) (c .loop .list)
+written c = c .loop .inv .2 _ (prepared (c .before))
+
+-- the loop's head, from the row of a place
+abbrev head : tie.After-row-of Inv-loop μ-loop → tie.At-loop Inv-loop μ-loop
+head r = r .before .before .before .before .before .before .before .before .before
 
 mul-row-of : tie.Need-mul-row-of Inv-loop μ-loop
 mul-row-of c = omega arith
@@ -71,11 +99,10 @@ array-copy-out-row-of c = omega arith
 
 row-of-requires : tie.Need-row-of-requires Inv-loop μ-loop
 row-of-requires c κs =
-    let test = c .before .before .before .before .before .before .before .before .before in
-    let state = test .before .loop in
-    let prepared = state .inv .2 in
-    let held = held-limits _ _ _ _ _ prepared (state .place) (omega arith) in
-    ((omega arith, held .0, held .1), ((rates-within _ (prepared .valid), prepared .usable), tables _ _ _ _ _ prepared (state .place) (omega arith)))
+    let loop = c .before .before .before .before .before .before .before .before in
+    let p = prepared (loop .before) in
+    let held = held-limits _ _ _ _ _ p (loop .loop .place) (omega arith) in
+    ((omega arith, held .0, held .1), ((rates-within _ (p .valid), p .usable), tables _ _ _ _ _ p (loop .loop .place) (omega arith)))
 
 mul-write : tie.Need-mul-write Inv-loop μ-loop
 mul-write c = omega arith
@@ -84,7 +111,7 @@ slice-aggregate-write : tie.Need-slice-aggregate-write Inv-loop μ-loop
 slice-aggregate-write c = omega arith
 
 write-requires : tie.Need-write-requires Inv-loop μ-loop
-write-requires c κs = omega arith
+write-requires c κs = omega (arith, written (head (c .before .before)) .as-long)
 
 add-place : tie.Need-add-place Inv-loop μ-loop
 add-place c = omega arith
@@ -95,25 +122,22 @@ loop-less c = omega arith
 loop-again : tie.Need-loop-again Inv-loop μ-loop
 loop-again c =
     let row = c .before .before .before .before .before in
-    let test = turn row in
-    let state = test .before .loop in
-    let more : state .place < 36 = omega (arith, test .loop-test .taken) in
-    let prepared = state .inv .2 in (
+    let state = head row .loop in
+    let more : state .place < 36 = omega arith in (
       omega (arith, more),
       state .inv .1,
-      prepared,
-      rw (c .before .before .write .ensures) (overwritten-row [] (placeNumbers _) 15 (row-length _) (state .place) (15 * state .place) (15 * (state .place + 1))
-          _ (state .list) (row .row-of .result) (state .inv .3)
-          (row .row-of .ensures ∙ row-is _ _ _ _ _ prepared (state .place) more) (omega (arith, more)) (omega (arith, more, state .inv .1))),
+      λ filed p. rw (c .before .before .write .ensures) (overwritten-row [] (placeNumbers _) 15 (row-length _) (state .place) (15 * state .place) (15 * (state .place + 1))
+          _ (state .list) (row .row-of .result) (state .inv .2 filed p)
+          (row .row-of .ensures ∙ row-is _ _ _ _ _ p (state .place) more) (omega (arith, more)) (omega (arith, more, state .inv .1))),
     )
 
 same-length : tie.Need-same-length Inv-loop μ-loop
-same-length c = c .before .loop .inv .3 .as-long
+same-length c = written (c .before) .as-long
 
 returns : tie.Need-returns Inv-loop μ-loop
 returns c =
     let e : c .before .loop .place ≡ 36 = omega arith in
-    c .before .loop .inv .3 .is ∙ rw e
+    written (c .before) .is ∙ rw e
 
 pub write-rows-spec : {M : Type 1} → statement M
 write-rows-spec =
