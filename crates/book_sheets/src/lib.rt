@@ -2,7 +2,7 @@
 use contents::FiledTiers;
 use deposits::RatePaths;
 use deposits::factors::FactorTable;
-use deposits::factors::fill_multipliers;
+use deposits::factors::to_multipliers;
 use place_values::filing_tiers::tiers_of;
 use place_values::place_row::held_values;
 use sub_balances::SubBalance;
@@ -36,10 +36,10 @@ pub fn values_in<'a>(
         return [0; 14];
     }
     let own = tiers_of(tiers);
-    let mut below = [0u64; 840];
-    let mut above = [0u64; 840];
-    fill_multipliers(lower, held.remaining_months, false, &mut below);
-    fill_multipliers(upper, held.remaining_months, true, &mut above);
+    let mut below = *lower;
+    let mut above = *upper;
+    to_multipliers(&mut below, held.remaining_months, false);
+    to_multipliers(&mut above, held.remaining_months, true);
     held_values(
         held,
         place,

@@ -7,7 +7,7 @@ use pricing::discounting::upper_multipliers;
 use schedule::scenarios::shifted_rates;
 ghost use mathlib.Core.Path.{_≡_};
 ghost use Prim.Native.Nat.{_*_, _<_, _≤_};
-ghost use lib.ListN.{replicate};
+ghost use lib.ListN.{length, replicate};
 ghost use Rattle.lists.specs.Runs.{written};
 ghost use Rattle.schedule.specs.Limits.{monthsLimit};
 ghost use Rattle.pricing.specs.Rounding.{down, up, roundingOf};
@@ -31,11 +31,9 @@ pub fn discount_tables(
     requires { ⌜ WithinRates (now yields) × (longest ≤ monthsLimit) × (now lower ≡ replicate 840 0) × (now upper ≡ replicate 840 0) ⌝ }
     ensures { λ _. ⌜ HoldsFactors down longest (factorsBy down (now (yields .entry)) longest) (now (lower .exit)) × HoldsFactors up longest (factorsBy up (now (yields .entry)) longest) (now (upper .exit)) ⌝ }
 {
-    let mut below = [0u64; 840];
-    let mut above = [0u64; 840];
-    fill_factors(yields, longest, &mut below, &mut above);
-    fill_multipliers(&below, longest, false, lower);
-    fill_multipliers(&above, longest, true, upper);
+    fill_factors(yields, longest, lower, upper);
+    to_multipliers(lower, longest, false);
+    to_multipliers(upper, longest, true);
 }
 
 // The lower and the upper factors of a sheet of CD yields, written into tables of zeros. Months past the longest term are left 0.
@@ -73,20 +71,17 @@ fn fill_month(yields: &[u16; 120], month: usize, lower: &mut FactorTable, upper:
     write(upper, 7 * month, &seven);
 }
 
-// The multipliers of the factors of some months, written into a table of zeros: for the lower run, or for the upper one, whose table holds one less.
-pub fn fill_multipliers(
-    factors: &FactorTable,
-    months: u64,
-    up: bool,
-    multipliers: &mut MultiplierTable,
-)
-    requires { ⌜ AtMostPar (now factors) × (months ≤ monthsLimit) × (now multipliers ≡ replicate 840 0) ⌝ }
-    ensures { λ _. ⌜ HoldsFactors (roundingOf up) months (now (factors .entry)) (now (multipliers .exit)) ⌝ }
+// Puts the multipliers of the factors of some months in the factors' places: for the lower run, or for the upper one, whose table holds one less. As a
+// slice the table is known to have its 840 places.
+pub fn to_multipliers(table: &mut FactorTable, months: u64, up: bool)
+    requires { ⌜ AtMostPar (now table) × (months ≤ monthsLimit) ⌝ }
+    ensures { λ _. ⌜ HoldsFactors (roundingOf up) months (now (table .entry)) (now (table .exit)) ⌝ }
 {
     let count = 7 * months as usize;
+    let list: &mut [u64] = table;
     let mut i: usize = 0;
     while i < count {
-        multipliers[i] = discount_multiplier(factors[i], up);
+        list[i] = discount_multiplier(list[i], up);
         i += 1;
     }
 }

@@ -15,8 +15,11 @@ module _ {A : Type 0} where
     pub holds : (j : ℕ) → j < i → P j (getD l j d)
 
   -- before the first place
+  pub filled-start : (P : ℕ → A → Type 0) (d : A) (l : List A) {n : ℕ} → length l ≡ n → FilledBy P d n 0 l
+  filled-start P d l e = record { long = e; holds = λ j h. absurd (not-suc-le-zero h) }
+
   pub filled-none : (P : ℕ → A → Type 0) (d a : A) (n : ℕ) → FilledBy P d n 0 (replicate n a)
-  filled-none P d a n = record { long = length-replicate n a; holds = λ j h. absurd (not-suc-le-zero h) }
+  filled-none P d a n = filled-start P d (replicate n a) (length-replicate n a)
 
   -- one place more
   pub filled-more : (P : ℕ → A → Type 0) (d : A) (n i : ℕ) (l : List A) (a : A) → i < n → P i a → FilledBy P d n i l → FilledBy P d n (i + 1) (set l i a)

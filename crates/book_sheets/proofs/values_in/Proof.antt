@@ -28,20 +28,20 @@ returns c = rw (← c .before .usable .ensures, not-true (c .before .usable .res
 tiers-of-requires : tie.Need-tiers-of-requires
 tiers-of-requires c κs = limits c .tiers-within
 
-fill-multipliers-requires : tie.Need-fill-multipliers-requires
+to-multipliers-requires : tie.Need-to-multipliers-requires
 unfolding depositAt
-fill-multipliers-requires c κs = let test = c .before .before in (limits test .lower-le, test .before .before .pre .2 .months-le, refl)
+to-multipliers-requires c κs = let test = c .before .before .before .before in (limits test .lower-le, test .before .before .pre .2 .months-le)
 
-fill-multipliers-requires-2 : tie.Need-fill-multipliers-requires-2
+to-multipliers-requires-2 : tie.Need-to-multipliers-requires-2
 unfolding depositAt
-fill-multipliers-requires-2 c κs = let test = c .before .before .before .before in (limits test .upper-le, test .before .before .pre .2 .months-le, refl)
+to-multipliers-requires-2 c κs = let test = c .before .before .before .before .before .before in (limits test .upper-le, test .before .before .pre .2 .months-le)
 
 held-values-requires : tie.Need-held-values-requires
 unfolding depositAt roundingOf
 held-values-requires c κs =
     let above = c .before .before .before .before .before .before in
     let below = above .before .before in
-    let tiers = below .before .before in
+    let tiers = below .before .before .before .before in
     let start = tiers .before .before .before in
     let a = start .args in
     let l = limits (tiers .before) in
@@ -50,8 +50,8 @@ held-values-requires c κs =
       (
         (l .rates-le, tiers .tiers-of .ensures .1),
         λ pos. (
-          lower-discounting (a .lower .now) _ (a .held .«remaining_months») (below .fill-multipliers .ensures) (l .lower-le),
-          upper-discounting (a .upper .now) _ (a .held .«remaining_months») (above .fill-multipliers2 .ensures) (l .upper-le) (λ i h. l .upper-pos i (omega (arith, h, months))),
+          lower-discounting (a .lower .now) _ (a .held .«remaining_months») (below .to-multipliers .ensures) (l .lower-le),
+          upper-discounting (a .upper .now) _ (a .held .«remaining_months») (above .to-multipliers2 .ensures) (l .upper-le) (λ i h. l .upper-pos i (omega (arith, h, months))),
         ),
       ),
     )
@@ -61,11 +61,11 @@ unfolding valuesUnder depositAt roundingOf
 returns-2 c =
     let above = c .before .before .before .before .before .before .before in
     let below = above .before .before in
-    let tiers = below .before .before in
+    let tiers = below .before .before .before .before in
     let test = tiers .before in
     let a = test .before .before .args in
     c .held-values .ensures
-    ∙ held-by (a .place) (a .held) (a .rates .now) _ (a .lower .now) (a .upper .now) _ _ (λ pos. (below .fill-multipliers .ensures, above .fill-multipliers2 .ensures))
+    ∙ held-by (a .place) (a .held) (a .rates .now) _ (a .lower .now) (a .upper .now) _ _ (λ pos. (below .to-multipliers .ensures, above .to-multipliers2 .ensures))
     ∙ rw (tiers .tiers-of .ensures .0, ← test .before .usable .ensures, not-false (test .before .usable .result) (test .if1 .left))
 
 pub values-in-spec : {M : Type 1} → statement M
@@ -75,7 +75,7 @@ values-in-spec =
     usable-requires
     returns
     tiers-of-requires
-    fill-multipliers-requires
-    fill-multipliers-requires-2
+    to-multipliers-requires
+    to-multipliers-requires-2
     held-values-requires
     returns-2)

@@ -8,28 +8,28 @@ use Rattle.deposits.proofs.factors.discount_tables.Tie as tie
 fill-factors-requires : tie.Need-fill-factors-requires
 fill-factors-requires c κs = search needs
 
-fill-multipliers-requires : tie.Need-fill-multipliers-requires
-fill-multipliers-requires c κs =
-    let factors = c .before .before in
+to-multipliers-requires : tie.Need-to-multipliers-requires
+to-multipliers-requires c κs =
+    let factors = c .before in
     let start = factors .before .before .before in
-    (rw (factors .fill-factors .ensures .0) (factors-at-most-par down (start .args .yields .now) (start .args .longest)), start .pre .1, start .pre .2)
+    (rw (factors .fill-factors .ensures .0) (factors-at-most-par down (start .args .yields .now) (start .args .longest)), start .pre .1)
 
-fill-multipliers-requires-2 : tie.Need-fill-multipliers-requires-2
-fill-multipliers-requires-2 c κs =
-    let factors = c .before .before .before .before .before in
+to-multipliers-requires-2 : tie.Need-to-multipliers-requires-2
+to-multipliers-requires-2 c κs =
+    let factors = c .before .before .before in
     let start = factors .before .before .before in
-    (rw (factors .fill-factors .ensures .1) (factors-at-most-par up (start .args .yields .now) (start .args .longest)), start .pre .1, start .pre .3)
+    (rw (factors .fill-factors .ensures .1) (factors-at-most-par up (start .args .yields .now) (start .args .longest)), start .pre .1)
 
 returns : tie.Need-returns
 unfolding roundingOf
 returns c =
-    let lower = c .before .before .before in
-    let factors = lower .before .before .before in (
-      rw (factors .fill-factors .ensures .0) at (lower .fill-multipliers .ensures),
-      rw (factors .fill-factors .ensures .1) at (c .fill-multipliers2 .ensures),
+    let lower = c .before .before in
+    let factors = lower .before .before in (
+      rw (factors .fill-factors .ensures .0) at (lower .to-multipliers .ensures),
+      rw (factors .fill-factors .ensures .1) at (c .to-multipliers2 .ensures),
     )
 
 pub discount-tables-spec : {M : Type 1} → statement M
 discount-tables-spec =
     tie.close
-    (tie.spec fill-factors-requires fill-multipliers-requires fill-multipliers-requires-2 returns)
+    (tie.spec fill-factors-requires to-multipliers-requires to-multipliers-requires-2 returns)
