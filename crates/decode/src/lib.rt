@@ -16,6 +16,7 @@ use records::kinds::FINE_COUPON_KIND;
 use records::kinds::FLAT_RATES_KIND;
 use records::kinds::RATE_PATH_KIND;
 use records::kinds::TIERS_KIND;
+use records::kinds::YIELDS_KIND;
 use schedule::CELLS;
 use schedule::tables::COUPON_CLASS;
 use schedule::tables::cell_class;
@@ -40,7 +41,7 @@ pub fn contents_of(s: &[u8], sheets: &[usize; KINDS], counting: &[usize; CELLS])
 {
     let cells = cell_values(s, counting);
     let mut yields = [0; 120];
-    fill_numbers(s, sheets[2], &mut yields);
+    fill_numbers(s, sheets[YIELDS_KIND], &mut yields);
     let rates = rate_numbers(s, sheets[FLAT_RATES_KIND], sheets[RATE_PATH_KIND]);
     let tiers = tiers_at(s, sheets[TIERS_KIND]);
     Contents {

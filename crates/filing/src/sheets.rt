@@ -3,6 +3,7 @@ use answers::Answer;
 use records::KINDS;
 use records::kinds::FLAT_RATES_KIND;
 use records::kinds::RATE_PATH_KIND;
+use records::kinds::YIELDS_KIND;
 ghost use mathlib.Core.Path.{_≡_};
 ghost use lib.ListN.{length};
 ghost use Rattle.answers.specs.Answers.{verdictOf};
@@ -14,7 +15,7 @@ pub(crate) fn check_sheets(s: &[u8], sheets: &[usize; KINDS]) -> Answer
     requires { ⌜ now sheets ≡ notedBefore (now s) (length (now s)) .sheets ⌝ }
     ensures { λ r. ⌜ verdictOf r ≡ sheetVerdict (now (s .entry)) ⌝ }
 {
-    if s.len() <= sheets[2] {
+    if s.len() <= sheets[YIELDS_KIND] {
         return Answer::SheetMissing(s.len());
     }
     if sheets[FLAT_RATES_KIND] < s.len() {

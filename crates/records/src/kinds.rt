@@ -5,8 +5,10 @@ use fields::tier_count;
 ghost use mathlib.Core.Path.{_≡_};
 ghost use Rattle.records.specs.Kinds.{givesCell, namesCell, sheetKind, dueLength};
 
-// The kinds: a cell, flat retail rates, tiers, retail rates by month, a coupon in thousandths, an amendment.
+// The kinds: a cell, CD yields, flat retail rates, tiers, retail rates by month, a coupon in thousandths, an amendment.
 pub const CELL_KIND: usize = 1;
+
+pub const YIELDS_KIND: usize = 2;
 
 pub const FLAT_RATES_KIND: usize = 3;
 

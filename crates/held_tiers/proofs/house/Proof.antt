@@ -1,4 +1,4 @@
--- `withdrawal::tiers::house` meets its contract: the arrays hold the tiers of the definition. Assumes nothing.
+-- `held_tiers::house` meets its contract: the arrays hold the tiers of the definition. Assumes nothing.
 use mathlib.Core.Path.{refl}
 use Rattle.lists.specs.Tables.{tableFrom}
 use Rattle.withdrawal.specs.Tiers.{tier, houseTiers}

@@ -1,4 +1,4 @@
--- `withdrawal::gain::coupon_parts` meets its contract. Assumes nothing.
+-- `incentives::coupon_parts` meets its contract. Assumes nothing.
 use mathlib.Core.Path.{refl}
 use native.Mathlib.Omega.{arith}
 use borrow.Author.Needs.{needs}

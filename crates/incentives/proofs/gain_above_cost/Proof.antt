@@ -1,4 +1,4 @@
--- `withdrawal::gain::gain_above_cost` meets its contract. Assumes nothing.
+-- `incentives::gain_above_cost` meets its contract. Assumes nothing.
 use mathlib.Core.Path.{sym}
 use borrow.Author.Needs.{needs}
 use Rattle.withdrawal.proofs.GainLaws.{gain-above-cost-iff}

@@ -1,4 +1,4 @@
--- `withdrawal::gain::gain_and_cost` meets its contract. Assumes nothing.
+-- `incentives::gain_and_cost` meets its contract. Assumes nothing.
 use mathlib.Core.Path.{refl}
 use native.Mathlib.Nat.{mul-le-mul}
 use native.Mathlib.Omega.{arith}

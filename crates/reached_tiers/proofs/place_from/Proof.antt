@@ -1,4 +1,4 @@
--- `withdrawal::tiers::place_from` meets its contract: no edge before the place is reached. Assumes nothing.
+-- `reached_tiers::place_from` meets its contract: no edge before the place is reached. Assumes nothing.
 use Prim.Native.Nat.{_-_, _≤_}
 use mathlib.Core.Path.{sym, _∙_}
 use native.Mathlib.Nat.{not-le-of-lt}

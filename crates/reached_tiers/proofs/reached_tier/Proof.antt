@@ -1,4 +1,4 @@
--- `withdrawal::tiers::reached_tier` meets its contract: the answer is what stands at the first place that is reached. Assumes nothing.
+-- `reached_tiers::reached_tier` meets its contract: the answer is what stands at the first place that is reached. Assumes nothing.
 use native.Mathlib.Nat.{not-suc-le-zero}
 use native.Mathlib.Omega.{arith}
 use borrow.Author.Needs.{needs}

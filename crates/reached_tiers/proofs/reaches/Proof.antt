@@ -1,4 +1,4 @@
--- `withdrawal::tiers::reaches` meets its contract. Assumes nothing.
+-- `reached_tiers::reaches` meets its contract. Assumes nothing.
 use mathlib.Core.Path.{sym}
 use native.Mathlib.Nat.{mul-le-mul}
 use native.Mathlib.Omega.{arith}

@@ -1,4 +1,4 @@
--- `withdrawal::all_survivals` meets its contract: the power rule is tested over all 601 entries at once. Assumes nothing.
+-- `survivals::all_survivals` meets its contract: the power rule is tested over all 601 entries at once. Assumes nothing.
 use mathlib.Core.Path.{refl}
 use Rattle.withdrawal.specs.Survival.{survives}
 use Rattle.withdrawal.proofs.SurvivalLaws.{isSurvival, figures-are}

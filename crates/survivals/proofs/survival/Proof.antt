@@ -1,4 +1,4 @@
--- `withdrawal::survival` meets its contract. Assumes nothing.
+-- `survivals::survival` meets its contract. Assumes nothing.
 use borrow.Author.Needs.{needs}
 use Rattle.withdrawal.proofs.SurvivalLaws.{figure-at}
 use Rattle.survivals.proofs.survival.Statement.{statement}

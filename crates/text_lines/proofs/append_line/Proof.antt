@@ -1,4 +1,4 @@
--- `text::append_line` meets its contract: the line from number i on remains. Assumes nothing.
+-- `text_lines::append_line` meets its contract: the line from number i on remains. Assumes nothing.
 use Prim.Native.Nat.{_-_, _≤_}
 use mathlib.Core.Path.{ap}
 use native.Mathlib.Omega.{arith}

@@ -1,4 +1,4 @@
--- `text::append_refusal` meets its contract. Assumes nothing.
+-- `text_lines::append_refusal` meets its contract. Assumes nothing.
 use native.Mathlib.Omega.{arith}
 use Rattle.text.specs.Lines.{refusedWord, refusalLine}
 use Rattle.text.proofs.AppendLaws.{appended-append}

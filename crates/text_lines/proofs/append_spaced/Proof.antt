@@ -1,4 +1,4 @@
--- `text::append_spaced` meets its contract. Assumes nothing.
+-- `text_lines::append_spaced` meets its contract. Assumes nothing.
 use Rattle.text.proofs.AppendLaws.{appended-append}
 use borrow.Author.Needs.{needs}
 use Rattle.text_lines.proofs.append_spaced.Statement.{statement}
