@@ -38,6 +38,7 @@ fn write_rows(k: Contents, list: &mut [u64])
     let mut lower = [0u64; 840];
     let mut upper = [0u64; 840];
     discount_tables(&k.yields, longest, &mut lower, &mut upper);
+    let mut months = [[0u8; 7]; 120];
     let mut place: usize = 0;
     while place < 36 {
         let row = row_of(
@@ -52,6 +53,7 @@ fn write_rows(k: Contents, list: &mut [u64])
             tiers.retained,
             &lower,
             &upper,
+            &mut months,
         );
         write(list, 15 * place, &row);
         place += 1;

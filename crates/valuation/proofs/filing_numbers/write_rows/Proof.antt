@@ -16,11 +16,11 @@ use Rattle.valuation.proofs.filing_numbers.write_rows.Statement.{statem
 use Rattle.valuation.proofs.filing_numbers.write_rows.Tie as tie
 
 abbrev Inv-loop : tie.InvT-loop
-Inv-loop list₀ k tiers places longest lower upper place₀ list place =
+Inv-loop list₀ k tiers places longest lower upper months₀ place₀ list months place =
     (place ≤ 36) × (540 ≤ length list₀) × Prepared k tiers places lower upper × Overwritten (joined (table place (placeNumbers k))) (15 * place) list₀ list
 
 abbrev μ-loop : tie.MeasureT-loop
-μ-loop list₀ k tiers places longest lower upper place₀ list place = 36 - place
+μ-loop list₀ k tiers places longest lower upper months₀ place₀ list months place = 36 - place
 
 tiers-of-requires : tie.Need-tiers-of-requires Inv-loop μ-loop
 tiers-of-requires c κs = filed-limits _ (c .before .before .pre .0)
@@ -40,7 +40,7 @@ discount-tables-requires c κs =
 
 -- the loop's test, from the row of a place
 abbrev turn : tie.After-row-of Inv-loop μ-loop → tie.In-loop Inv-loop μ-loop
-turn r = r .before .before .before .before .before .before .before .before .before .before
+turn r = r .before .before .before .before .before .before .before .before .before .before .before
 
 loop-holds : tie.Need-loop-holds Inv-loop μ-loop
 unfolding tableFrom joined
@@ -71,7 +71,7 @@ array-copy-out-row-of c = omega arith
 
 row-of-requires : tie.Need-row-of-requires Inv-loop μ-loop
 row-of-requires c κs =
-    let test = c .before .before .before .before .before .before .before .before .before in
+    let test = c .before .before .before .before .before .before .before .before .before .before in
     let state = test .before .loop in
     let prepared = state .inv .2 in
     let held = held-limits _ _ _ _ _ prepared (state .place) (omega arith) in
