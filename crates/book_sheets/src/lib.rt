@@ -40,6 +40,7 @@ pub fn values_in<'a>(
     let mut above = *upper;
     to_multipliers(&mut below, held.remaining_months, false);
     to_multipliers(&mut above, held.remaining_months, true);
+    let mut months = [[0u8; 7]; 120];
     held_values(
         held,
         place,
@@ -52,6 +53,7 @@ pub fn values_in<'a>(
         own.retained,
         &below,
         &above,
+        &mut months,
     )
 }
 

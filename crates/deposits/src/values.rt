@@ -29,6 +29,7 @@ ghost use Rattle.deposits.specs.Inner.Values.{listedValues};
 
 // Values in dollars of a balance in thousands of dollars: lower, upper, lower, upper and so on by scenario, at the retail rates of a column, 1 to 3, which
 // are not shifted. The tiers are lent, with the withdrawals and `otherwise` that their survivals are of. The tables hold the multipliers of the discount factors. In the last month nothing is withdrawn early. A zero balance walks no month.
+// `places` is room for the places of its months.
 pub fn values_of<'a>(
     balance: u64,
     d: Deposit,
@@ -42,6 +43,7 @@ pub fn values_of<'a>(
     retained: u64,
     lower: &MultiplierTable,
     upper: &MultiplierTable,
+    places: &mut Places,
 ) -> [u64; 14]
     requires { ⌜ (balance ≤ balanceLimit) × DepositLimits d × ColumnRates (now rates) column × Usable (lentTiers count (now edges) (now withdrawals) (now survivals) otherwise retained) ⌝ }
     requires { ⌜ (0 < balance → Discounting down (d .months) (now lower) × Discounting up (d .months) (now upper)) ⌝ }
@@ -54,7 +56,7 @@ pub fn values_of<'a>(
     let growth = coupon_growth(d.coupon);
     let servicing = servicing_cost(d.brokered);
     let last = multipliers_of(growth, servicing, PAR);
-    let places = early_places(
+    early_places(
         d.brokered,
         d.coupon,
         d.penalty,
@@ -63,6 +65,7 @@ pub fn values_of<'a>(
         column,
         count,
         edges,
+        places,
     );
     let mut paid = [0u64; 17];
     let mut left = [0u64; 17];
@@ -85,7 +88,7 @@ pub fn values_of<'a>(
         let two = value_bounds(
             balance,
             d.months,
-            &places,
+            places,
             &paid,
             &left,
             &carried,

@@ -18,7 +18,8 @@ ghost use Rattle.early_months.specs.Places.{Placed, Multiplied};
 // The months of a column's path of rates.
 const MONTHS: usize = 120;
 
-// The places of all months but the last, at the retail rates of a column, 1 to 3, which are not shifted.
+// Writes the places of all months but the last, at the retail rates of a column, 1 to 3, which are not shifted. As a slice the room is known to have 120
+// months; what stood in it is of no account.
 pub fn early_places(
     brokered: bool,
     coupon: u64,
@@ -28,21 +29,21 @@ pub fn early_places(
     column: usize,
     count: usize,
     edges: &[u64; TIER_LIMIT],
-) -> Places
+    places: &mut Places,
+)
     requires { ⌜ (coupon ≤ couponLimit) × (penalty ≤ penaltyLimit) × (months ≤ monthsLimit) × EdgesFit count (now edges) ⌝ }
     requires { ⌜ ((i : ℕ) → getD (now rates) i 0 ≤ rateLimit) × (1 ≤ column) × (column ≤ 3) ⌝ }
-    ensures { λ r. ⌜ Placed brokered coupon penalty months count (now (edges .entry)) (now (rates .entry)) column r ⌝ }
+    ensures { λ _. ⌜ Placed brokered coupon penalty months count (now (edges .entry)) (now (rates .entry)) column (now (places .exit)) ⌝ }
 {
     let parts = coupon_parts(coupon, penalty);
-    let mut places = [[0u8; 7]; 120];
+    let list: &mut [[u8; 7]] = places;
     let mut t: u64 = 0;
     while t + 1 < months {
         let rate = rates[MONTHS * (column - 1) + t as usize];
         let left = months - (t + 1);
-        places[t as usize] = month_places(brokered, count, edges, parts, rate, left);
+        list[t as usize] = month_places(brokered, count, edges, parts, rate, left);
         t += 1;
     }
-    places
 }
 
 // The multipliers of the places that the account may have, written into arrays of zeros.

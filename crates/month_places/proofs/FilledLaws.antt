@@ -18,6 +18,7 @@ module _ {A : Type 0} where
   pub filled-start : (P : ℕ → A → Type 0) (d : A) (l : List A) {n : ℕ} → length l ≡ n → FilledBy P d n 0 l
   filled-start P d l e = record { long = e; holds = λ j h. absurd (not-suc-le-zero h) }
 
+  -- in an array that is cleared
   pub filled-none : (P : ℕ → A → Type 0) (d a : A) (n : ℕ) → FilledBy P d n 0 (replicate n a)
   filled-none P d a n = filled-start P d (replicate n a) (length-replicate n a)
 

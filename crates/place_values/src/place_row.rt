@@ -1,5 +1,6 @@
 // The fifteen numbers of a place: its balance, then its lower and upper value in each scenario.
 use deposits::Deposit;
+use deposits::MonthPlaces;
 use deposits::RatePaths;
 use deposits::factors::MultiplierTable;
 use deposits::values::values_of;
@@ -21,6 +22,7 @@ ghost use Rattle.place_values.specs.PlaceTerms.{depositAt};
 ghost use Rattle.place_values.specs.Inner.PlaceRows.{listedHeld, rowOf};
 
 // The row of what place 0 to 35 holds, at the retail rates and the tiers of a filing, which are lent. The tables hold the multipliers of the discount factors.
+// `months` is room for the places of its months.
 pub fn row_of<'a>(
     held: SubBalance,
     place: usize,
@@ -33,6 +35,7 @@ pub fn row_of<'a>(
     retained: u64,
     lower: &MultiplierTable,
     upper: &MultiplierTable,
+    months: &mut MonthPlaces,
 ) -> [u64; 15]
     requires { ⌜ (place < subBalanceCount) × (held .balance ≤ balanceLimit) × DepositLimits (depositAt place held) ⌝ }
     requires { ⌜ WithinRates (now rates) × Usable (lentTiers count (now edges) (now withdrawals) (now survivals) otherwise retained) ⌝ }
@@ -54,6 +57,7 @@ pub fn row_of<'a>(
         retained,
         lower,
         upper,
+        months,
     );
     let mut row = [held.balance; 15];
     write(&mut row, 1, &values);
@@ -73,6 +77,7 @@ pub fn held_values<'a>(
     retained: u64,
     lower: &MultiplierTable,
     upper: &MultiplierTable,
+    months: &mut MonthPlaces,
 ) -> [u64; 14]
     requires { ⌜ (place < subBalanceCount) × (held .balance ≤ balanceLimit) × DepositLimits (depositAt place held) ⌝ }
     requires { ⌜ WithinRates (now rates) × Usable (lentTiers count (now edges) (now withdrawals) (now survivals) otherwise retained) ⌝ }
@@ -94,6 +99,7 @@ pub fn held_values<'a>(
         retained,
         lower,
         upper,
+        months,
     )
 }
 

@@ -56,6 +56,7 @@ fn write_rows(
     let mut lower = [0u64; 840];
     let mut upper = [0u64; 840];
     discount_tables(yields, longest, &mut lower, &mut upper);
+    let mut months = [[0u8; 7]; 120];
     let mut place: usize = 0;
     while place < 36 {
         let row = row_of(
@@ -70,6 +71,7 @@ fn write_rows(
             tiers.retained,
             &lower,
             &upper,
+            &mut months,
         );
         write(list, 15 * place, &row);
         place += 1;

@@ -39,7 +39,7 @@ to-multipliers-requires-2 c κs = let test = c .before .before .before .before .
 held-values-requires : tie.Need-held-values-requires
 unfolding depositAt roundingOf
 held-values-requires c κs =
-    let above = c .before .before .before .before .before .before in
+    let above = c .before .before .before .before .before .before .before in
     let below = above .before .before in
     let tiers = below .before .before .before .before in
     let start = tiers .before .before .before in
@@ -59,7 +59,7 @@ held-values-requires c κs =
 returns-2 : tie.Need-returns-2
 unfolding valuesUnder depositAt roundingOf
 returns-2 c =
-    let above = c .before .before .before .before .before .before .before in
+    let above = c .before .before .before .before .before .before .before .before in
     let below = above .before .before in
     let tiers = below .before .before .before .before in
     let test = tiers .before in

@@ -25,7 +25,7 @@ use Rattle.deposits.proofs.values.values_of.Statement.{statement}
 use Rattle.deposits.proofs.values.values_of.Tie as tie
 
 abbrev Inv-loop : tie.InvT-loop
-Inv-loop balance d rates column count edges withdrawals survivals otherwise retained lower upper values₀ growth servicing last places paid left carried whole scenario₀ values scenario =
+Inv-loop balance d rates column count edges withdrawals survivals otherwise retained lower upper places values₀ growth servicing last paid left carried whole scenario₀ values scenario =
     (scenario ≤ 7)
     × Overwritten
     (joined (table scenario (λ (s : ℕ). valuesAt balance
@@ -33,7 +33,7 @@ Inv-loop balance d rates column count edges withdrawals survivals otherwise reta
     (2 * scenario) (replicate 14 0) values
 
 abbrev μ-loop : tie.MeasureT-loop
-μ-loop balance d rates column count edges withdrawals survivals otherwise retained lower upper values₀ growth servicing last places paid left carried whole scenario₀ values scenario =
+μ-loop balance d rates column count edges withdrawals survivals otherwise retained lower upper places values₀ growth servicing last paid left carried whole scenario₀ values scenario =
     7 - scenario
 
 -- the tiers that are lent
@@ -59,14 +59,14 @@ multipliers-of-requires c κs =
 
 early-places-requires : tie.Need-early-places-requires Inv-loop μ-loop
 early-places-requires c κs =
-    let limits = c .before .before .before .before .pre .0 in (
+    let limits = c .before .before .before .before .before .pre .0 in (
       (limits .1 .coupon-le, limits .1 .penalty-le, limits .1 .months-le, record { count-le = limits .3 .count-le; edge-le = limits .3 .edge-le }),
       (limits .2 .within, limits .2 .first-le, limits .2 .last-le),
     )
 
 place-multipliers-requires : tie.Need-place-multipliers-requires Inv-loop μ-loop
 place-multipliers-requires c κs =
-    let servicing = c .before .before .before .before .before .before in
+    let servicing = c .before .before .before .before .before .before .before in
     let growth = servicing .before in
     let start = growth .before .before in
     let limits = start .pre .0 in (
@@ -101,7 +101,7 @@ value-bounds-requires c κs =
     let test = c .before .before .before .before .before in
     let m = test .before .before in
     let early = m .before .before .before .before .before in
-    let last = early .before in
+    let last = early .before .before in
     let start = last .before .before .before .before in
     let a = start .args in
     let limits = start .pre .0 in
@@ -153,7 +153,7 @@ unfolding listedValues
 returns-2 c =
     let m = c .before .before in
     let early = m .before .before .before .before .before in
-    let last = early .before in
+    let last = early .before .before in
     let start = last .before .before .before .before in
     let a = start .args in
     let limits = start .pre .0 in

@@ -4,42 +4,42 @@ use mathlib.Core.List.{[]}
 use native.Mathlib.Numerals.{add-one}
 use native.Mathlib.Omega.{arith}
 use Rattle.withdrawal.proofs.IncentiveLaws.{parts-within}
-use Rattle.month_places.proofs.FilledLaws.{FilledBy, filled-none, filled-more}
+use Rattle.month_places.proofs.FilledLaws.{FilledBy, filled-start, filled-more}
 use Rattle.early_months.specs.Places.{MonthPlaced}
 use Rattle.early_months.proofs.PathLaws.{path-suc}
 use Rattle.early_months.proofs.places.early_places.Statement.{statement}
 use Rattle.early_months.proofs.places.early_places.Tie as tie
 
 abbrev Inv-loop : tie.InvT-loop
-Inv-loop brokered coupon penalty months rates column count edges parts places₀ t₀ places t =
-    (t ≤ 120) × FilledBy (MonthPlaced brokered coupon penalty months count edges rates column) [] 120 t places
+Inv-loop brokered coupon penalty months rates column count edges parts list₀ t₀ list t =
+    (t ≤ 120) × FilledBy (MonthPlaced brokered coupon penalty months count edges rates column) [] 120 t list
 
 abbrev μ-loop : tie.MeasureT-loop
-μ-loop brokered coupon penalty months rates column count edges parts places₀ t₀ places t = months - t
+μ-loop brokered coupon penalty months rates column count edges parts list₀ t₀ list t = months - t
 
 coupon-parts-requires : tie.Need-coupon-parts-requires Inv-loop μ-loop
 coupon-parts-requires c κs = (c .pre .0 .0, c .pre .0 .1)
 
 loop-holds : tie.Need-loop-holds Inv-loop μ-loop
-loop-holds c = (omega arith, filled-none _ [] _ 120)
+loop-holds c = (omega arith, filled-start _ [] _ (c .list .given .0 .1))
 
 add-loop : tie.Need-add-loop Inv-loop μ-loop
 add-loop c = omega arith
 
 sub-rate : tie.Need-sub-rate Inv-loop μ-loop
-sub-rate c = omega (arith, c .before .before .before .pre .1 .1)
+sub-rate c = omega (arith, c .before .before .before .before .pre .1 .1)
 
 mul-rate : tie.Need-mul-rate Inv-loop μ-loop
-mul-rate c = omega (arith, c .before .before .before .pre .1 .2)
+mul-rate c = omega (arith, c .before .before .before .before .pre .1 .2)
 
 add-rate : tie.Need-add-rate Inv-loop μ-loop
-add-rate c = omega (arith, c .before .before .before .pre .1 .2)
+add-rate c = omega (arith, c .before .before .before .before .pre .1 .2)
 
 mul-rate-2 : tie.Need-mul-rate-2 Inv-loop μ-loop
-mul-rate-2 c = omega (arith, c .before .before .before .pre .1 .2)
+mul-rate-2 c = omega (arith, c .before .before .before .before .pre .1 .2)
 
 element-copy-out-rate : tie.Need-element-copy-out-rate Inv-loop μ-loop
-element-copy-out-rate c = omega (arith, c .before .before .before .pre .1 .2)
+element-copy-out-rate c = omega (arith, c .before .before .before .before .pre .1 .2)
 
 add-left : tie.Need-add-left Inv-loop μ-loop
 add-left c = omega arith
@@ -49,7 +49,7 @@ sub-left c = omega arith
 
 month-places-requires : tie.Need-month-places-requires Inv-loop μ-loop
 month-places-requires c κs =
-    let parts = c .before .before .before in
+    let parts = c .before .before .before .before in
     let start = parts .before in
     let limits = start .pre .0 in (
       start .pre .0 .3,
@@ -61,18 +61,18 @@ month-places-requires c κs =
 -- the places of the month
 placed : (c : tie.After-month-places Inv-loop μ-loop)
     → let at = c .before .before .before in
-    let a = at .before .before .args in
+    let a = at .before .before .before .args in
     MonthPlaced (a .brokered) (a .coupon) (a .penalty) (a .months) (a .count) (a .edges .now) (a .rates .now) (a .column) (at .loop .t) (c .month-places .result)
 placed c i h =
     let at = c .before .before .before in
-    let a = at .before .before .args in
-    rw (path-suc (a .rates .now) (a .column) (at .loop .t), ← (at .before .coupon-parts .ensures), ← (add-one (at .loop .t))) (c .month-places .ensures i h)
+    let a = at .before .before .before .args in
+    rw (path-suc (a .rates .now) (a .column) (at .loop .t), ← (at .before .before .coupon-parts .ensures), ← (add-one (at .loop .t))) (c .month-places .ensures i h)
 
-mul-places : tie.Need-mul-places Inv-loop μ-loop
-mul-places c = omega arith
+mul-t19 : tie.Need-mul-t19 Inv-loop μ-loop
+mul-t19 c = omega arith
 
-array-set-from-places : tie.Need-array-set-from-places Inv-loop μ-loop
-array-set-from-places c = omega arith
+slice-set-from-list : tie.Need-slice-set-from-list Inv-loop μ-loop
+slice-set-from-list c = omega (arith, c .before .before .before .loop .inv .1 .long)
 
 add-t : tie.Need-add-t Inv-loop μ-loop
 add-t c = omega arith
@@ -83,7 +83,7 @@ loop-less c = omega arith
 loop-again : tie.Need-loop-again Inv-loop μ-loop
 loop-again c =
     let at = c .before .before .before in
-    (omega arith, filled-more _ [] 120 (at .loop .t) (at .loop .places) (c .month-places .result) (omega arith) (placed c) (at .loop .inv .1))
+    (omega arith, filled-more _ [] 120 (at .loop .t) (at .loop .list) (c .month-places .result) (omega arith) (placed c) (at .loop .inv .1))
 
 returns : tie.Need-returns Inv-loop μ-loop
 returns c month h =
@@ -107,8 +107,8 @@ early-places-spec =
     add-left
     sub-left
     month-places-requires
-    mul-places
-    array-set-from-places
+    mul-t19
+    slice-set-from-list
     add-t
     loop-less
     loop-again

@@ -16,20 +16,21 @@ position-requires c κs = search needs
 
 values-of-requires : tie.Need-values-of-requires
 values-of-requires c κs =
-    let start = c .before .before in
+    let column = c .before in
+    let start = column .before .before in
     let range = column-range (start .args .place / 4) (omega arith) in (
       (
         start .pre .0 .1,
-        rw (c .before .deposit-at .ensures) (start .pre .0 .2),
-        rw (c .position .ensures) (record { within = start .pre .1 .0 .0; first-le = range .0; last-le = range .1 }),
+        rw (column .before .deposit-at .ensures) (start .pre .0 .2),
+        rw (column .position .ensures) (record { within = start .pre .1 .0 .0; first-le = range .0; last-le = range .1 }),
         start .pre .1 .0 .1,
       ),
-      rw (c .before .deposit-at .ensures) (start .pre .1 .1),
+      rw (column .before .deposit-at .ensures) (start .pre .1 .1),
     )
 
 returns : tie.Need-returns
 unfolding listedHeld positionOf
-returns c = rw (c .values-of .ensures, c .before .position .ensures, c .before .before .deposit-at .ensures)
+returns c = let column = c .before .before in rw (c .values-of .ensures, column .position .ensures, column .before .deposit-at .ensures)
 
 pub held-values-spec : {M : Type 1} → statement M
 held-values-spec = tie.close (tie.spec deposit-at-requires position-requires values-of-requires returns)

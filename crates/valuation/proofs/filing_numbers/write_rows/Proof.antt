@@ -25,14 +25,14 @@ said cells yields rates filed = record { cells = cells; yields = yields; rates =
 
 -- the filing's own tiers are no variable of the loop: the rows are those of every filing with these arrays that the code is prepared for
 abbrev Inv-loop : tie.InvT-loop
-Inv-loop cells yields rates list₀ tiers places longest lower upper place₀ list place =
+Inv-loop cells yields rates list₀ tiers places longest lower upper months₀ place₀ list months place =
     (place ≤ 36)
     × (540 ≤ length list₀)
     × ((filed : FiledTiers) → Prepared (said cells yields rates filed) tiers places lower upper
     → Overwritten (joined (table place (placeNumbers (said cells yields rates filed)))) (15 * place) list₀ list)
 
 abbrev μ-loop : tie.MeasureT-loop
-μ-loop cells yields rates list₀ tiers places longest lower upper place₀ list place = 36 - place
+μ-loop cells yields rates list₀ tiers places longest lower upper months₀ place₀ list months place = 36 - place
 
 abbrev contents : tie.Start Inv-loop μ-loop → Contents
 contents c = said (c .args .cells .now) (c .args .yields .now) (c .args .rates .now) (c .args .filed)
@@ -89,7 +89,7 @@ written c = c .loop .inv .2 _ (prepared (c .before))
 
 -- the loop's head, from the row of a place
 abbrev head : tie.After-row-of Inv-loop μ-loop → tie.At-loop Inv-loop μ-loop
-head r = r .before .before .before .before .before .before .before .before .before
+head r = r .before .before .before .before .before .before .before .before .before .before
 
 mul-row-of : tie.Need-mul-row-of Inv-loop μ-loop
 mul-row-of c = omega arith
@@ -99,7 +99,7 @@ array-copy-out-row-of c = omega arith
 
 row-of-requires : tie.Need-row-of-requires Inv-loop μ-loop
 row-of-requires c κs =
-    let loop = c .before .before .before .before .before .before .before .before in
+    let loop = c .before .before .before .before .before .before .before .before .before in
     let p = prepared (loop .before) in
     let held = held-limits _ _ _ _ _ p (loop .loop .place) (omega arith) in
     ((omega arith, held .0, held .1), ((rates-within _ (p .valid), p .usable), tables _ _ _ _ _ p (loop .loop .place) (omega arith)))
