@@ -1,6 +1,6 @@
 pub mod TermsLaws
 pub mod FactorLaws
-pub mod PlaceLaws
+pub mod LevelLaws
 pub mod PriceLaws
 pub mod DiscountLaws
 pub mod WalkLaws

@@ -24,22 +24,22 @@ use Rattle.deposits.specs.DepositTerms.{servicingCost, termsOf}
 use Rattle.deposits.specs.Inner.Prices.{listed, listedPrice, listedPrices, shiftedPath, DepositLimits, AtMostPar}
 use Rattle.deposits.specs.Inner.Values.{listedValue, valueBounds}
 use Rattle.deposits.specs.Inner.Discounts.{factorsOf, Discounting, walkedPrices, valuesAt, Priceable}
-use Rattle.deposits.specs.Inner.Places.{Placed, Multiplied}
-use Rattle.early_months.specs.Places.{placeAt, heldAt, walkedBy, pricedBy, Walkable}
+use Rattle.deposits.specs.Inner.Levels.{Levelled, Multiplied}
+use Rattle.early_months.specs.Levels.{levelAt, heldAt, walkedBy, pricedBy, Walkable}
 use Rattle.deposits.proofs.TermsLaws.{servicing-pos}
-use Rattle.deposits.proofs.PlaceLaws.{place-within, place-at-le, multipliers-here}
+use Rattle.deposits.proofs.LevelLaws.{level-within, level-at-le, multipliers-here}
 use Rattle.deposits.proofs.PriceLaws.{listed-price-limit, early-on, last-on, month-small, last-survival, last-price, no-price}
 
 -- the price after a term of at least one month
-pub priced-suc : (ρ : Rounding) (paid left carried : List ℕ) (whole : List Bool) (places : List (List ℕ)) (last : MonthMultipliers) (discounts : List ℕ) (scenario n : ℕ) → 0 < n
-    → pricedBy ρ paid left carried whole places last discounts scenario n
-    ≡ lastBy ρ last (getD discounts (7 * (n - 1) + scenario) 0) (walkedBy ρ paid left carried whole places discounts scenario (n - 1))
+pub priced-suc : (ρ : Rounding) (paid left carried : List ℕ) (whole : List Bool) (levels : List (List ℕ)) (last : MonthMultipliers) (discounts : List ℕ) (scenario n : ℕ) → 0 < n
+    → pricedBy ρ paid left carried whole levels last discounts scenario n
+    ≡ lastBy ρ last (getD discounts (7 * (n - 1) + scenario) 0) (walkedBy ρ paid left carried whole levels discounts scenario (n - 1))
 unfolding pricedBy
-priced-suc ρ paid left carried whole places last discounts scenario zero h = absurd (omega arith)
-priced-suc ρ paid left carried whole places last discounts scenario (suc t) h = let e : suc t - 1 ≡ t = omega arith in rw e
+priced-suc ρ paid left carried whole levels last discounts scenario zero h = absurd (omega arith)
+priced-suc ρ paid left carried whole levels last discounts scenario (suc t) h = let e : suc t - 1 ≡ t = omega arith in rw e
 
-module _ (ρ : Rounding) (t : WithdrawalTiers) (d : Deposit) (rates : List ℕ) (column : ℕ) (paid left carried : List ℕ) (whole : List Bool) (places : List (List ℕ))
-    (discounts : List ℕ) (scenario : ℕ) (l : DepositLimits d) (u : Usable t) (placed : Placed t d rates column places) (multiplied : Multiplied t d paid left carried whole)
+module _ (ρ : Rounding) (t : WithdrawalTiers) (d : Deposit) (rates : List ℕ) (column : ℕ) (paid left carried : List ℕ) (whole : List Bool) (levels : List (List ℕ))
+    (discounts : List ℕ) (scenario : ℕ) (l : DepositLimits d) (u : Usable t) (levelled : Levelled t d rates column levels) (multiplied : Multiplied t d paid left carried whole)
     (hs : scenario < 7) (table-of : Discounting ρ (d .months) discounts) where
   -- the factors of the table, and the run of the definitions with them
   abbrev factors : List ℕ
@@ -72,22 +72,22 @@ module _ (ρ : Rounding) (t : WithdrawalTiers) (d : Deposit) (rates : List ℕ) 
 
   -- the multipliers of a month
   here : (month : ℕ) → suc month < d .months
-      → heldAt paid left carried whole (placeAt places month scenario)
+      → heldAt paid left carried whole (levelAt levels month scenario)
       ≡ multipliersOf (couponGrowth * d .coupon) (servicingCost (accountOf (d .brokered)))
       (monthSurvival (tierTable t) (accountOf (d .brokered)) (d .coupon) (d .penalty) (shiftedPath scenario rates column (suc month)) (d .months) (suc month))
   here month h =
-      multiplied (placeAt places month scenario) (place-within t d rates column places scenario month u placed hs h)
-      ∙ multipliers-here t d rates column places scenario month u placed hs h l
+      multiplied (levelAt levels month scenario) (level-within t d rates column levels scenario month u levelled hs h)
+      ∙ multipliers-here t d rates column levels scenario month u levelled hs h l
 
   -- what they carry
   carried-here : (month : ℕ) → suc month < d .months
-      → getD carried (placeAt places month scenario) 0 ≡ carriedOf (getD left (placeAt places month scenario) 0)
+      → getD carried (levelAt levels month scenario) 0 ≡ carriedOf (getD left (levelAt levels month scenario) 0)
   unfolding multipliersOf
   carried-here month h =
       ap (λ (m : MonthMultipliers). m .carried) (here month h) ∙ sym (ap (λ (m : MonthMultipliers). carriedOf (m .left)) (here month h))
 
   -- after every number of months below all
-  walked-is : (month : ℕ) → month < d .months → walkedBy ρ paid left carried whole places discounts scenario month ≡ run month
+  walked-is : (month : ℕ) → month < d .months → walkedBy ρ paid left carried whole levels discounts scenario month ≡ run month
   unfolding walkedBy runBy balanceBy discountedBy
   walked-is zero h = refl
   walked-is (suc month) h =
@@ -98,7 +98,7 @@ module _ (ρ : Rounding) (t : WithdrawalTiers) (d : Deposit) (rates : List ℕ) 
 
   -- the price after the last month, in which nothing is withdrawn early
   priced-at : (n : ℕ) → n ≡ d .months
-      → pricedBy ρ paid left carried whole places (multipliersOf (couponGrowth * d .coupon) (servicingCost (accountOf (d .brokered))) par) discounts scenario n
+      → pricedBy ρ paid left carried whole levels (multipliersOf (couponGrowth * d .coupon) (servicingCost (accountOf (d .brokered))) par) discounts scenario n
       ≡ listedPrice ρ (tierTable t) d (shiftedPath scenario rates column) factors scenario
   unfolding pricedBy
   priced-at zero e = no-price ρ (tierTable t) d (shiftedPath scenario rates column) factors scenario e
@@ -110,17 +110,17 @@ module _ (ρ : Rounding) (t : WithdrawalTiers) (d : Deposit) (rates : List ℕ) 
       ∙ ap (λ (r : Run). r .price) (last-on ρ (tierTable t) d (shiftedPath scenario rates column) factors scenario month refl refl all (factor-here month within) refl e)
       ∙ last-price ρ (tierTable t) d (shiftedPath scenario rates column) factors scenario month e)
 
-  pub priced-is : pricedBy ρ paid left carried whole places (multipliersOf (couponGrowth * d .coupon) (servicingCost (accountOf (d .brokered))) par) discounts scenario (d .months)
+  pub priced-is : pricedBy ρ paid left carried whole levels (multipliersOf (couponGrowth * d .coupon) (servicingCost (accountOf (d .brokered))) par) discounts scenario (d .months)
       ≡ listedPrice ρ (tierTable t) d (shiftedPath scenario rates column) factors scenario
   priced-is = priced-at (d .months) refl
 
   pub priced-le : listedPrice ρ (tierTable t) d (shiftedPath scenario rates column) factors scenario ≤ amountLimit
   priced-le = listed-price-limit ρ (tierTable t) d (shiftedPath scenario rates column) factors scenario l within-par
 
-  pub walkable : Walkable ρ paid left carried whole places discounts scenario (d .months)
+  pub walkable : Walkable ρ paid left carried whole levels discounts scenario (d .months)
   walkable =
       record {
-        place-le = λ month h. place-at-le t d rates column places scenario month u placed hs h;
+        level-le = λ month h. level-at-le t d rates column levels scenario month u levelled hs h;
         paid-pos = λ month h.
             rw (ap (λ (m : MonthMultipliers). m .paid) (here month h))
             (paid-pos _ _ _ (servicing-pos (accountOf (d .brokered))) (monthSurvival-le (tierTable t) (accountOf (d .brokered)) (d .coupon) (d .penalty) _ (d .months) (suc month)));
@@ -130,42 +130,42 @@ module _ (ρ : Rounding) (t : WithdrawalTiers) (d : Deposit) (rates : List ℕ) 
       }
 
 -- a deposit in a scenario, at both roundings
-module _ (t : WithdrawalTiers) (d : Deposit) (rates : List ℕ) (column : ℕ) (paid left carried : List ℕ) (whole : List Bool) (places : List (List ℕ))
-    (lower upper : List ℕ) (scenario : ℕ) (l : DepositLimits d) (u : Usable t) (placed : Placed t d rates column places) (multiplied : Multiplied t d paid left carried whole)
+module _ (t : WithdrawalTiers) (d : Deposit) (rates : List ℕ) (column : ℕ) (paid left carried : List ℕ) (whole : List Bool) (levels : List (List ℕ))
+    (lower upper : List ℕ) (scenario : ℕ) (l : DepositLimits d) (u : Usable t) (levelled : Levelled t d rates column levels) (multiplied : Multiplied t d paid left carried whole)
     (hs : scenario < 7) (below : Discounting down (d .months) lower) (above : Discounting up (d .months) upper) {last : MonthMultipliers}
     (last-is : last ≡ multipliersOf (couponGrowth * d .coupon) (servicingCost (accountOf (d .brokered))) par) where
-  pub priceable : Priceable paid left carried whole places last lower upper scenario (d .months)
+  pub priceable : Priceable paid left carried whole levels last lower upper scenario (d .months)
   unfolding multipliersOf
   priceable =
       record {
-        lower-walk = walkable down t d rates column paid left carried whole places lower scenario l u placed multiplied hs below;
-        upper-walk = walkable up t d rates column paid left carried whole places upper scenario l u placed multiplied hs above;
+        lower-walk = walkable down t d rates column paid left carried whole levels lower scenario l u levelled multiplied hs below;
+        upper-walk = walkable up t d rates column paid left carried whole levels upper scenario l u levelled multiplied hs above;
         last-paid-pos = rw last-is (paid-pos (couponGrowth * d .coupon) (servicingCost (accountOf (d .brokered))) par (servicing-pos (accountOf (d .brokered))) (le-refl par));
         last-carried-is = rw last-is;
       }
 
   -- the prices that are walked are those of the definitions, within the limit
-  prices-are : walkedPrices paid left carried whole places last lower upper scenario (d .months)
+  prices-are : walkedPrices paid left carried whole levels last lower upper scenario (d .months)
       ≡ listedPrices (tierTable t) d (shiftedPath scenario rates column) (factorsOf down (d .months) lower) (factorsOf up (d .months) upper) scenario
   unfolding walkedPrices listedPrices
   prices-are =
       rw (
         last-is,
-        priced-is down t d rates column paid left carried whole places lower scenario l u placed multiplied hs below,
-        priced-is up t d rates column paid left carried whole places upper scenario l u placed multiplied hs above,
+        priced-is down t d rates column paid left carried whole levels lower scenario l u levelled multiplied hs below,
+        priced-is up t d rates column paid left carried whole levels upper scenario l u levelled multiplied hs above,
       )
 
-  pub prices-le : (walkedPrices paid left carried whole places last lower upper scenario (d .months) .lower ≤ amountLimit)
-      × (walkedPrices paid left carried whole places last lower upper scenario (d .months) .upper ≤ amountLimit)
+  pub prices-le : (walkedPrices paid left carried whole levels last lower upper scenario (d .months) .lower ≤ amountLimit)
+      × (walkedPrices paid left carried whole levels last lower upper scenario (d .months) .upper ≤ amountLimit)
   unfolding listedPrices
   prices-le =
       rw prices-are (
-        priced-le down t d rates column paid left carried whole places lower scenario l u placed multiplied hs below,
-        priced-le up t d rates column paid left carried whole places upper scenario l u placed multiplied hs above,
+        priced-le down t d rates column paid left carried whole levels lower scenario l u levelled multiplied hs below,
+        priced-le up t d rates column paid left carried whole levels upper scenario l u levelled multiplied hs above,
       )
 
   -- and so the values
-  pub bounds-are : (balance : ℕ) → valuesAt balance (walkedPrices paid left carried whole places last lower upper scenario (d .months))
+  pub bounds-are : (balance : ℕ) → valuesAt balance (walkedPrices paid left carried whole levels last lower upper scenario (d .months))
       ≡ valueBounds (tierTable t) balance d (shiftedPath scenario rates column) (factorsOf down (d .months) lower) (factorsOf up (d .months) upper) scenario
   unfolding valuesAt valueBounds listedValue listedPrices
   bounds-are balance = rw prices-are

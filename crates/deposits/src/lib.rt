@@ -3,7 +3,7 @@ pub mod factors;
 mod prices;
 pub mod values;
 
-use early_months::Places;
+use early_months::Levels;
 
 // A deposit as its cash flows see it: coupon in thousandths of a percent a year, penalty in hundredths of a month, remaining months.
 pub struct Deposit {
@@ -16,8 +16,8 @@ pub struct Deposit {
 // Retail rates in hundredths of a percent a year: of months 1 to 120 of column 1, then of column 2, then of column 3.
 pub type RatePaths = [u16; 360];
 
-// Room for the places of a deposit's months.
-pub type MonthPlaces = Places;
+// Room for the levels of a deposit's months.
+pub type MonthLevels = Levels;
 
 // A lower and an upper figure.
 pub struct Bounds {

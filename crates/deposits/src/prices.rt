@@ -1,7 +1,7 @@
 // The price of a deposit: its months walked once, with the lower and the upper run side by side.
 use crate::Bounds;
 use crate::factors::MultiplierTable;
-use early_months::Places;
+use early_months::Levels;
 use early_months::walk::early_months;
 use month_steps::MonthMultipliers;
 use month_steps::steps::last_lower;
@@ -18,10 +18,10 @@ ghost use Rattle.deposits.specs.Inner.Discounts.{walkedPrices, Priceable
 // The growth of a coupon of one thousandth of a percent a year, in units of 1 / (3 x 10^9) of the balance (01:56; 02:CR 4).
 const COUPON_GROWTH: u64 = 2_500;
 
-// Lower and upper price in a scenario in billionths: the months before the last by the multipliers of their places, and then the last by its own.
+// Lower and upper price in a scenario in billionths: the months before the last by the multipliers of their levels, and then the last by its own.
 pub(crate) fn price_of<'a>(
     months: u64,
-    places: &Places,
+    levels: &Levels,
     paid: &'a [u64; 17],
     left: &'a [u64; 17],
     carried: &'a [u64; 17],
@@ -32,15 +32,15 @@ pub(crate) fn price_of<'a>(
     scenario: usize,
 ) -> Bounds
     requires { ⌜ (months ≤ monthsLimit) × (scenario < scenarioCount) ⌝ }
-    requires { ⌜ Priceable (now paid) (now left) (now carried) (now whole) (now places) last (now lower) (now upper) scenario months ⌝ }
-    ensures { λ r. ⌜ r ≡ walkedPrices (now (paid .entry)) (now (left .entry)) (now (carried .entry)) (now (whole .entry)) (now (places .entry)) last (now (lower .entry)) (now (upper .entry)) scenario months ⌝ }
+    requires { ⌜ Priceable (now paid) (now left) (now carried) (now whole) (now levels) last (now lower) (now upper) scenario months ⌝ }
+    ensures { λ r. ⌜ r ≡ walkedPrices (now (paid .entry)) (now (left .entry)) (now (carried .entry)) (now (whole .entry)) (now (levels .entry)) last (now (lower .entry)) (now (upper .entry)) scenario months ⌝ }
 {
     if months == 0 {
         return Bounds { lower: 0, upper: 0 };
     }
     let runs = early_months(
         months,
-        places,
+        levels,
         paid,
         left,
         carried,

@@ -5,9 +5,9 @@ use crate::factors::MultiplierTable;
 use crate::prices::coupon_growth;
 use crate::prices::price_of;
 use crate::prices::servicing_cost;
-use early_months::Places;
-use early_months::places::early_places;
-use early_months::places::place_multipliers;
+use early_months::Levels;
+use early_months::levels::early_levels;
+use early_months::levels::level_multipliers;
 use lists::write;
 use month_steps::MonthMultipliers;
 use month_steps::multipliers::multipliers_of;
@@ -23,13 +23,13 @@ ghost use Rattle.withdrawal.specs.Inner.TierArrays.{tierTable, Usable};
 ghost use Rattle.pricing.specs.Scales.{amountLimit};
 ghost use Rattle.pricing.specs.Rounding.{down, up};
 ghost use Rattle.deposits.specs.Inner.Discounts.{factorsOf, Discounting, walkedPrices, valuesAt, Priceable};
-ghost use Rattle.deposits.specs.Inner.Places.{lentTiers};
+ghost use Rattle.deposits.specs.Inner.Levels.{lentTiers};
 ghost use Rattle.deposits.specs.Inner.Prices.{ColumnRates, DepositLimits};
 ghost use Rattle.deposits.specs.Inner.Values.{listedValues};
 
 // Values in dollars of a balance in thousands of dollars: lower, upper, lower, upper and so on by scenario, at the retail rates of a column, 1 to 3, which
 // are not shifted. The tiers are lent, with the withdrawals and `otherwise` that their survivals are of. The tables hold the multipliers of the discount factors. In the last month nothing is withdrawn early. A zero balance walks no month.
-// `places` is room for the places of its months.
+// `levels` is room for the levels of its months.
 pub fn values_of<'a>(
     balance: u64,
     d: Deposit,
@@ -43,7 +43,7 @@ pub fn values_of<'a>(
     retained: u64,
     lower: &MultiplierTable,
     upper: &MultiplierTable,
-    places: &mut Places,
+    levels: &mut Levels,
 ) -> [u64; 14]
     requires { ⌜ (balance ≤ balanceLimit) × DepositLimits d × ColumnRates (now rates) column × Usable (lentTiers count (now edges) (now withdrawals) (now survivals) otherwise retained) ⌝ }
     requires { ⌜ (0 < balance → Discounting down (d .months) (now lower) × Discounting up (d .months) (now upper)) ⌝ }
@@ -56,7 +56,7 @@ pub fn values_of<'a>(
     let growth = coupon_growth(d.coupon);
     let servicing = servicing_cost(d.brokered);
     let last = multipliers_of(growth, servicing, PAR);
-    early_places(
+    early_levels(
         d.brokered,
         d.coupon,
         d.penalty,
@@ -65,13 +65,13 @@ pub fn values_of<'a>(
         column,
         count,
         edges,
-        places,
+        levels,
     );
     let mut paid = [0u64; 17];
     let mut left = [0u64; 17];
     let mut carried = [0u64; 17];
     let mut whole = [false; 17];
-    place_multipliers(
+    level_multipliers(
         d.brokered,
         growth,
         servicing,
@@ -88,7 +88,7 @@ pub fn values_of<'a>(
         let two = value_bounds(
             balance,
             d.months,
-            places,
+            levels,
             &paid,
             &left,
             &carried,
@@ -108,7 +108,7 @@ pub fn values_of<'a>(
 fn value_bounds<'a>(
     balance: u64,
     months: u64,
-    places: &Places,
+    levels: &Levels,
     paid: &'a [u64; 17],
     left: &'a [u64; 17],
     carried: &'a [u64; 17],
@@ -119,13 +119,13 @@ fn value_bounds<'a>(
     scenario: usize,
 ) -> [u64; 2]
     requires { ⌜ (balance ≤ balanceLimit) × (months ≤ monthsLimit) × (scenario < scenarioCount) ⌝ }
-    requires { ⌜ Priceable (now paid) (now left) (now carried) (now whole) (now places) last (now lower) (now upper) scenario months ⌝ }
-    requires { ⌜ (walkedPrices (now paid) (now left) (now carried) (now whole) (now places) last (now lower) (now upper) scenario months .lower ≤ amountLimit) × (walkedPrices (now paid) (now left) (now carried) (now whole) (now places) last (now lower) (now upper) scenario months .upper ≤ amountLimit) ⌝ }
-    ensures { λ r. ⌜ r ≡ valuesAt balance (walkedPrices (now (paid .entry)) (now (left .entry)) (now (carried .entry)) (now (whole .entry)) (now (places .entry)) last (now (lower .entry)) (now (upper .entry)) scenario months) ⌝ }
+    requires { ⌜ Priceable (now paid) (now left) (now carried) (now whole) (now levels) last (now lower) (now upper) scenario months ⌝ }
+    requires { ⌜ (walkedPrices (now paid) (now left) (now carried) (now whole) (now levels) last (now lower) (now upper) scenario months .lower ≤ amountLimit) × (walkedPrices (now paid) (now left) (now carried) (now whole) (now levels) last (now lower) (now upper) scenario months .upper ≤ amountLimit) ⌝ }
+    ensures { λ r. ⌜ r ≡ valuesAt balance (walkedPrices (now (paid .entry)) (now (left .entry)) (now (carried .entry)) (now (whole .entry)) (now (levels .entry)) last (now (lower .entry)) (now (upper .entry)) scenario months) ⌝ }
 {
     let price = price_of(
         months,
-        places,
+        levels,
         paid,
         left,
         carried,

@@ -1,5 +1,5 @@
 // The run over all months but the last.
-use crate::Places;
+use crate::Levels;
 use crate::Runs;
 use month_steps::MonthMultipliers;
 use month_steps::steps::next_lower;
@@ -11,12 +11,12 @@ ghost use Prim.Native.Nat.{_-_, _<_, _≤_};
 ghost use Rattle.schedule.specs.Limits.{monthsLimit, tierLimit};
 ghost use Rattle.schedule.specs.Shift.{scenarioCount};
 ghost use Rattle.pricing.specs.Rounding.{down, up};
-ghost use Rattle.early_months.specs.Places.{placeAt, heldAt, walkedBy, Walkable};
+ghost use Rattle.early_months.specs.Levels.{levelAt, heldAt, walkedBy, Walkable};
 
 // The lower and the upper run after all months but the last. The tables hold the multipliers of the discount factors.
 pub fn early_months<'a>(
     months: u64,
-    places: &Places,
+    levels: &Levels,
     paid: &'a [u64; 17],
     left: &'a [u64; 17],
     carried: &'a [u64; 17],
@@ -26,10 +26,10 @@ pub fn early_months<'a>(
     scenario: usize,
 ) -> Runs
     requires { ⌜ (0 < months) × (months ≤ monthsLimit) × (scenario < scenarioCount) ⌝ }
-    requires { ⌜ Walkable down (now paid) (now left) (now carried) (now whole) (now places) (now lower) scenario months ⌝ }
-    requires { ⌜ Walkable up (now paid) (now left) (now carried) (now whole) (now places) (now upper) scenario months ⌝ }
-    ensures { λ r. ⌜ r .lower ≡ walkedBy down (now (paid .entry)) (now (left .entry)) (now (carried .entry)) (now (whole .entry)) (now (places .entry)) (now (lower .entry)) scenario (months - 1) ⌝ }
-    ensures { λ r. ⌜ r .upper ≡ walkedBy up (now (paid .entry)) (now (left .entry)) (now (carried .entry)) (now (whole .entry)) (now (places .entry)) (now (upper .entry)) scenario (months - 1) ⌝ }
+    requires { ⌜ Walkable down (now paid) (now left) (now carried) (now whole) (now levels) (now lower) scenario months ⌝ }
+    requires { ⌜ Walkable up (now paid) (now left) (now carried) (now whole) (now levels) (now upper) scenario months ⌝ }
+    ensures { λ r. ⌜ r .lower ≡ walkedBy down (now (paid .entry)) (now (left .entry)) (now (carried .entry)) (now (whole .entry)) (now (levels .entry)) (now (lower .entry)) scenario (months - 1) ⌝ }
+    ensures { λ r. ⌜ r .upper ≡ walkedBy up (now (paid .entry)) (now (left .entry)) (now (carried .entry)) (now (whole .entry)) (now (levels .entry)) (now (upper .entry)) scenario (months - 1) ⌝ }
 {
     let early = months - 1;
     let mut low = Run {
@@ -42,8 +42,8 @@ pub fn early_months<'a>(
     };
     let mut t: u64 = 0;
     while t < early {
-        let place = place_at(places, t as usize, scenario);
-        let m = multipliers_at(paid, left, carried, whole, place);
+        let level = level_at(levels, t as usize, scenario);
+        let m = multipliers_at(paid, left, carried, whole, level);
         let i = 7 * t as usize + scenario;
         low = next_lower(low, m, lower[i]);
         high = next_upper(high, m, upper[i]);
@@ -55,35 +55,35 @@ pub fn early_months<'a>(
     }
 }
 
-// The multipliers of a place.
+// The multipliers of a level.
 fn multipliers_at<'a>(
     paid: &'a [u64; 17],
     left: &'a [u64; 17],
     carried: &'a [u64; 17],
     whole: &'a [bool; 17],
-    place: usize,
+    level: usize,
 ) -> MonthMultipliers
-    requires { ⌜ place ≤ tierLimit ⌝ }
-    ensures { λ r. ⌜ r ≡ heldAt (now (paid .entry)) (now (left .entry)) (now (carried .entry)) (now (whole .entry)) place ⌝ }
+    requires { ⌜ level ≤ tierLimit ⌝ }
+    ensures { λ r. ⌜ r ≡ heldAt (now (paid .entry)) (now (left .entry)) (now (carried .entry)) (now (whole .entry)) level ⌝ }
 {
     MonthMultipliers {
-        paid: paid[place],
-        left: left[place],
-        carried: carried[place],
-        whole: whole[place],
+        paid: paid[level],
+        left: left[level],
+        carried: carried[level],
+        whole: whole[level],
     }
 }
 
-// The place of a month, counted from 0, in a scenario.
-fn place_at(places: &Places, month: usize, scenario: usize) -> usize
+// The level of a month, counted from 0, in a scenario.
+fn level_at(levels: &Levels, month: usize, scenario: usize) -> usize
     requires { ⌜ (month < monthsLimit) × (scenario < scenarioCount) ⌝ }
-    ensures { λ r. ⌜ r ≡ placeAt (now (places .entry)) month scenario ⌝ }
+    ensures { λ r. ⌜ r ≡ levelAt (now (levels .entry)) month scenario ⌝ }
 {
-    wide(places[month][6 - scenario])
+    wide(levels[month][6 - scenario])
 }
 
-fn wide(place: u8) -> usize
-    ensures { λ r. ⌜ r ≡ place ⌝ }
+fn wide(level: u8) -> usize
+    ensures { λ r. ⌜ r ≡ level ⌝ }
 {
-    place as usize
+    level as usize
 }

@@ -1,6 +1,6 @@
 // The fifteen numbers of a place: its balance, then its lower and upper value in each scenario.
 use deposits::Deposit;
-use deposits::MonthPlaces;
+use deposits::MonthLevels;
 use deposits::RatePaths;
 use deposits::factors::MultiplierTable;
 use deposits::values::values_of;
@@ -15,14 +15,14 @@ ghost use Rattle.sub_balances.specs.PlaceOrder.{subBalanceCount};
 ghost use Rattle.withdrawal.specs.Inner.TierArrays.{tierTable, Usable};
 ghost use Rattle.pricing.specs.Rounding.{down, up};
 ghost use Rattle.deposits.specs.Inner.Factors.{WithinRates};
-ghost use Rattle.deposits.specs.Inner.Places.{lentTiers};
+ghost use Rattle.deposits.specs.Inner.Levels.{lentTiers};
 ghost use Rattle.deposits.specs.Inner.Prices.{DepositLimits};
 ghost use Rattle.deposits.specs.Inner.Discounts.{factorsOf, Discounting};
 ghost use Rattle.place_values.specs.PlaceTerms.{depositAt};
 ghost use Rattle.place_values.specs.Inner.PlaceRows.{listedHeld, rowOf};
 
 // The row of what place 0 to 35 holds, at the retail rates and the tiers of a filing, which are lent. The tables hold the multipliers of the discount factors.
-// `months` is room for the places of its months.
+// `months` is room for the levels of its months.
 pub fn row_of<'a>(
     held: SubBalance,
     place: usize,
@@ -35,7 +35,7 @@ pub fn row_of<'a>(
     retained: u64,
     lower: &MultiplierTable,
     upper: &MultiplierTable,
-    months: &mut MonthPlaces,
+    months: &mut MonthLevels,
 ) -> [u64; 15]
     requires { ⌜ (place < subBalanceCount) × (held .balance ≤ balanceLimit) × DepositLimits (depositAt place held) ⌝ }
     requires { ⌜ WithinRates (now rates) × Usable (lentTiers count (now edges) (now withdrawals) (now survivals) otherwise retained) ⌝ }
@@ -77,7 +77,7 @@ pub fn held_values<'a>(
     retained: u64,
     lower: &MultiplierTable,
     upper: &MultiplierTable,
-    months: &mut MonthPlaces,
+    months: &mut MonthLevels,
 ) -> [u64; 14]
     requires { ⌜ (place < subBalanceCount) × (held .balance ≤ balanceLimit) × DepositLimits (depositAt place held) ⌝ }
     requires { ⌜ WithinRates (now rates) × Usable (lentTiers count (now edges) (now withdrawals) (now survivals) otherwise retained) ⌝ }

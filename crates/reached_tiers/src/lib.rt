@@ -10,7 +10,7 @@ ghost use Rattle.schedule.specs.Limits.{tierLimit, edgeLimit};
 ghost use Rattle.withdrawal.specs.Tiers.{reached};
 ghost use Rattle.withdrawal.specs.Reached.{reachedTier};
 ghost use Rattle.withdrawal.specs.Inner.TierArrays.{tierTable, Usable};
-ghost use Rattle.withdrawal.specs.Inner.Places.{Unreached, FirstPlace};
+ghost use Rattle.withdrawal.specs.Inner.Levels.{Unreached, FirstLevel};
 ghost use Rattle.withdrawal.specs.Inner.Incentives.{gainOf, Small};
 
 // The tier that an incentive reaches among given tiers: the highest edge is tried first, and the search ends at the first that is reached.
@@ -18,12 +18,12 @@ pub fn reached_tier(tiers: WithdrawalTiers, incentive: Incentive) -> ReachedTier
     requires { ⌜ Usable tiers × Small incentive ⌝ }
     ensures { λ r. ⌜ r ≡ reachedTier (tierTable tiers) (gainOf incentive) (incentive .cost) ⌝ }
 {
-    let place = place_from(0, tiers.count, &tiers.edges, incentive);
-    if place < tiers.count {
+    let level = level_from(0, tiers.count, &tiers.edges, incentive);
+    if level < tiers.count {
         return ReachedTier {
-            withdrawal: tiers.withdrawals[place],
-            survival: tiers.survivals[place],
-            edges_tried: place + 1,
+            withdrawal: tiers.withdrawals[level],
+            survival: tiers.survivals[level],
+            edges_tried: level + 1,
         };
     }
     ReachedTier {
@@ -33,8 +33,8 @@ pub fn reached_tier(tiers: WithdrawalTiers, incentive: Incentive) -> ReachedTier
     }
 }
 
-// The place of the first tier that is reached, counted from 0, or the tiers' count. No edge before place `from` is reached: the search goes on from there.
-pub fn place_from(
+// The level of the first tier that is reached, counted from 0, or the tiers' count. No edge before level `from` is reached: the search goes on from there.
+pub fn level_from(
     from: usize,
     count: usize,
     edges: &[u64; TIER_LIMIT],
@@ -42,16 +42,16 @@ pub fn place_from(
 ) -> usize
     requires { ⌜ (count ≤ tierLimit) × ((i : ℕ) → getD (now edges) i 0 ≤ edgeLimit) × Small incentive ⌝ }
     requires { ⌜ (from ≤ count) × Unreached (now edges) (gainOf incentive) (incentive .cost) from ⌝ }
-    ensures { λ r. ⌜ FirstPlace count (now (edges .entry)) (gainOf incentive) (incentive .cost) r ⌝ }
+    ensures { λ r. ⌜ FirstLevel count (now (edges .entry)) (gainOf incentive) (incentive .cost) r ⌝ }
 {
-    let mut place = from;
-    while place < count {
-        if reaches(incentive, edges[place]) {
-            return place;
+    let mut level = from;
+    while level < count {
+        if reaches(incentive, edges[level]) {
+            return level;
         }
-        place += 1;
+        level += 1;
     }
-    place
+    level
 }
 
 // An edge in hundredths is reached: 100 times the gain is at least the edge times the cost.

@@ -21,7 +21,7 @@ use Rattle.withdrawal.specs.declared.ReachedTier.{ReachedTier}
 use Rattle.withdrawal.specs.Tiers.{WithdrawalTier, TierTable, Falling, tier, annualWithdrawal}
 use Rattle.withdrawal.specs.Reached.{reachedTier}
 use Rattle.withdrawal.specs.Inner.TierArrays.{tierTable, tierTableOf, withSurvivals, inPlaces, held, TiersFit, Usable}
-use Rattle.withdrawal.proofs.TierLaws.{placeReached, place-withdrawal}
+use Rattle.withdrawal.proofs.TierLaws.{levelReached, level-withdrawal}
 use Rattle.withdrawal.proofs.HighestLaws.{edges-tried}
 use Rattle.withdrawal.proofs.SurvivalLaws.{survival-le}
 
@@ -57,17 +57,17 @@ in-places-at xs i n otherwise e = by (ltb i n) refl
     by false t = refl
 
 module _ (gain : ℤ) (cost : ℕ) where
-  -- what a function makes of the withdrawals, at the place of the tier that is reached: what it makes of the annual withdrawal
+  -- what a function makes of the withdrawals, at the level that is reached: what it makes of the annual withdrawal
   held-at : (f : ℕ → ℕ) (x : TierTable)
-      → cond (ltb (placeReached gain cost (x .tiers)) (length (x .tiers)))
-      (getD (inPlaces (map (λ (y : WithdrawalTier). f (y .withdrawal)) (x .tiers))) (placeReached gain cost (x .tiers)) 0)
+      → cond (ltb (levelReached gain cost (x .tiers)) (length (x .tiers)))
+      (getD (inPlaces (map (λ (y : WithdrawalTier). f (y .withdrawal)) (x .tiers))) (levelReached gain cost (x .tiers)) 0)
       (f (x .otherwise))
       ≡ f (annualWithdrawal x gain cost)
   unfolding annualWithdrawal
   held-at f x =
-      in-places-at (map (λ (y : WithdrawalTier). f (y .withdrawal)) (x .tiers)) (placeReached gain cost (x .tiers)) (length (x .tiers))
+      in-places-at (map (λ (y : WithdrawalTier). f (y .withdrawal)) (x .tiers)) (levelReached gain cost (x .tiers)) (length (x .tiers))
       (f (x .otherwise)) (length-map (x .tiers) _)
-      ∙ place-withdrawal gain cost f (x .otherwise) (x .tiers)
+      ∙ level-withdrawal gain cost f (x .otherwise) (x .tiers)
 
 -- what the code's arrays hold at a place, as the search answers it
 unfoldable answerAt : WithdrawalTiers → ℕ → ReachedTier
@@ -78,17 +78,17 @@ answerAt t i =
       «edges_tried» = cond (ltb i (t .count)) (suc i) (t .count);
     }
 
-held-answer : (x : TierTable) (gain : ℤ) (cost : ℕ) → Falling (x .tiers) → answerAt (held x) (placeReached gain cost (x .tiers)) ≡ reachedTier x gain cost
+held-answer : (x : TierTable) (gain : ℤ) (cost : ℕ) → Falling (x .tiers) → answerAt (held x) (levelReached gain cost (x .tiers)) ≡ reachedTier x gain cost
 unfolding answerAt held reachedTier
 held-answer x gain cost f = rw (held-at gain cost (λ (w : ℕ). w) x, held-at gain cost survival x, edges-tried x gain cost f)
 
--- the search ends at place i, of a tier or past the last
-module _ (t : WithdrawalTiers) (gain : ℤ) (cost i : ℕ) (u : Usable t) (ends : placeReached gain cost (tierTable t .tiers) ≡ i) where
+-- the search ends at level i, of a tier or past the last
+module _ (t : WithdrawalTiers) (gain : ℤ) (cost i : ℕ) (u : Usable t) (ends : levelReached gain cost (tierTable t .tiers) ≡ i) where
   -- what stands there is the answer of the definitions
   answer-is : answerAt t i ≡ reachedTier (tierTable t) gain cost
   answer-is =
       rw (← ends)
-      (ap (λ (x : WithdrawalTiers). answerAt x (placeReached gain cost (tierTable t .tiers))) (u .held-is)
+      (ap (λ (x : WithdrawalTiers). answerAt x (levelReached gain cost (tierTable t .tiers))) (u .held-is)
       ∙ held-answer (tierTable t) gain cost (u .falling))
 
   pub reached-answer : i < t .count

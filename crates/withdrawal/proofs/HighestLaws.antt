@@ -11,7 +11,7 @@ use lib.Dec.{ltb, leb·zero, leb·suc-suc}
 use lib.ListN.{length, getD}
 use lib.IntN.{ℤ}
 use Rattle.withdrawal.specs.Tiers.{WithdrawalTier, TierTable, Below, Falling, Highest, edgeAt, tier, reached, firstReached, annualWithdrawal, someReached, highestReached, edgesAbove, edgesTried}
-use Rattle.withdrawal.proofs.TierLaws.{placeReached}
+use Rattle.withdrawal.proofs.TierLaws.{levelReached}
 
 cond-suc : (b : Bool) (p q : ℕ) → cond b (suc p) (suc q) ≡ suc (cond b p q)
 cond-suc true p q = refl
@@ -94,15 +94,15 @@ module _ (gain : ℤ) (cost : ℕ) where
   some-pos edge [] b n = absurd (true≢false (sym n))
   some-pos edge (x ∷ xs) b n = omega (arith, b .0)
 
-  -- the edges tried, by the place of the tier that is reached
-  tried-place : (xs : List WithdrawalTier) → Falling xs
+  -- the edges tried, by the level that is reached
+  tried-level : (xs : List WithdrawalTier) → Falling xs
       → cond (someReached gain cost xs) (suc (edgesAbove (highestReached gain cost xs) xs)) (length xs)
-      ≡ cond (ltb (placeReached gain cost xs) (length xs)) (suc (placeReached gain cost xs)) (length xs)
-  unfolding someReached highestReached edgesAbove placeReached
-  tried-place [] f = refl
-  tried-place (x ∷ xs) f =
-      by (reached gain cost (x .edge)) (someReached gain cost xs) (placeReached gain cost xs) (highestReached gain cost xs)
-      (highest-le (x .edge) xs (f .0)) (λ e. highest-lt (x .edge) xs (f .0) (some-pos (x .edge) xs (f .0) e)) (tried-place xs (f .1))
+      ≡ cond (ltb (levelReached gain cost xs) (length xs)) (suc (levelReached gain cost xs)) (length xs)
+  unfolding someReached highestReached edgesAbove levelReached
+  tried-level [] f = refl
+  tried-level (x ∷ xs) f =
+      by (reached gain cost (x .edge)) (someReached gain cost xs) (levelReached gain cost xs) (highestReached gain cost xs)
+      (highest-le (x .edge) xs (f .0)) (λ e. highest-lt (x .edge) xs (f .0) (some-pos (x .edge) xs (f .0) e)) (tried-level xs (f .1))
     where
       by : (r s : Bool) (i h : ℕ) → h ≤ x .edge → (s ≡ true → h < x .edge)
           → cond s (suc (edgesAbove h xs)) (length xs) ≡ cond (ltb i (length xs)) (suc i) (length xs)
@@ -126,9 +126,9 @@ module _ (table : TierTable) (gain : ℤ) (cost : ℕ) where
   unfolding annualWithdrawal
   none-withdrawal n = first-none gain cost (table .otherwise) (table .tiers) n
 
-  -- the edges tried, by the place of the tier that is reached
+  -- the edges tried, by the level that is reached
   pub edges-tried : Falling (table .tiers)
       → edgesTried table gain cost
-      ≡ cond (ltb (placeReached gain cost (table .tiers)) (length (table .tiers))) (suc (placeReached gain cost (table .tiers))) (length (table .tiers))
+      ≡ cond (ltb (levelReached gain cost (table .tiers)) (length (table .tiers))) (suc (levelReached gain cost (table .tiers))) (length (table .tiers))
   unfolding edgesTried
-  edges-tried f = tried-place gain cost (table .tiers) f
+  edges-tried f = tried-level gain cost (table .tiers) f

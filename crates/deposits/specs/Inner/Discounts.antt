@@ -10,7 +10,7 @@ use Rattle.pricing.specs.Scales.{par, valueScale}
 use Rattle.pricing.specs.Rounding.{Rounding, down, up, quotient}
 use Rattle.month_steps.specs.declared.MonthMultipliers.{MonthMultipliers}
 use Rattle.month_steps.specs.Multipliers.{carriedOf, discountMultiplier, factorOf, Discounts}
-use Rattle.early_months.specs.Places.{pricedBy, Walkable}
+use Rattle.early_months.specs.Levels.{pricedBy, Walkable}
 use Rattle.deposits.specs.declared.Bounds.{Bounds}
 
 -- a table holds the multipliers of a list's factors, over some months
@@ -28,10 +28,10 @@ pub record Discounting (ρ : Rounding) (months : ℕ) (discounts : List ℕ) : T
 
 -- lower and upper price of the months that are walked, billionths
 unfoldable pub walkedPrices : List ℕ → List ℕ → List ℕ → List Bool → List (List ℕ) → MonthMultipliers → List ℕ → List ℕ → ℕ → ℕ → Bounds
-walkedPrices paid left carried whole places last lower upper scenario months =
+walkedPrices paid left carried whole levels last lower upper scenario months =
     record {
-      lower = pricedBy down paid left carried whole places last lower scenario months;
-      upper = pricedBy up paid left carried whole places last upper scenario months;
+      lower = pricedBy down paid left carried whole levels last lower scenario months;
+      upper = pricedBy up paid left carried whole levels last upper scenario months;
     }
 
 -- lower and upper value of a balance in thousands of dollars at prices, dollars
@@ -39,9 +39,9 @@ unfoldable pub valuesAt : ℕ → Bounds → List ℕ
 valuesAt balance prices = quotient down (balance * prices .lower) valueScale ∷ quotient up (balance * prices .upper) valueScale ∷ []
 
 -- the months can be walked at either rounding, and the last has multipliers of the upper run too
-pub record Priceable (paid left carried : List ℕ) (whole : List Bool) (places : List (List ℕ)) (last : MonthMultipliers) (lower upper : List ℕ) (scenario months : ℕ)
+pub record Priceable (paid left carried : List ℕ) (whole : List Bool) (levels : List (List ℕ)) (last : MonthMultipliers) (lower upper : List ℕ) (scenario months : ℕ)
     : Type 0 where
-  pub lower-walk : Walkable down paid left carried whole places lower scenario months
-  pub upper-walk : Walkable up paid left carried whole places upper scenario months
+  pub lower-walk : Walkable down paid left carried whole levels lower scenario months
+  pub upper-walk : Walkable up paid left carried whole levels upper scenario months
   pub last-paid-pos : 0 < last .paid
   pub last-carried-is : last .carried ≡ carriedOf (last .left)

@@ -1,14 +1,14 @@
--- `reached_tiers::reached_tier` meets its contract: the answer is what stands at the first place that is reached. Assumes nothing.
+-- `reached_tiers::reached_tier` meets its contract: the answer is what stands at the first level that is reached. Assumes nothing.
 use native.Mathlib.Nat.{not-suc-le-zero}
 use native.Mathlib.Omega.{arith}
 use borrow.Author.Needs.{needs}
-use Rattle.withdrawal.proofs.TierLaws.{first-place}
+use Rattle.withdrawal.proofs.TierLaws.{first-level}
 use Rattle.withdrawal.proofs.HeldLaws.{reached-answer, unreached-answer}
 use Rattle.reached_tiers.proofs.reached_tier.Statement.{statement}
 use Rattle.reached_tiers.proofs.reached_tier.Tie as tie
 
-place-from-requires : tie.Need-place-from-requires
-place-from-requires c κs =
+level-from-requires : tie.Need-level-from-requires
+level-from-requires c κs =
     let start = c .before .before in
     ((start .pre .0 .count-le, start .pre .0 .edge-le, start .pre .1), (omega arith, λ i l. absurd (not-suc-le-zero l)))
 
@@ -29,23 +29,23 @@ add-t16 c = search needs
 
 returns : tie.Need-returns
 returns c =
-    let place = c .before .before .before in
-    let start = place .before .before .before in
-    reached-answer (start .args .t1) _ _ (place .place-from .result) (start .pre .0) (first-place (start .args .t1) _ _ _ (place .place-from .ensures))
+    let level = c .before .before .before in
+    let start = level .before .before .before in
+    reached-answer (start .args .t1) _ _ (level .level-from .result) (start .pre .0) (first-level (start .args .t1) _ _ _ (level .level-from .ensures))
     (search needs)
 
 returns-2 : tie.Need-returns-2
 returns-2 c =
-    let place = c .before in
-    let start = place .before .before .before in
-    unreached-answer (start .args .t1) _ _ (place .place-from .result) (start .pre .0) (first-place (start .args .t1) _ _ _ (place .place-from .ensures))
+    let level = c .before in
+    let start = level .before .before .before in
+    unreached-answer (start .args .t1) _ _ (level .level-from .result) (start .pre .0) (first-level (start .args .t1) _ _ _ (level .level-from .ensures))
     (search needs)
 
 pub reached-tier-spec : {M : Type 1} → statement M
 reached-tier-spec =
     tie.close
     (tie.spec
-    place-from-requires
+    level-from-requires
     mul-t8
     element-copy-out-t11
     mul-t12

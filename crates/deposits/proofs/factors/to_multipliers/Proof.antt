@@ -4,7 +4,7 @@ use mathlib.Core.Path.{_≡_, refl, _∙_}
 use native.Mathlib.Omega.{arith}
 use lib.ListN.{getD}
 use lib.Seq.{getD-set-other}
-use Rattle.month_places.proofs.FilledLaws.{FilledBy, filled-start, filled-more}
+use Rattle.lists.proofs.FillLaws.{FilledBy, filled-start, filled-more}
 use Rattle.month_steps.specs.Multipliers.{discountMultiplier}
 use Rattle.pricing.specs.Rounding.{roundingOf}
 use Rattle.deposits.proofs.factors.to_multipliers.Statement.{statement}

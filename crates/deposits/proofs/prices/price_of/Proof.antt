@@ -2,7 +2,7 @@
 use Prim.Native.Nat.{_-_, _<_}
 use native.Mathlib.Omega.{arith}
 use Rattle.pricing.specs.Rounding.{down, up}
-use Rattle.early_months.specs.Places.{pricedBy}
+use Rattle.early_months.specs.Levels.{pricedBy}
 use Rattle.deposits.specs.Inner.Discounts.{walkedPrices}
 use Rattle.deposits.proofs.WalkLaws.{priced-suc}
 use borrow.Author.Needs.{needs}

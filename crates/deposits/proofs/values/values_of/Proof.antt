@@ -12,11 +12,11 @@ use Rattle.withdrawal.specs.declared.WithdrawalTiers.{WithdrawalTiers}
 use Rattle.withdrawal.specs.MonthSurvival.{accountOf}
 use Rattle.pricing.specs.Scales.{par, couponGrowth}
 use Rattle.pricing.specs.Rounding.{down, up}
-use Rattle.month_places.proofs.PlaceLaws.{place-survival-le}
+use Rattle.month_levels.proofs.LevelLaws.{level-survival-le}
 use Rattle.month_steps.specs.Multipliers.{multipliersOf}
 use Rattle.deposits.specs.DepositTerms.{servicingCost}
 use Rattle.deposits.specs.Inner.Discounts.{Discounting, walkedPrices, valuesAt}
-use Rattle.deposits.specs.Inner.Places.{lentTiers}
+use Rattle.deposits.specs.Inner.Levels.{lentTiers}
 use Rattle.deposits.specs.Inner.Values.{listedValues}
 use Rattle.deposits.proofs.TermsLaws.{servicing-le}
 use Rattle.deposits.proofs.WalkLaws.{priceable, prices-le, bounds-are}
@@ -25,15 +25,15 @@ use Rattle.deposits.proofs.values.values_of.Statement.{statement}
 use Rattle.deposits.proofs.values.values_of.Tie as tie
 
 abbrev Inv-loop : tie.InvT-loop
-Inv-loop balance d rates column count edges withdrawals survivals otherwise retained lower upper places values₀ growth servicing last paid left carried whole scenario₀ values scenario =
+Inv-loop balance d rates column count edges withdrawals survivals otherwise retained lower upper levels values₀ growth servicing last paid left carried whole scenario₀ values scenario =
     (scenario ≤ 7)
     × Overwritten
     (joined (table scenario (λ (s : ℕ). valuesAt balance
-    (walkedPrices paid left carried whole places last lower upper s (d .months)))))
+    (walkedPrices paid left carried whole levels last lower upper s (d .months)))))
     (2 * scenario) (replicate 14 0) values
 
 abbrev μ-loop : tie.MeasureT-loop
-μ-loop balance d rates column count edges withdrawals survivals otherwise retained lower upper places values₀ growth servicing last paid left carried whole scenario₀ values scenario =
+μ-loop balance d rates column count edges withdrawals survivals otherwise retained lower upper levels values₀ growth servicing last paid left carried whole scenario₀ values scenario =
     7 - scenario
 
 -- the tiers that are lent
@@ -57,15 +57,15 @@ multipliers-of-requires c κs =
       le-refl par,
     )
 
-early-places-requires : tie.Need-early-places-requires Inv-loop μ-loop
-early-places-requires c κs =
+early-levels-requires : tie.Need-early-levels-requires Inv-loop μ-loop
+early-levels-requires c κs =
     let limits = c .before .before .before .before .before .pre .0 in (
       (limits .1 .coupon-le, limits .1 .penalty-le, limits .1 .months-le, record { count-le = limits .3 .count-le; edge-le = limits .3 .edge-le }),
       (limits .2 .within, limits .2 .first-le, limits .2 .last-le),
     )
 
-place-multipliers-requires : tie.Need-place-multipliers-requires Inv-loop μ-loop
-place-multipliers-requires c κs =
+level-multipliers-requires : tie.Need-level-multipliers-requires Inv-loop μ-loop
+level-multipliers-requires c κs =
     let servicing = c .before .before .before .before .before .before .before in
     let growth = servicing .before in
     let start = growth .before .before in
@@ -74,7 +74,7 @@ place-multipliers-requires c κs =
         rw (growth .coupon-growth .ensures) (mul-le-mul-left _ (limits .1 .coupon-le)),
         rw (servicing .servicing-cost .ensures) (servicing-le (accountOf (start .args .d .brokered))),
         limits .3 .count-le,
-        λ i. place-survival-le (start .args .d .brokered) (lent start) i (limits .3),
+        λ i. level-survival-le (start .args .d .brokered) (lent start) i (limits .3),
       ),
       (refl, refl, refl, refl),
     )
@@ -109,11 +109,11 @@ value-bounds-requires c κs =
     let lt : test .before .loop .scenario < 7 = omega (arith, test .loop-test .taken) in (
       (limits .0, limits .1 .months-le, lt),
       (
-        priceable (lent start) (a .d) (a .rates .now) (a .column) _ _ _ _ _ (a .lower .now) (a .upper .now) _ (limits .1) (limits .3) (early .early-places .ensures)
-            (rw (← (last .before .before .coupon-growth .ensures), ← (last .before .servicing-cost .ensures)) (m .place-multipliers .ensures)) lt
+        priceable (lent start) (a .d) (a .rates .now) (a .column) _ _ _ _ _ (a .lower .now) (a .upper .now) _ (limits .1) (limits .3) (early .early-levels .ensures)
+            (rw (← (last .before .before .coupon-growth .ensures), ← (last .before .servicing-cost .ensures)) (m .level-multipliers .ensures)) lt
             (known .1) (known .2) (known .0),
-        prices-le (lent start) (a .d) (a .rates .now) (a .column) _ _ _ _ _ (a .lower .now) (a .upper .now) _ (limits .1) (limits .3) (early .early-places .ensures)
-            (rw (← (last .before .before .coupon-growth .ensures), ← (last .before .servicing-cost .ensures)) (m .place-multipliers .ensures)) lt
+        prices-le (lent start) (a .d) (a .rates .now) (a .column) _ _ _ _ _ (a .lower .now) (a .upper .now) _ (limits .1) (limits .3) (early .early-levels .ensures)
+            (rw (← (last .before .before .coupon-growth .ensures), ← (last .before .servicing-cost .ensures)) (m .level-multipliers .ensures)) lt
             (known .1) (known .2) (known .0),
       ),
     )
@@ -162,8 +162,8 @@ returns-2 c =
     overwritten-all _ _ _ _ (c .before .loop .inv .1) (omega arith)
     ∙ rw e
     (ap joined (table-ext 7 _ _
-    (λ s h. bounds-are (lent start) (a .d) (a .rates .now) (a .column) _ _ _ _ _ (a .lower .now) (a .upper .now) s (limits .1) (limits .3) (early .early-places .ensures)
-    (rw (← (last .before .before .coupon-growth .ensures), ← (last .before .servicing-cost .ensures)) (m .place-multipliers .ensures)) h
+    (λ s h. bounds-are (lent start) (a .d) (a .rates .now) (a .column) _ _ _ _ _ (a .lower .now) (a .upper .now) s (limits .1) (limits .3) (early .early-levels .ensures)
+    (rw (← (last .before .before .coupon-growth .ensures), ← (last .before .servicing-cost .ensures)) (m .level-multipliers .ensures)) h
     (known .1) (known .2) (known .0) (a .balance))))
 
 pub values-of-spec : {M : Type 1} → statement M
@@ -176,8 +176,8 @@ values-of-spec =
     coupon-growth-requires
     servicing-cost-requires
     multipliers-of-requires
-    early-places-requires
-    place-multipliers-requires
+    early-levels-requires
+    level-multipliers-requires
     loop-holds
     value-bounds-requires
     slice-aggregate-write

@@ -4,16 +4,16 @@ use mathlib.Core.Path.{_≡_, refl}
 use native.Mathlib.Numerals.{add-one}
 use native.Mathlib.Omega.{arith}
 use Rattle.pricing.specs.Rounding.{down, up}
-use Rattle.early_months.specs.Places.{walkedBy}
+use Rattle.early_months.specs.Levels.{walkedBy}
 use Rattle.early_months.proofs.walk.early_months.Statement.{statement}
 use Rattle.early_months.proofs.walk.early_months.Tie as tie
 
 abbrev Inv-loop : tie.InvT-loop
-Inv-loop months places paid left carried whole lower upper scenario early low₀ high₀ t₀ low high t =
-    (t < months) × (low ≡ walkedBy down paid left carried whole places lower scenario t) × (high ≡ walkedBy up paid left carried whole places upper scenario t)
+Inv-loop months levels paid left carried whole lower upper scenario early low₀ high₀ t₀ low high t =
+    (t < months) × (low ≡ walkedBy down paid left carried whole levels lower scenario t) × (high ≡ walkedBy up paid left carried whole levels upper scenario t)
 
 abbrev μ-loop : tie.MeasureT-loop
-μ-loop months places paid left carried whole lower upper scenario early low₀ high₀ t₀ low high t = early - t
+μ-loop months levels paid left carried whole lower upper scenario early low₀ high₀ t₀ low high t = early - t
 
 sub-early : tie.Need-sub-early Inv-loop μ-loop
 sub-early c = omega arith
@@ -22,8 +22,8 @@ loop-holds : tie.Need-loop-holds Inv-loop μ-loop
 unfolding walkedBy
 loop-holds c = (omega arith, refl, refl)
 
-place-at-requires : tie.Need-place-at-requires Inv-loop μ-loop
-place-at-requires c κs = let start = c .before .before in (omega (arith, c .loop-test .taken, start .pre .0 .1), start .pre .0 .2)
+level-at-requires : tie.Need-level-at-requires Inv-loop μ-loop
+level-at-requires c κs = let start = c .before .before in (omega (arith, c .loop-test .taken, start .pre .0 .1), start .pre .0 .2)
 
 -- the month has one after it
 early : (c : tie.In-loop Inv-loop μ-loop) → suc (c .before .loop .t) < c .before .before .args .months
@@ -36,7 +36,7 @@ factor-place c = let start = c .before .before in omega (arith, c .loop-test .ta
 multipliers-at-requires : tie.Need-multipliers-at-requires Inv-loop μ-loop
 multipliers-at-requires c κs =
     let at = c .before .before in
-    rw (c .place-at .ensures) (at .before .pre .1 .0 .place-le (at .loop .t) (early (c .before)))
+    rw (c .level-at .ensures) (at .before .pre .1 .0 .level-le (at .loop .t) (early (c .before)))
 
 mul-i : tie.Need-mul-i Inv-loop μ-loop
 mul-i c = omega (arith, factor-place (c .before .before))
@@ -65,13 +65,13 @@ element-copy-out-next-upper c = factor-place (c .before .before .before .before)
 next-upper-requires : tie.Need-next-upper-requires Inv-loop μ-loop
 next-upper-requires c κs =
     let multipliers = c .before .before .before in
-    let place = multipliers .before in
-    let test = place .before in
+    let level = multipliers .before in
+    let test = level .before in
     let at = test .before in
     let start = at .before in
     let walk = start .pre .1 .1 in (
       rw (at .loop .inv .2) (walk .balance-le (at .loop .t) (at .loop .inv .0), walk .price-le (at .loop .t) (at .loop .inv .0)),
-      rw (multipliers .multipliers-at .ensures, place .place-at .ensures) (walk .paid-pos (at .loop .t) (early test), walk .carried-is (at .loop .t) (early test)),
+      rw (multipliers .multipliers-at .ensures, level .level-at .ensures) (walk .paid-pos (at .loop .t) (early test), walk .carried-is (at .loop .t) (early test)),
     )
 
 add-t : tie.Need-add-t Inv-loop μ-loop
@@ -84,12 +84,12 @@ loop-again : tie.Need-loop-again Inv-loop μ-loop
 unfolding walkedBy
 loop-again c =
     let multipliers = c .before .before .before .before in
-    let place = multipliers .before in
-    let at = place .before .before in
+    let level = multipliers .before in
+    let at = level .before .before in
     rw (add-one (at .loop .t)) (
-      early (place .before),
-      rw (c .before .before .next-lower .ensures, multipliers .multipliers-at .ensures, place .place-at .ensures, at .loop .inv .1),
-      rw (c .next-upper .ensures, multipliers .multipliers-at .ensures, place .place-at .ensures, at .loop .inv .2),
+      early (level .before),
+      rw (c .before .before .next-lower .ensures, multipliers .multipliers-at .ensures, level .level-at .ensures, at .loop .inv .1),
+      rw (c .next-upper .ensures, multipliers .multipliers-at .ensures, level .level-at .ensures, at .loop .inv .2),
     )
 
 returns : tie.Need-returns Inv-loop μ-loop
@@ -106,7 +106,7 @@ early-months-spec =
     μ-loop
     sub-early
     loop-holds
-    place-at-requires
+    level-at-requires
     multipliers-at-requires
     mul-i
     add-i

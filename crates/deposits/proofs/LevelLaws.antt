@@ -1,0 +1,50 @@
+-- The months of a deposit by levels of tiers: each level's multipliers are those of the month's survival. Assumes nothing.
+use Prim.Native.Nat.{ℕ, suc, _*_, _-_, _≤_, _<_}
+use mathlib.Core.Path.{_≡_, refl, ap}
+use mathlib.Core.List.{List}
+use native.Mathlib.Nat.{le-trans}
+use native.Mathlib.Omega.{arith}
+use Rattle.schedule.specs.Limits.{tierLimit}
+use Rattle.withdrawal.specs.declared.WithdrawalTiers.{WithdrawalTiers}
+use Rattle.withdrawal.specs.MonthSurvival.{accountOf, monthSurvival}
+use Rattle.withdrawal.specs.Inner.TierArrays.{tierTable, Usable}
+use Rattle.withdrawal.specs.Inner.Incentives.{partsOf, incentiveFrom}
+use Rattle.withdrawal.proofs.MonthSurvivalLaws.{early-month}
+use Rattle.month_levels.specs.Levels.{LevelFor, lastLevel}
+use Rattle.month_levels.proofs.LevelLaws.{level-last, last-le, level-survival}
+use Rattle.month_steps.specs.Multipliers.{multipliersOf}
+use Rattle.pricing.specs.Scales.{couponGrowth}
+use Rattle.deposits.specs.declared.Deposit.{Deposit}
+use Rattle.deposits.specs.DepositTerms.{servicingCost}
+use Rattle.deposits.specs.Inner.Prices.{shiftedPath, DepositLimits}
+use Rattle.deposits.specs.Inner.Levels.{Levelled}
+use Rattle.early_months.specs.Levels.{levelAt, multipliersAt}
+
+-- a month before the last, counted from 0, in a scenario
+module _ (t : WithdrawalTiers) (d : Deposit) (rates : List ℕ) (column : ℕ) (levels : List (List ℕ)) (scenario month : ℕ) (u : Usable t)
+    (levelled : Levelled t d rates column levels) (hs : scenario < 7) (hm : suc month < d .months) where
+  -- its level
+  level-here : LevelFor (d .brokered) (t .count) (t .edges)
+      (incentiveFrom (partsOf (d .coupon) (d .penalty)) (shiftedPath scenario rates column (suc month)) (d .months - suc month)) (levelAt levels month scenario)
+  unfolding levelAt shiftedPath
+  level-here = let e : 6 - (6 - scenario) ≡ scenario = omega arith in rw e at (levelled month hm (6 - scenario) (omega arith))
+
+  -- is one that the account may have
+  pub level-within : levelAt levels month scenario ≤ lastLevel (d .brokered) (t .count)
+  level-within = level-last (d .brokered) (t .count) (t .edges) _ (levelAt levels month scenario) level-here
+
+  pub level-at-le : levelAt levels month scenario ≤ tierLimit
+  level-at-le = le-trans level-within (last-le (d .brokered) (t .count) (u .count-le))
+
+  -- its multipliers are those of the month's survival
+  pub multipliers-here : DepositLimits d
+      → multipliersAt (d .brokered) (couponGrowth * d .coupon) (servicingCost (accountOf (d .brokered))) (t .count) (t .survivals) (t .retained)
+      (levelAt levels month scenario)
+      ≡ multipliersOf (couponGrowth * d .coupon) (servicingCost (accountOf (d .brokered)))
+      (monthSurvival (tierTable t) (accountOf (d .brokered)) (d .coupon) (d .penalty) (shiftedPath scenario rates column (suc month)) (d .months) (suc month))
+  unfolding multipliersAt
+  multipliers-here l =
+      ap (multipliersOf (couponGrowth * d .coupon) (servicingCost (accountOf (d .brokered))))
+      (early-month (tierTable t) (accountOf (d .brokered)) (d .coupon) (d .penalty) (shiftedPath scenario rates column (suc month)) (d .months) (suc month)
+      (d .months - suc month) (l .coupon-le) (l .penalty-le) refl refl
+      (level-survival (d .brokered) t _ (levelAt levels month scenario) u level-here) hm refl)

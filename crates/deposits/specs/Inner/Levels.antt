@@ -1,0 +1,26 @@
+-- The months of a deposit by levels of tiers, and the multipliers of each level. Definitions only.
+use Prim.Native.Nat.{ℕ, _*_}
+use mathlib.Core.Bool.{Bool}
+use mathlib.Core.List.{List}
+use Rattle.withdrawal.specs.declared.WithdrawalTiers.{WithdrawalTiers}
+use Rattle.withdrawal.specs.MonthSurvival.{accountOf}
+use Rattle.pricing.specs.Scales.{couponGrowth}
+use Rattle.early_months.specs.Levels as months
+use Rattle.deposits.specs.declared.Deposit.{Deposit}
+use Rattle.deposits.specs.DepositTerms.{servicingCost}
+
+-- tiers whose arrays are lent
+abbrev pub lentTiers : ℕ → List ℕ → List ℕ → List ℕ → ℕ → ℕ → WithdrawalTiers
+lentTiers count edges withdrawals survivals otherwise retained =
+    record { count = count; edges = edges; withdrawals = withdrawals; survivals = survivals; otherwise = otherwise; retained = retained }
+
+-- levels of all months before the last
+abbrev pub Levelled : WithdrawalTiers → Deposit → List ℕ → ℕ → List (List ℕ) → Type 0
+Levelled t d rates column levels =
+    months.Levelled (d .brokered) (d .coupon) (d .penalty) (d .months) (t .count) (t .edges) rates column levels
+
+-- multipliers of all levels that the account may have
+abbrev pub Multiplied : WithdrawalTiers → Deposit → List ℕ → List ℕ → List ℕ → List Bool → Type 0
+Multiplied t d paid left carried whole =
+    months.Multiplied (d .brokered) (couponGrowth * d .coupon) (servicingCost (accountOf (d .brokered))) (t .count) (t .survivals) (t .retained) paid left carried
+    whole

@@ -1,0 +1,122 @@
+-- `early_months::levels::level_multipliers` meets its contract: the levels before i have their multipliers. Assumes nothing.
+use Prim.Native.Nat.{ℕ, _+_, _-_, _≤_, _<_}
+use mathlib.Core.Path.{_≡_, ap}
+use mathlib.Core.Bool.{Bool, false}
+use native.Mathlib.Omega.{arith}
+use Rattle.lists.proofs.FillLaws.{FilledBy, filled-none, filled-more}
+use Rattle.month_levels.proofs.LevelLaws.{last-le}
+use Rattle.month_steps.specs.declared.MonthMultipliers.{MonthMultipliers}
+use Rattle.early_months.specs.Levels.{multipliersAt}
+use Rattle.early_months.proofs.levels.level_multipliers.Statement.{statement}
+use Rattle.early_months.proofs.levels.level_multipliers.Tie as tie
+
+abbrev Inv-loop : tie.InvT-loop
+Inv-loop brokered growth servicing count survivals retained paid₀ left₀ carried₀ whole₀ last i₀ paid left carried whole i =
+    (i ≤ last + 1)
+    × FilledBy (λ (j n : ℕ). n ≡ multipliersAt brokered growth servicing count survivals retained j .paid) 0 17 i paid
+    × FilledBy (λ (j n : ℕ). n ≡ multipliersAt brokered growth servicing count survivals retained j .left) 0 17 i left
+    × FilledBy (λ (j n : ℕ). n ≡ multipliersAt brokered growth servicing count survivals retained j .carried) 0 17 i carried
+    × FilledBy (λ (j : ℕ) (b : Bool). b ≡ multipliersAt brokered growth servicing count survivals retained j .whole) false 17 i whole
+
+abbrev μ-loop : tie.MeasureT-loop
+μ-loop brokered growth servicing count survivals retained paid₀ left₀ carried₀ whole₀ last i₀ paid left carried whole i = last + 1 - i
+
+last-level-requires : tie.Need-last-level-requires Inv-loop μ-loop
+last-level-requires c κs = tt
+
+loop-holds : tie.Need-loop-holds Inv-loop μ-loop
+loop-holds c =
+    let zeros = c .before .pre .1 in
+    rw (zeros .0, zeros .1, zeros .2, zeros .3) (omega arith, filled-none _ 0 0 17, filled-none _ 0 0 17, filled-none _ 0 0 17, filled-none _ false false 17)
+
+level-survival-requires : tie.Need-level-survival-requires Inv-loop μ-loop
+level-survival-requires c κs = c .before .before .before .pre .0 .2
+
+multipliers-of-requires : tie.Need-multipliers-of-requires Inv-loop μ-loop
+multipliers-of-requires c κs =
+    let start = c .before .before .before .before in
+    (start .pre .0 .0, start .pre .0 .1, rw (c .level-survival .ensures) (start .pre .0 .3 _))
+
+-- the level is one of the array's
+index-lt : (c : tie.After-multipliers-of Inv-loop μ-loop) → c .before .before .before .loop .i < 17
+index-lt c =
+    let last = c .before .before .before .before in
+    let start = last .before in
+    omega (arith, c .before .before .loop-test .taken, last .last-level .ensures, last-le (start .args .brokered) (start .args .count) (start .pre .0 .2))
+
+mul-paid : tie.Need-mul-paid Inv-loop μ-loop
+mul-paid c = omega (arith, index-lt c)
+
+element-write-paid : tie.Need-element-write-paid Inv-loop μ-loop
+element-write-paid c = index-lt c
+
+mul-left : tie.Need-mul-left Inv-loop μ-loop
+mul-left c = omega (arith, index-lt c)
+
+element-write-left : tie.Need-element-write-left Inv-loop μ-loop
+element-write-left c = index-lt c
+
+mul-carried : tie.Need-mul-carried Inv-loop μ-loop
+mul-carried c = omega (arith, index-lt c)
+
+element-write-carried : tie.Need-element-write-carried Inv-loop μ-loop
+element-write-carried c = index-lt c
+
+element-write-whole : tie.Need-element-write-whole Inv-loop μ-loop
+element-write-whole c = index-lt c
+
+add-i : tie.Need-add-i Inv-loop μ-loop
+add-i c = omega (arith, index-lt c)
+
+-- the multipliers of the level
+multipliers-are : (c : tie.After-multipliers-of Inv-loop μ-loop)
+    → let at = c .before .before .before in
+    let a = at .before .before .args in
+    c .multipliers-of .result ≡ multipliersAt (a .brokered) (a .growth) (a .servicing) (a .count) (a .survivals .now) (a .retained) (at .loop .i)
+unfolding multipliersAt
+multipliers-are c = rw (c .multipliers-of .ensures, c .before .level-survival .ensures)
+
+loop-less : tie.Need-loop-less Inv-loop μ-loop
+loop-less c = omega arith
+
+loop-again : tie.Need-loop-again Inv-loop μ-loop
+loop-again c =
+    let state = c .before .before .before .loop in (
+      omega (arith, c .before .before .loop-test .taken),
+      filled-more _ 0 17 (state .i) (state .paid) (c .multipliers-of .result .paid) (index-lt c)
+          (ap (λ (m : MonthMultipliers). m .paid) (multipliers-are c)) (state .inv .1),
+      filled-more _ 0 17 (state .i) (state .left) (c .multipliers-of .result .left) (index-lt c)
+          (ap (λ (m : MonthMultipliers). m .left) (multipliers-are c)) (state .inv .2),
+      filled-more _ 0 17 (state .i) (state .carried) (c .multipliers-of .result .carried) (index-lt c)
+          (ap (λ (m : MonthMultipliers). m .carried) (multipliers-are c)) (state .inv .3),
+      filled-more _ false 17 (state .i) (state .whole) (c .multipliers-of .result .whole) (index-lt c)
+          (ap (λ (m : MonthMultipliers). m .whole) (multipliers-are c)) (state .inv .4),
+    )
+
+returns : tie.Need-returns Inv-loop μ-loop
+returns c level h =
+    let at = c .before in
+    let within : level < at .loop .i = omega (arith, c .loop-test .left, h, at .before .last-level .ensures) in
+    rw (at .loop .inv .1 .holds level within, at .loop .inv .2 .holds level within, at .loop .inv .3 .holds level within, at .loop .inv .4 .holds level within)
+
+pub level-multipliers-spec : {M : Type 1} → statement M
+level-multipliers-spec =
+    tie.close
+    (tie.spec
+    Inv-loop
+    μ-loop
+    last-level-requires
+    loop-holds
+    level-survival-requires
+    multipliers-of-requires
+    mul-paid
+    element-write-paid
+    mul-left
+    element-write-left
+    mul-carried
+    element-write-carried
+    element-write-whole
+    add-i
+    loop-less
+    loop-again
+    returns)

@@ -1,0 +1,92 @@
+// The withdrawal of a deposit in a month before its term's end, in the seven scenarios, as the levels of the tiers that are reached.
+use incentives::gain_above_cost;
+use incentives::gain_and_cost;
+use reached_tiers::level_from;
+use schedule::scenarios::Scenario;
+use withdrawal::CouponParts;
+use withdrawal::FULL_SURVIVAL;
+use withdrawal::Incentive;
+use withdrawal::TIER_LIMIT;
+ghost use mathlib.Core.Path.{_≡_};
+ghost use Prim.Native.Nat.{ℕ, _-_, _<_, _≤_};
+ghost use lib.ListN.{getD};
+ghost use Rattle.schedule.specs.Limits.{rateLimit, monthsLimit, tierLimit};
+ghost use Rattle.schedule.specs.Shift.{scenarioCount, shiftedRate};
+ghost use Rattle.withdrawal.specs.Inner.Incentives.{incentiveFrom, PartsWithin, Small};
+ghost use Rattle.month_levels.specs.Levels.{EdgesFit, LevelFor, StartFor, lastLevel, levelSurvival};
+
+// Levels of a month with `left` months to go, at a retail rate that is not shifted: the highest scenario's first. Rates fall from one to the next, so that
+// no edge is reached again that the one before did not reach.
+pub fn month_levels(
+    brokered: bool,
+    count: usize,
+    edges: &[u64; TIER_LIMIT],
+    parts: CouponParts,
+    rate: u16,
+    left: u64,
+) -> [u8; 7]
+    requires { ⌜ EdgesFit count (now edges) × PartsWithin parts × (rate ≤ rateLimit) × (left ≤ monthsLimit) ⌝ }
+    ensures { λ r. ⌜ ((i : ℕ) → i < scenarioCount → LevelFor brokered count (now (edges .entry)) (incentiveFrom parts (shiftedRate (scenarioCount - 1 - i) rate) left) (getD r i 0)) ⌝ }
+{
+    let mut levels = [0u8; 7];
+    let mut level: usize = 0;
+    let mut i: u8 = 0;
+    while (i as u64) < Scenario::COUNT {
+        let shifted = Scenario::new(6 - i).shifted(rate);
+        level = next_level(
+            brokered,
+            level,
+            count,
+            edges,
+            gain_and_cost(parts, shifted, left),
+        );
+        levels[i as usize] = level as u8;
+        i += 1;
+    }
+    levels
+}
+
+// The last level that an account may have.
+pub fn last_level(brokered: bool, count: usize) -> usize
+    ensures { λ r. ⌜ r ≡ lastLevel brokered count ⌝ }
+{
+    if brokered { 1 } else { count }
+}
+
+// q at a level in billionths.
+pub fn level_survival(
+    brokered: bool,
+    level: usize,
+    count: usize,
+    survivals: &[u64; TIER_LIMIT],
+    retained: u64,
+) -> u64
+    requires { ⌜ count ≤ tierLimit ⌝ }
+    ensures { λ r. ⌜ r ≡ levelSurvival brokered count (now (survivals .entry)) retained level ⌝ }
+{
+    if brokered {
+        return if level < 1 { 0 } else { FULL_SURVIVAL };
+    }
+    if level < count {
+        survivals[level]
+    } else {
+        retained
+    }
+}
+
+// The level of an incentive. Of retail money no edge before level `from` is reached; brokered money is withdrawn whole, at level 0, or not, at level 1.
+fn next_level(
+    brokered: bool,
+    from: usize,
+    count: usize,
+    edges: &[u64; TIER_LIMIT],
+    incentive: Incentive,
+) -> usize
+    requires { ⌜ EdgesFit count (now edges) × Small incentive × StartFor brokered count (now edges) incentive from ⌝ }
+    ensures { λ r. ⌜ LevelFor brokered count (now (edges .entry)) incentive r ⌝ }
+{
+    if brokered {
+        return if gain_above_cost(incentive) { 0 } else { 1 };
+    }
+    level_from(from, count, edges, incentive)
+}

@@ -1,0 +1,64 @@
+-- `reached_tiers::level_from` meets its contract: no edge before the level is reached. Assumes nothing.
+use Prim.Native.Nat.{_-_, _≤_}
+use mathlib.Core.Path.{sym, _∙_}
+use native.Mathlib.Nat.{not-le-of-lt}
+use native.Mathlib.Omega.{arith}
+use Rattle.withdrawal.specs.Inner.Levels.{Unreached}
+use Rattle.withdrawal.specs.Inner.Incentives.{gainOf}
+use Rattle.withdrawal.proofs.TierLaws.{unreached-more}
+use Rattle.reached_tiers.proofs.level_from.Statement.{statement}
+use Rattle.reached_tiers.proofs.level_from.Tie as tie
+
+abbrev Inv-loop : tie.InvT-loop
+Inv-loop from count edges incentive level₀ level = (level ≤ count) × Unreached edges (gainOf incentive) (incentive .cost) level
+
+abbrev μ-loop : tie.MeasureT-loop
+μ-loop from count edges incentive level₀ level = count - level
+
+loop-holds : tie.Need-loop-holds Inv-loop μ-loop
+loop-holds c = c .pre .1
+
+mul-reaches : tie.Need-mul-reaches Inv-loop μ-loop
+mul-reaches c = omega (arith, c .before .before .pre .0 .0)
+
+element-copy-out-reaches : tie.Need-element-copy-out-reaches Inv-loop μ-loop
+element-copy-out-reaches c = omega (arith, c .before .before .pre .0 .0)
+
+reaches-requires : tie.Need-reaches-requires Inv-loop μ-loop
+reaches-requires c κs = let at = c .before .before in (at .before .pre .0 .2, at .before .pre .0 .1 (at .loop .level))
+
+returns : tie.Need-returns Inv-loop μ-loop
+returns c =
+    let at = c .before .before .before .before in
+    record { within = at .loop .inv .0; before = at .loop .inv .1; here = λ l. sym (c .before .reaches .ensures) ∙ c .if1 .taken }
+
+add-level : tie.Need-add-level Inv-loop μ-loop
+add-level c = omega (arith, c .before .before .before .before .before .pre .0 .0)
+
+loop-less : tie.Need-loop-less Inv-loop μ-loop
+loop-less c = omega arith
+
+loop-again : tie.Need-loop-again Inv-loop μ-loop
+loop-again c =
+    let at = c .before .before .before .before in
+    (omega arith, unreached-more (at .before .args .edges .now) _ _ (at .loop .level) (at .loop .inv .1) (sym (c .before .reaches .ensures) ∙ c .if1 .left))
+
+returns-2 : tie.Need-returns-2 Inv-loop μ-loop
+returns-2 c =
+    record { within = c .before .loop .inv .0; before = c .before .loop .inv .1; here = λ l. absurd (not-le-of-lt l (c .loop-test .left)) }
+
+pub level-from-spec : {M : Type 1} → statement M
+level-from-spec =
+    tie.close
+    (tie.spec
+    Inv-loop
+    μ-loop
+    loop-holds
+    mul-reaches
+    element-copy-out-reaches
+    reaches-requires
+    returns
+    add-level
+    loop-less
+    loop-again
+    returns-2)
