@@ -18,9 +18,8 @@ use Rattle.contents.specs.declared.FiledTiers.{FiledTiers}
 use Rattle.contents.specs.Valid.{Valid}
 use Rattle.pricing.specs.Scales.{par}
 use Rattle.pricing.specs.Rounding.{down, up}
-use Rattle.deposits.specs.Inner.Factors.{factorsBy}
-use Rattle.deposits.specs.Inner.Prices.{AtMostPar}
-use Rattle.deposits.proofs.FactorLaws.{factors-at-most-par, upper-factor-pos}
+use Rattle.discounts.specs.Inner.Factors.{factorsBy, AtMostPar}
+use Rattle.discounts.proofs.FactorLaws.{factors-at-most-par, upper-factor-pos}
 use Rattle.place_values.specs.Inner.FiledLimits.{FiledLimits}
 use Rattle.place_values.proofs.FilingTierLaws.{filed-limits}
 use Rattle.place_values.proofs.HeldLaws.{rates-within}

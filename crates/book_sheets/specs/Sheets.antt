@@ -12,7 +12,7 @@ use Rattle.sub_balances.specs.declared.SubBalance.{SubBalance}
 use Rattle.sub_balances.specs.Places.{noValues}
 use Rattle.pricing.specs.Scales.{par}
 use Rattle.place_values.specs.PlaceTerms.{tiersOf}
-use Rattle.place_values.specs.Inner.PlaceRows.{listedHeld}
+use Rattle.place_values.specs.Inner.PlaceRows.{tabledHeld}
 
 -- number i of a list is above a limit
 unfoldable pub aboveLimit : ℕ → List ℕ → ℕ → Bool
@@ -45,4 +45,4 @@ sheetsUsable rates tiers lower upper = noneAbove rateLimit rates && (tiersUsable
 -- lower and upper value in each scenario of what a place holds, dollars
 unfoldable pub valuesUnder : List ℕ → FiledTiers → List ℕ → List ℕ → ℕ → SubBalance → List ℕ
 valuesUnder rates tiers lower upper place held =
-    cond (sheetsUsable rates tiers lower upper) (listedHeld held place rates (tiersOf tiers) lower upper) noValues
+    cond (sheetsUsable rates tiers lower upper) (tabledHeld held place rates (tiersOf tiers) lower upper) noValues

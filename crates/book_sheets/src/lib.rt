@@ -1,8 +1,8 @@
 // The values of a place under the sheets and tiers that a book holds.
 use contents::FiledTiers;
 use deposits::RatePaths;
-use deposits::factors::FactorTable;
-use deposits::factors::to_multipliers;
+use discounts::FactorTable;
+use discounts::to_multipliers;
 use place_values::filing_tiers::tiers_of;
 use place_values::place_row::held_values;
 use sub_balances::SubBalance;

@@ -22,7 +22,7 @@ use Rattle.certificate_terms.specs.Terms.{certificateCount}
 use Rattle.filled_cells.specs.declared.Totals.{Totals}
 use Rattle.filled_cells.specs.declared.Cells.{Cells}
 use Rattle.filled_cells.specs.Cells.{cellsOf}
-use Rattle.filled_cells.specs.Inner.Listing.{Bounded, listedCells}
+use Rattle.filled_cells.specs.Inner.Listing.{Bounded, acceptedCells}
 use Rattle.certificates.specs.Sums.{positionSum, balanceOf, weightedCoupon, weightedMonths, totalsOf}
 use Rattle.certificates.specs.Verdict.{countVerdict, certificateVerdict, eachVerdict, certificatesVerdict}
 use Rattle.certificates.specs.Filled.{filledCells}
@@ -97,8 +97,8 @@ module _ (v : Date) (s : List ℕ) where
       rw e (record { answer-is = h; count-is = rw none; cells-are = rw none })
 
   -- acceptance
-  pub call-accepted : (r : Cells) (t : Totals) → r ≡ listedCells t → t ≡ totalsOf v s (certificateCount s) → accepted ≡ certificatesVerdict v s → Converted v s r
-  unfolding verdictOf accepted listedCells
+  pub call-accepted : (r : Cells) (t : Totals) → r ≡ acceptedCells t → t ≡ totalsOf v s (certificateCount s) → accepted ≡ certificatesVerdict v s → Converted v s r
+  unfolding verdictOf accepted acceptedCells
   call-accepted r t e q h =
       let some = filled-some (sym (ap (λ (u : Verdict). u .number) h)) in
       rw (e, q) (record { answer-is = h; count-is = rw some; cells-are = rw some })

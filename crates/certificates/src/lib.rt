@@ -7,7 +7,7 @@ use answers::number;
 use calendar::Date;
 use filled_cells::CellValue;
 use filled_cells::Cells;
-use listed_cells::listed;
+use present_cells::cells_of;
 ghost use mathlib.Core.Path.{_≡_};
 ghost use Rattle.certificates.specs.Promise.{Converted};
 ghost use Rattle.certificates.specs.Inner.Answers.{noCells};
@@ -30,7 +30,7 @@ pub fn to_cells(valuation: Date, certificates: &[u64]) -> Cells
         return refusal(answer);
     }
     let totals = scanned.totals;
-    listed(totals)
+    cells_of(totals)
 }
 
 // No cells.

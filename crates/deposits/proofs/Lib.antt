@@ -1,5 +1,4 @@
 pub mod TermsLaws
-pub mod FactorLaws
 pub mod LevelLaws
 pub mod PriceLaws
 pub mod DiscountLaws

@@ -20,23 +20,24 @@ use Rattle.pricing.proofs.LimitLaws.{discounted-limit}
 use Rattle.pricing.proofs.RunLaws.{run-suc, run-small}
 use Rattle.deposits.specs.declared.Deposit.{Deposit}
 use Rattle.deposits.specs.DepositTerms.{servicingCost, termsOf}
-use Rattle.deposits.specs.Inner.Prices.{listed, listedPrice, DepositLimits, AtMostPar}
+use Rattle.discounts.specs.Inner.Factors.{factorIn, AtMostPar}
+use Rattle.deposits.specs.Inner.Prices.{tabledPrice, DepositLimits}
 use Rattle.deposits.proofs.TermsLaws.{terms-of-bounded}
 
-pub listed-suc : (factors : List ℕ) (scenario t : ℕ) → listed factors scenario (suc t) ≡ getD factors (7 * t + scenario) 0
-unfolding listed
-listed-suc factors scenario t = let e : suc t - 1 ≡ t = omega arith in rw e
+pub factor-in-suc : (factors : List ℕ) (scenario t : ℕ) → factorIn factors scenario (suc t) ≡ getD factors (7 * t + scenario) 0
+unfolding factorIn
+factor-in-suc factors scenario t = let e : suc t - 1 ≡ t = omega arith in rw e
 
-listed-le : (factors : List ℕ) (scenario : ℕ) → AtMostPar factors → (t : ℕ) → listed factors scenario t ≤ par
-unfolding listed
-listed-le factors scenario h t = h (7 * (t - 1) + scenario)
+factor-in-le : (factors : List ℕ) (scenario : ℕ) → AtMostPar factors → (t : ℕ) → factorIn factors scenario t ≤ par
+unfolding factorIn
+factor-in-le factors scenario h t = h (7 * (t - 1) + scenario)
 
 -- the price of a deposit within the limits
-pub listed-price-limit : (ρ : Rounding) (tiers : TierTable) (d : Deposit) (rate : ℕ → ℕ) (factors : List ℕ) (scenario : ℕ) → DepositLimits d
-    → AtMostPar factors → listedPrice ρ tiers d rate factors scenario ≤ amountLimit
-unfolding listedPrice termsOf
-listed-price-limit ρ tiers d rate factors scenario l p =
-    discounted-limit (termsOf tiers d rate) (listed factors scenario) (listed-le factors scenario p) (terms-of-bounded tiers d rate (l .coupon-le) (l .months-le))
+pub tabled-price-limit : (ρ : Rounding) (tiers : TierTable) (d : Deposit) (rate : ℕ → ℕ) (factors : List ℕ) (scenario : ℕ) → DepositLimits d
+    → AtMostPar factors → tabledPrice ρ tiers d rate factors scenario ≤ amountLimit
+unfolding tabledPrice termsOf
+tabled-price-limit ρ tiers d rate factors scenario l p =
+    discounted-limit (termsOf tiers d rate) (factorIn factors scenario) (factor-in-le factors scenario p) (terms-of-bounded tiers d rate (l .coupon-le) (l .months-le))
     (d .months) (le-refl (d .months)) ρ
 
 -- month t + 1 of a deposit: g is the growth of its coupon, s its servicing cost, q its survival, f its discount factor
@@ -45,28 +46,28 @@ module _ (ρ : Rounding) (tiers : TierTable) (d : Deposit) (rate : ℕ → ℕ) 
     (servicing : s ≡ servicingCost (accountOf (d .brokered)))
     (survival : q ≡ monthSurvival tiers (accountOf (d .brokered)) (d .coupon) (d .penalty) (rate (suc t)) (d .months) (suc t))
     (factor : f ≡ getD factors (7 * t + scenario) 0)
-    (here : run ≡ runBy ρ (termsOf tiers d rate) (listed factors scenario) t)
+    (here : run ≡ runBy ρ (termsOf tiers d rate) (factorIn factors scenario) t)
   where
     -- the run after it
-    next : nextRun ρ g s q f (eqb (suc t) (d .months)) run ≡ runBy ρ (termsOf tiers d rate) (listed factors scenario) (suc t)
+    next : nextRun ρ g s q f (eqb (suc t) (d .months)) run ≡ runBy ρ (termsOf tiers d rate) (factorIn factors scenario) (suc t)
     unfolding termsOf
     next =
-        rw (growth, servicing, survival, factor, here, ← (listed-suc factors scenario t))
-        (run-suc ρ (termsOf tiers d rate) (listed factors scenario) t)
+        rw (growth, servicing, survival, factor, here, ← (factor-in-suc factors scenario t))
+        (run-suc ρ (termsOf tiers d rate) (factorIn factors scenario) t)
 
-    pub early-on : suc t < d .months → nextRun ρ g s q f false run ≡ runBy ρ (termsOf tiers d rate) (listed factors scenario) (suc t)
+    pub early-on : suc t < d .months → nextRun ρ g s q f false run ≡ runBy ρ (termsOf tiers d rate) (factorIn factors scenario) (suc t)
     early-on h = rw (← (ne-eqb (suc t) (d .months) (ne-of-lt h))) next
 
-    pub last-on : suc t ≡ d .months → nextRun ρ g s q f true run ≡ runBy ρ (termsOf tiers d rate) (listed factors scenario) (suc t)
+    pub last-on : suc t ≡ d .months → nextRun ρ g s q f true run ≡ runBy ρ (termsOf tiers d rate) (factorIn factors scenario) (suc t)
     last-on h = rw (← (eq-eqb (suc t) (d .months) h)) next
 
     -- its sizes
     pub month-small : DepositLimits d → AtMostPar factors → t < d .months → Small run g s q f
     unfolding termsOf
     month-small l p h =
-        rw (growth, servicing, survival, factor, here, ← (listed-suc factors scenario t))
-        (run-small ρ (termsOf tiers d rate) (listed factors scenario) (terms-of-bounded tiers d rate (l .coupon-le) (l .months-le))
-        (listed-le factors scenario p) t h)
+        rw (growth, servicing, survival, factor, here, ← (factor-in-suc factors scenario t))
+        (run-small ρ (termsOf tiers d rate) (factorIn factors scenario) (terms-of-bounded tiers d rate (l .coupon-le) (l .months-le))
+        (factor-in-le factors scenario p) t h)
 
 -- in the last month nothing is withdrawn early
 pub last-survival : (tiers : TierTable) (d : Deposit) (rate : ℕ → ℕ) (t : ℕ) → suc t ≡ d .months
@@ -75,11 +76,11 @@ last-survival tiers d rate t e = rw e (sym (last-month tiers (accountOf (d .brok
 
 -- the price is that of the run after the last month; a term of no month has none
 pub last-price : (ρ : Rounding) (tiers : TierTable) (d : Deposit) (rate : ℕ → ℕ) (factors : List ℕ) (scenario t : ℕ) → suc t ≡ d .months
-    → runBy ρ (termsOf tiers d rate) (listed factors scenario) (suc t) .price ≡ listedPrice ρ tiers d rate factors scenario
-unfolding runBy listedPrice
+    → runBy ρ (termsOf tiers d rate) (factorIn factors scenario) (suc t) .price ≡ tabledPrice ρ tiers d rate factors scenario
+unfolding runBy tabledPrice
 last-price ρ tiers d rate factors scenario t e = rw e
 
 pub no-price : (ρ : Rounding) (tiers : TierTable) (d : Deposit) (rate : ℕ → ℕ) (factors : List ℕ) (scenario : ℕ) → 0 ≡ d .months
-    → 0 ≡ listedPrice ρ tiers d rate factors scenario
-unfolding listedPrice discountedBy
+    → 0 ≡ tabledPrice ρ tiers d rate factors scenario
+unfolding tabledPrice discountedBy
 no-price ρ tiers d rate factors scenario e = rw (← e)

@@ -17,11 +17,11 @@ use Rattle.pricing.specs.Run.{discountFactorBy, priceBy, valueBy}
 use Rattle.pricing.proofs.RoundingLaws.{quotient-zero}
 use Rattle.pricing.proofs.RunLaws.{run-ext}
 use Rattle.deposits.specs.declared.Deposit.{Deposit}
-use Rattle.deposits.specs.DepositTerms.{termsOf, sheetYield}
-use Rattle.deposits.specs.Inner.Factors.{factorsBy}
-use Rattle.deposits.specs.Inner.Prices.{listed, listedPrice, shiftedPath}
-use Rattle.deposits.specs.Inner.Values.{listedValue, valueBounds, listedValues}
-use Rattle.deposits.proofs.FactorLaws.{factor-is}
+use Rattle.discounts.specs.Inner.Factors.{sheetYield, factorsBy, factorIn}
+use Rattle.deposits.specs.DepositTerms.{termsOf}
+use Rattle.deposits.specs.Inner.Prices.{tabledPrice, shiftedPath}
+use Rattle.deposits.specs.Inner.Values.{tabledValue, valueBounds, tabledValues}
+use Rattle.discounts.proofs.FactorLaws.{factor-is}
 
 -- of a scenario there are two values, and fourteen of all
 pub bounds-length : (tiers : TierTable) (balance : ℕ) (d : Deposit) (rate : ℕ → ℕ) (lower upper : List ℕ) (scenario : ℕ)
@@ -30,15 +30,15 @@ unfolding valueBounds
 bounds-length tiers balance d rate lower upper scenario = refl
 
 pub values-length : (tiers : TierTable) (balance : ℕ) (d : Deposit) (rates : List ℕ) (column : ℕ) (lower upper : List ℕ)
-    → length (listedValues tiers balance d rates column lower upper) ≡ 14
-unfolding listedValues
+    → length (tabledValues tiers balance d rates column lower upper) ≡ 14
+unfolding tabledValues
 values-length tiers balance d rates column lower upper =
     joined-length 2 0 7 _ (λ s. bounds-length tiers balance d (shiftedPath s rates column) lower upper s)
 
 -- the values of a zero balance
 pub no-values : (tiers : TierTable) (d : Deposit) (rates : List ℕ) (column : ℕ) (lower upper : List ℕ)
-    → replicate 14 0 ≡ listedValues tiers 0 d rates column lower upper
-unfolding listedValues valueBounds listedValue tableFrom joined
+    → replicate 14 0 ≡ tabledValues tiers 0 d rates column lower upper
+unfolding tabledValues valueBounds tabledValue tableFrom joined
 no-values tiers d rates column lower upper =
     ap joined (table-ext 7 (λ (s : ℕ). 0 ∷ 0 ∷ []) (λ (s : ℕ). valueBounds tiers 0 d (shiftedPath s rates column) lower upper s)
     (λ s h. rw (quotient-zero down _ valueScale (lit< tt), quotient-zero up _ valueScale (lit< tt))))
@@ -48,26 +48,26 @@ module _ (tiers : TierTable) (yields : List ℕ) (longest balance : ℕ) (d : De
     (reach : 0 < balance → d .months ≤ longest) where
   -- the price by the list is the price by the yields
   price-is : (ρ : Rounding) (scenario : ℕ) → scenario < 7 → 0 < balance
-      → listedPrice ρ tiers d (shiftedPath scenario rates column) (factorsBy ρ yields longest) scenario
+      → tabledPrice ρ tiers d (shiftedPath scenario rates column) (factorsBy ρ yields longest) scenario
       ≡ priceBy ρ (termsOf tiers d (shiftedPath scenario rates column)) (sheetYield yields scenario)
-  unfolding listedPrice priceBy termsOf
+  unfolding tabledPrice priceBy termsOf
   price-is ρ scenario hs pos =
-      run-ext ρ (termsOf tiers d (shiftedPath scenario rates column)) (listed (factorsBy ρ yields longest) scenario)
+      run-ext ρ (termsOf tiers d (shiftedPath scenario rates column)) (factorIn (factorsBy ρ yields longest) scenario)
       (discountFactorBy ρ (sheetYield yields scenario)) (d .months)
       (λ t l. factor-is ρ yields longest scenario t hs (lt-of-lt-of-le l months-le) (lt-of-lt-of-le l (reach pos)))
 
   -- and so the value
   value-is : (ρ : Rounding) (scenario : ℕ) → scenario < 7
-      → listedValue ρ tiers balance d (shiftedPath scenario rates column) (factorsBy ρ yields longest) scenario
+      → tabledValue ρ tiers balance d (shiftedPath scenario rates column) (factorsBy ρ yields longest) scenario
       ≡ valueBy ρ balance (termsOf tiers d (shiftedPath scenario rates column)) (sheetYield yields scenario)
-  unfolding listedValue valueBy
+  unfolding tabledValue valueBy
   value-is ρ scenario hs =
       ⊎-elim (λ e. rw e (quotient-zero ρ _ valueScale (lit< tt) ∙ sym (quotient-zero ρ _ valueScale (lit< tt))))
       (λ pos. rw (price-is ρ scenario hs pos)) (eq-zero-or-pos balance)
 
   -- lower and upper value in each scenario
-  pub values-are : listedValues tiers balance d rates column (factorsBy down yields longest) (factorsBy up yields longest)
+  pub values-are : tabledValues tiers balance d rates column (factorsBy down yields longest) (factorsBy up yields longest)
       ≡ joined (table scenarioCount (λ (s : ℕ). valueBy down balance (termsOf tiers d (shiftedPath s rates column)) (sheetYield yields s)
       ∷ valueBy up balance (termsOf tiers d (shiftedPath s rates column)) (sheetYield yields s) ∷ []))
-  unfolding listedValues valueBounds
+  unfolding tabledValues valueBounds
   values-are = ap joined (table-ext 7 _ _ (λ s h. rw (value-is down s h, value-is up s h)))

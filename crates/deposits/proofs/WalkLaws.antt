@@ -21,14 +21,16 @@ use Rattle.pricing.specs.Run.{balanceBy, discountedBy}
 use Rattle.pricing.specs.Inner.Month.{runBy, Small}
 use Rattle.deposits.specs.declared.Deposit.{Deposit}
 use Rattle.deposits.specs.DepositTerms.{servicingCost, termsOf}
-use Rattle.deposits.specs.Inner.Prices.{listed, listedPrice, listedPrices, shiftedPath, DepositLimits, AtMostPar}
-use Rattle.deposits.specs.Inner.Values.{listedValue, valueBounds}
-use Rattle.deposits.specs.Inner.Discounts.{factorsOf, Discounting, walkedPrices, valuesAt, Priceable}
+use Rattle.discounts.specs.Inner.Factors.{factorIn, AtMostPar}
+use Rattle.deposits.specs.Inner.Prices.{tabledPrice, tabledPrices, shiftedPath, DepositLimits}
+use Rattle.deposits.specs.Inner.Values.{tabledValue, valueBounds}
+use Rattle.discounts.specs.Inner.Tables.{factorsOf, Discounting}
+use Rattle.deposits.specs.Inner.Walked.{walkedPrices, valuesAt, Priceable}
 use Rattle.deposits.specs.Inner.Levels.{Levelled, Multiplied}
 use Rattle.early_months.specs.Levels.{levelAt, heldAt, walkedBy, pricedBy, Walkable}
 use Rattle.deposits.proofs.TermsLaws.{servicing-pos}
 use Rattle.deposits.proofs.LevelLaws.{level-within, level-at-le, multipliers-here}
-use Rattle.deposits.proofs.PriceLaws.{listed-price-limit, early-on, last-on, month-small, last-survival, last-price, no-price}
+use Rattle.deposits.proofs.PriceLaws.{tabled-price-limit, early-on, last-on, month-small, last-survival, last-price, no-price}
 
 -- the price after a term of at least one month
 pub priced-suc : (ρ : Rounding) (paid left carried : List ℕ) (whole : List Bool) (levels : List (List ℕ)) (last : MonthMultipliers) (discounts : List ℕ) (scenario n : ℕ) → 0 < n
@@ -46,7 +48,7 @@ module _ (ρ : Rounding) (t : WithdrawalTiers) (d : Deposit) (rates : List ℕ) 
   factors = factorsOf ρ (d .months) discounts
 
   abbrev run : ℕ → Run
-  run = runBy ρ (termsOf (tierTable t) d (shiftedPath scenario rates column)) (listed factors scenario)
+  run = runBy ρ (termsOf (tierTable t) d (shiftedPath scenario rates column)) (factorIn factors scenario)
 
   -- what the table holds of a month's factor
   abbrev held : ℕ → ℕ
@@ -99,7 +101,7 @@ module _ (ρ : Rounding) (t : WithdrawalTiers) (d : Deposit) (rates : List ℕ) 
   -- the price after the last month, in which nothing is withdrawn early
   priced-at : (n : ℕ) → n ≡ d .months
       → pricedBy ρ paid left carried whole levels (multipliersOf (couponGrowth * d .coupon) (servicingCost (accountOf (d .brokered))) par) discounts scenario n
-      ≡ listedPrice ρ (tierTable t) d (shiftedPath scenario rates column) factors scenario
+      ≡ tabledPrice ρ (tierTable t) d (shiftedPath scenario rates column) factors scenario
   unfolding pricedBy
   priced-at zero e = no-price ρ (tierTable t) d (shiftedPath scenario rates column) factors scenario e
   priced-at (suc month) e =
@@ -111,11 +113,11 @@ module _ (ρ : Rounding) (t : WithdrawalTiers) (d : Deposit) (rates : List ℕ) 
       ∙ last-price ρ (tierTable t) d (shiftedPath scenario rates column) factors scenario month e)
 
   pub priced-is : pricedBy ρ paid left carried whole levels (multipliersOf (couponGrowth * d .coupon) (servicingCost (accountOf (d .brokered))) par) discounts scenario (d .months)
-      ≡ listedPrice ρ (tierTable t) d (shiftedPath scenario rates column) factors scenario
+      ≡ tabledPrice ρ (tierTable t) d (shiftedPath scenario rates column) factors scenario
   priced-is = priced-at (d .months) refl
 
-  pub priced-le : listedPrice ρ (tierTable t) d (shiftedPath scenario rates column) factors scenario ≤ amountLimit
-  priced-le = listed-price-limit ρ (tierTable t) d (shiftedPath scenario rates column) factors scenario l within-par
+  pub priced-le : tabledPrice ρ (tierTable t) d (shiftedPath scenario rates column) factors scenario ≤ amountLimit
+  priced-le = tabled-price-limit ρ (tierTable t) d (shiftedPath scenario rates column) factors scenario l within-par
 
   pub walkable : Walkable ρ paid left carried whole levels discounts scenario (d .months)
   walkable =
@@ -146,8 +148,8 @@ module _ (t : WithdrawalTiers) (d : Deposit) (rates : List ℕ) (column : ℕ) (
 
   -- the prices that are walked are those of the definitions, within the limit
   prices-are : walkedPrices paid left carried whole levels last lower upper scenario (d .months)
-      ≡ listedPrices (tierTable t) d (shiftedPath scenario rates column) (factorsOf down (d .months) lower) (factorsOf up (d .months) upper) scenario
-  unfolding walkedPrices listedPrices
+      ≡ tabledPrices (tierTable t) d (shiftedPath scenario rates column) (factorsOf down (d .months) lower) (factorsOf up (d .months) upper) scenario
+  unfolding walkedPrices tabledPrices
   prices-are =
       rw (
         last-is,
@@ -157,7 +159,7 @@ module _ (t : WithdrawalTiers) (d : Deposit) (rates : List ℕ) (column : ℕ) (
 
   pub prices-le : (walkedPrices paid left carried whole levels last lower upper scenario (d .months) .lower ≤ amountLimit)
       × (walkedPrices paid left carried whole levels last lower upper scenario (d .months) .upper ≤ amountLimit)
-  unfolding listedPrices
+  unfolding tabledPrices
   prices-le =
       rw prices-are (
         priced-le down t d rates column paid left carried whole levels lower scenario l u levelled multiplied hs below,
@@ -167,5 +169,5 @@ module _ (t : WithdrawalTiers) (d : Deposit) (rates : List ℕ) (column : ℕ) (
   -- and so the values
   pub bounds-are : (balance : ℕ) → valuesAt balance (walkedPrices paid left carried whole levels last lower upper scenario (d .months))
       ≡ valueBounds (tierTable t) balance d (shiftedPath scenario rates column) (factorsOf down (d .months) lower) (factorsOf up (d .months) upper) scenario
-  unfolding valuesAt valueBounds listedValue listedPrices
+  unfolding valuesAt valueBounds tabledValue tabledPrices
   bounds-are balance = rw prices-are

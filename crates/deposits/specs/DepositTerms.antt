@@ -1,8 +1,5 @@
--- The terms of a deposit (01:49-56) and the yields that discount it (01:48). Definitions only.
-use Prim.Native.Nat.{ℕ, _*_, _-_}
-use mathlib.Core.List.{List}
-use lib.ListN.{getD}
-use Rattle.schedule.specs.Shift.{shiftedRate}
+-- The terms of a deposit (01:49-56). Definitions only.
+use Prim.Native.Nat.{ℕ, _*_}
 use Rattle.withdrawal.specs.Tiers.{TierTable}
 use Rattle.withdrawal.specs.MonthSurvival.{Account, retail, brokered, accountOf, monthSurvival}
 use Rattle.pricing.specs.Scales.{couponGrowth}
@@ -24,7 +21,3 @@ termsOf tiers d rate =
       months = d .months;
       survival = λ (t : ℕ). monthSurvival tiers (accountOf (d .brokered)) (d .coupon) (d .penalty) (rate t) (d .months) t;
     }
-
--- the shifted yield of a month, from 1 on, by a sheet of yields, hundredths of a percent a year
-unfoldable pub sheetYield : List ℕ → ℕ → ℕ → ℕ
-sheetYield yields scenario month = shiftedRate scenario (getD yields (month - 1) 0)

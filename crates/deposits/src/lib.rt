@@ -1,5 +1,4 @@
-// One deposit in each scenario: the discount factors, its lower and upper prices and values.
-pub mod factors;
+// One deposit in each scenario: its lower and upper prices and values.
 mod prices;
 pub mod values;
 

@@ -1,6 +1,6 @@
 // The price of a deposit: its months walked once, with the lower and the upper run side by side.
 use crate::Bounds;
-use crate::factors::MultiplierTable;
+use discounts::MultiplierTable;
 use early_months::Levels;
 use early_months::walk::early_months;
 use month_steps::MonthMultipliers;
@@ -13,7 +13,7 @@ ghost use Rattle.schedule.specs.Shift.{scenarioCount};
 ghost use Rattle.withdrawal.specs.MonthSurvival.{accountOf};
 ghost use Rattle.pricing.specs.Scales.{couponGrowth};
 ghost use Rattle.deposits.specs.DepositTerms.{servicingCost};
-ghost use Rattle.deposits.specs.Inner.Discounts.{walkedPrices, Priceable};
+ghost use Rattle.deposits.specs.Inner.Walked.{walkedPrices, Priceable};
 
 // The growth of a coupon of one thousandth of a percent a year, in units of 1 / (3 x 10^9) of the balance (01:56; 02:CR 4).
 const COUPON_GROWTH: u64 = 2_500;

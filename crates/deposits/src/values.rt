@@ -1,10 +1,10 @@
 // The value of a balance: lower and upper in each scenario.
 use crate::Deposit;
 use crate::RatePaths;
-use crate::factors::MultiplierTable;
 use crate::prices::coupon_growth;
 use crate::prices::price_of;
 use crate::prices::servicing_cost;
+use discounts::MultiplierTable;
 use early_months::Levels;
 use early_months::levels::early_levels;
 use early_months::levels::level_multipliers;
@@ -22,10 +22,11 @@ ghost use Rattle.schedule.specs.Shift.{scenarioCount};
 ghost use Rattle.withdrawal.specs.Inner.TierArrays.{tierTable, Usable};
 ghost use Rattle.pricing.specs.Scales.{amountLimit};
 ghost use Rattle.pricing.specs.Rounding.{down, up};
-ghost use Rattle.deposits.specs.Inner.Discounts.{factorsOf, Discounting, walkedPrices, valuesAt, Priceable};
+ghost use Rattle.discounts.specs.Inner.Tables.{factorsOf, Discounting};
+ghost use Rattle.deposits.specs.Inner.Walked.{walkedPrices, valuesAt, Priceable};
 ghost use Rattle.deposits.specs.Inner.Levels.{lentTiers};
 ghost use Rattle.deposits.specs.Inner.Prices.{ColumnRates, DepositLimits};
-ghost use Rattle.deposits.specs.Inner.Values.{listedValues};
+ghost use Rattle.deposits.specs.Inner.Values.{tabledValues};
 
 // Values in dollars of a balance in thousands of dollars: lower, upper, lower, upper and so on by scenario, at the retail rates of a column, 1 to 3, which
 // are not shifted. The tiers are lent, with the withdrawals and `otherwise` that their survivals are of. The tables hold the multipliers of the discount factors. In the last month nothing is withdrawn early. A zero balance walks no month.
@@ -47,7 +48,7 @@ pub fn values_of<'a>(
 ) -> [u64; 14]
     requires { ⌜ (balance ≤ balanceLimit) × DepositLimits d × ColumnRates (now rates) column × Usable (lentTiers count (now edges) (now withdrawals) (now survivals) otherwise retained) ⌝ }
     requires { ⌜ (0 < balance → Discounting down (d .months) (now lower) × Discounting up (d .months) (now upper)) ⌝ }
-    ensures { λ r. ⌜ r ≡ listedValues (tierTable (lentTiers count (now (edges .entry)) (now (withdrawals .entry)) (now (survivals .entry)) otherwise retained)) balance d (now (rates .entry)) column (factorsOf down (d .months) (now (lower .entry))) (factorsOf up (d .months) (now (upper .entry))) ⌝ }
+    ensures { λ r. ⌜ r ≡ tabledValues (tierTable (lentTiers count (now (edges .entry)) (now (withdrawals .entry)) (now (survivals .entry)) otherwise retained)) balance d (now (rates .entry)) column (factorsOf down (d .months) (now (lower .entry))) (factorsOf up (d .months) (now (upper .entry))) ⌝ }
 {
     let mut values = [0u64; 14];
     if balance == 0 {

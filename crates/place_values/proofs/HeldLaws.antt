@@ -26,17 +26,16 @@ use Rattle.pricing.proofs.WidthLaws.{value-width}
 use Rattle.pricing.proofs.RoundingLaws.{quotient-le}
 use Rattle.pricing.proofs.LimitLaws.{price-limit}
 use Rattle.deposits.specs.declared.Deposit.{Deposit}
-use Rattle.deposits.specs.DepositTerms.{sheetYield}
-use Rattle.deposits.specs.Inner.Factors.{factorsBy, WithinRates}
+use Rattle.discounts.specs.Inner.Factors.{sheetYield, factorsBy, WithinRates}
 use Rattle.deposits.specs.Inner.Prices.{shiftedPath, DepositLimits}
-use Rattle.deposits.specs.Inner.Discounts.{HoldsFactors, factorsOf}
-use Rattle.deposits.specs.Inner.Values.{listedValues}
+use Rattle.discounts.specs.Inner.Tables.{HoldsFactors, factorsOf}
+use Rattle.deposits.specs.Inner.Values.{tabledValues}
 use Rattle.deposits.proofs.TermsLaws.{terms-of-bounded}
 use Rattle.deposits.proofs.ValueLaws.{values-are, no-values}
 use Rattle.deposits.proofs.DiscountLaws.{values-by}
 use Rattle.place_values.specs.PlaceTerms.{depositAt, rateAt, filingTiers, termsHeld, monthYield}
 use Rattle.place_values.specs.HeldValues.{exactHeld, valueHeld, boundsHeld, valuesHeld}
-use Rattle.place_values.specs.Inner.PlaceRows.{listedHeld}
+use Rattle.place_values.specs.Inner.PlaceRows.{tabledHeld}
 
 -- the yields and the retail rates of a valid filing are within the limit
 module _ (k : Contents) (v : Valid k) where
@@ -72,22 +71,22 @@ module _ (k : Contents) (place : ℕ) (held : SubBalance) where
 
     -- with factors that reach as far as its months do if it has a balance, the code's values are these
     pub held-are : (longest : ℕ) → (0 < held .balance → held .«remaining_months» ≤ longest)
-        → listedHeld held place (k .rates) (filingTiers k) (factorsBy down (k .yields) longest) (factorsBy up (k .yields) longest) ≡ valuesHeld k place held
-    unfolding listedHeld valuesHeld boundsHeld valueHeld termsHeld rateAt monthYield cdYield shiftedPath sheetYield depositAt
+        → tabledHeld held place (k .rates) (filingTiers k) (factorsBy down (k .yields) longest) (factorsBy up (k .yields) longest) ≡ valuesHeld k place held
+    unfolding tabledHeld valuesHeld boundsHeld valueHeld termsHeld rateAt monthYield cdYield shiftedPath sheetYield depositAt
     held-are longest reach =
         values-are (filingTiers k) (k .yields) longest (held .balance) (depositAt place held) (k .rates) (positionOf place .column) (limits .months-le) reach
 
 -- a zero balance has the same values by any factors
 none-same : (tiers : TierTable) (balance : ℕ) (d : Deposit) (rates : List ℕ) (column : ℕ) (lower upper below above : List ℕ) → balance ≡ 0
-    → listedValues tiers balance d rates column below above ≡ listedValues tiers balance d rates column lower upper
+    → tabledValues tiers balance d rates column below above ≡ tabledValues tiers balance d rates column lower upper
 none-same tiers balance d rates column lower upper below above e = rw e (sym (no-values tiers d rates column below above) ∙ no-values tiers d rates column lower upper)
 
 -- what a place holds, valued by tables of the multipliers of lists' factors that reach as far as its months do if it has a balance: the values by the lists
 pub held-by : (place : ℕ) (held : SubBalance) (rates : List ℕ) (tiers : TierTable) (lower upper below above : List ℕ)
     → (0 < held .balance → HoldsFactors down (depositAt place held .months) lower below × HoldsFactors up (depositAt place held .months) upper above)
-    → listedHeld held place rates tiers (factorsOf down (depositAt place held .months) below) (factorsOf up (depositAt place held .months) above)
-    ≡ listedHeld held place rates tiers lower upper
-unfolding listedHeld
+    → tabledHeld held place rates tiers (factorsOf down (depositAt place held .months) below) (factorsOf up (depositAt place held .months) above)
+    ≡ tabledHeld held place rates tiers lower upper
+unfolding tabledHeld
 held-by place held rates tiers lower upper below above holds =
     ⊎-elim (λ e. none-same tiers (held .balance) (depositAt place held) rates (positionOf place .column) lower upper _ _ e)
     (λ pos. values-by tiers (held .balance) (depositAt place held) rates (positionOf place .column) lower upper below above (holds pos .0) (holds pos .1))

@@ -9,7 +9,7 @@ use Rattle.sub_balances.specs.PlaceOrder.{positionOf}
 use Rattle.withdrawal.specs.Tiers.{TierTable}
 use Rattle.deposits.proofs.ValueLaws.{values-length, no-values}
 use Rattle.place_values.specs.PlaceTerms.{depositAt}
-use Rattle.place_values.specs.Inner.PlaceRows.{listedHeld, rowOf}
+use Rattle.place_values.specs.Inner.PlaceRows.{tabledHeld, rowOf}
 
 -- fourteen values written behind a balance
 pub row-written : (balance : ℕ) (values : List ℕ) → length values ≡ 14 → written (replicate 15 balance) 1 values ≡ balance ∷ values
@@ -17,13 +17,13 @@ unfolding written
 row-written balance values e = rw e (ap (λ (l : List ℕ). balance ∷ l) (append-nil values))
 
 -- a place has fourteen values
-pub listed-length : (held : SubBalance) (place : ℕ) (rates : List ℕ) (tiers : TierTable) (lower upper : List ℕ)
-    → length (listedHeld held place rates tiers lower upper) ≡ 14
-unfolding listedHeld
-listed-length held place rates tiers lower upper = values-length _ _ _ _ _ _ _
+pub tabled-length : (held : SubBalance) (place : ℕ) (rates : List ℕ) (tiers : TierTable) (lower upper : List ℕ)
+    → length (tabledHeld held place rates tiers lower upper) ≡ 14
+unfolding tabledHeld
+tabled-length held place rates tiers lower upper = values-length _ _ _ _ _ _ _
 
 -- the row of a place without a balance
 pub no-row : (held : SubBalance) (place : ℕ) (rates : List ℕ) (tiers : TierTable) (lower upper : List ℕ)
     → held .balance ≡ 0 → replicate 15 0 ≡ rowOf held place rates tiers lower upper
-unfolding rowOf listedHeld depositAt
+unfolding rowOf tabledHeld depositAt
 no-row held place rates tiers lower upper e = rw e (ap (λ (l : List ℕ). 0 ∷ l) (no-values tiers (depositAt place held) rates (positionOf place .column) lower upper))

@@ -2,8 +2,8 @@
 use deposits::Deposit;
 use deposits::MonthLevels;
 use deposits::RatePaths;
-use deposits::factors::MultiplierTable;
 use deposits::values::values_of;
+use discounts::MultiplierTable;
 use lists::write;
 use schedule::positions::position;
 use sub_balances::SubBalance;
@@ -14,12 +14,12 @@ ghost use Rattle.schedule.specs.Limits.{balanceLimit};
 ghost use Rattle.sub_balances.specs.PlaceOrder.{subBalanceCount};
 ghost use Rattle.withdrawal.specs.Inner.TierArrays.{tierTable, Usable};
 ghost use Rattle.pricing.specs.Rounding.{down, up};
-ghost use Rattle.deposits.specs.Inner.Factors.{WithinRates};
+ghost use Rattle.discounts.specs.Inner.Factors.{WithinRates};
 ghost use Rattle.deposits.specs.Inner.Levels.{lentTiers};
 ghost use Rattle.deposits.specs.Inner.Prices.{DepositLimits};
-ghost use Rattle.deposits.specs.Inner.Discounts.{factorsOf, Discounting};
+ghost use Rattle.discounts.specs.Inner.Tables.{factorsOf, Discounting};
 ghost use Rattle.place_values.specs.PlaceTerms.{depositAt};
-ghost use Rattle.place_values.specs.Inner.PlaceRows.{listedHeld, rowOf};
+ghost use Rattle.place_values.specs.Inner.PlaceRows.{tabledHeld, rowOf};
 
 // The row of what place 0 to 35 holds, at the retail rates and the tiers of a filing, which are lent. The tables hold the multipliers of the discount factors.
 // `months` is room for the levels of its months.
@@ -82,7 +82,7 @@ pub fn held_values<'a>(
     requires { ⌜ (place < subBalanceCount) × (held .balance ≤ balanceLimit) × DepositLimits (depositAt place held) ⌝ }
     requires { ⌜ WithinRates (now rates) × Usable (lentTiers count (now edges) (now withdrawals) (now survivals) otherwise retained) ⌝ }
     requires { ⌜ (0 < held .balance → Discounting down (depositAt place held .months) (now lower) × Discounting up (depositAt place held .months) (now upper)) ⌝ }
-    ensures { λ r. ⌜ r ≡ listedHeld held place (now (rates .entry)) (tierTable (lentTiers count (now (edges .entry)) (now (withdrawals .entry)) (now (survivals .entry)) otherwise retained)) (factorsOf down (depositAt place held .months) (now (lower .entry))) (factorsOf up (depositAt place held .months) (now (upper .entry))) ⌝ }
+    ensures { λ r. ⌜ r ≡ tabledHeld held place (now (rates .entry)) (tierTable (lentTiers count (now (edges .entry)) (now (withdrawals .entry)) (now (survivals .entry)) otherwise retained)) (factorsOf down (depositAt place held .months) (now (lower .entry))) (factorsOf up (depositAt place held .months) (now (upper .entry))) ⌝ }
 {
     let d = deposit_at(place, held);
     let column = position(place / 4).column;

@@ -21,11 +21,11 @@ use Rattle.shares.proofs.SubBalanceLaws.{balanceAt-limit}
 use Rattle.withdrawal.specs.declared.WithdrawalTiers.{WithdrawalTiers}
 use Rattle.withdrawal.specs.Inner.TierArrays.{tierTable, Usable}
 use Rattle.pricing.specs.Rounding.{Rounding, down, up}
-use Rattle.deposits.specs.Inner.Factors.{factorsBy}
+use Rattle.discounts.specs.Inner.Factors.{factorsBy}
 use Rattle.deposits.specs.Inner.Prices.{DepositLimits}
-use Rattle.deposits.specs.Inner.Discounts.{HoldsFactors, factorsOf, Discounting}
-use Rattle.deposits.proofs.FactorLaws.{factors-at-most-par, upper-factor-pos}
-use Rattle.deposits.proofs.DiscountLaws.{lower-discounting, upper-discounting}
+use Rattle.discounts.specs.Inner.Tables.{HoldsFactors, factorsOf, Discounting}
+use Rattle.discounts.proofs.FactorLaws.{factors-at-most-par, upper-factor-pos}
+use Rattle.discounts.proofs.TableLaws.{lower-discounting, upper-discounting}
 use Rattle.place_values.specs.PlaceTerms.{depositAt, filingTiers}
 use Rattle.valuation.specs.Run.{valueAt}
 use Rattle.valuation.specs.Numbers.{valuesOf, placeNumbers}

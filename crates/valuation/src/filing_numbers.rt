@@ -1,7 +1,7 @@
 // The 568 numbers of what an accepted filing says, written into a list. Its cells, yields and rates are lent: in the contracts k is the filing's contents,
 // with these arrays and the tiers passed.
 use contents::FiledTiers;
-use deposits::factors::discount_tables;
+use discounts::discount_tables;
 use lists::write;
 use place_values::filing_tiers::tiers_of;
 use place_values::longest_term::longest_term;

@@ -2,10 +2,10 @@
 use Prim.Native.Nat.{_≤_}
 use native.Mathlib.Omega.{arith}
 use borrow.Author.Tests.{not-true, not-false}
-use mathlib.Core.Path.{refl, sym, _∙_}
+use mathlib.Core.Path.{sym, _∙_}
 use Rattle.schedule.specs.Limits.{monthsLimit}
 use Rattle.pricing.specs.Rounding.{roundingOf}
-use Rattle.deposits.proofs.DiscountLaws.{lower-discounting, upper-discounting}
+use Rattle.discounts.proofs.TableLaws.{lower-discounting, upper-discounting}
 use Rattle.place_values.specs.PlaceTerms.{depositAt}
 use Rattle.place_values.proofs.HeldLaws.{held-by}
 use Rattle.book_sheets.specs.Sheets.{valuesUnder}

@@ -66,12 +66,12 @@ returns-3 c = let scanned = c .before .before .before .scan .ensures .0 in
     call-refused _ _ _ _ (c .refusal3 .ensures) (scanned ∙ sym (counted (c .before .before .before .before)))
     (λ z. c .before .if3 .taken (c .before .before .number .ensures ∙ z))
 
-listed-requires : tie.Need-listed-requires
-listed-requires c κs = rw (totals-are (c .before)) (totals-bounded _ _ _ (passed (c .before)))
+cells-of-requires : tie.Need-cells-of-requires
+cells-of-requires c κs = rw (totals-are (c .before)) (totals-bounded _ _ _ (passed (c .before)))
 
 returns-4 : tie.Need-returns-4
 returns-4 c = let scanned = c .before .before .before .before .scan .ensures .0 in
-    call-accepted _ _ _ _ (c .listed .ensures) (totals-are (c .before .before))
+    call-accepted _ _ _ _ (c .cells-of .ensures) (totals-are (c .before .before))
     (sym (accepted-answer (c .before .before .before .before .scan .result .answer) (sym (c .before .before .before .number .ensures) ∙ c .before .before .if3 .left)) ∙ scanned ∙ sym (counted (c .before .before .before .before .before)))
 
 pub to-cells-spec : {M : Type 1} → statement M
@@ -86,5 +86,5 @@ to-cells-spec =
     number-requires
     refusal-requires-3
     returns-3
-    listed-requires
+    cells-of-requires
     returns-4)

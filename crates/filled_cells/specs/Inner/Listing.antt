@@ -17,8 +17,8 @@ pub record Bounded (t : Totals) : Type 0 where
   pub months-le : (i : ℕ) → getD (t .months) i 0 ≤ monthsLimit * getD (t .balance) i 0
 
 -- acceptance, with the cells of some sums
-unfoldable pub listedCells : Totals → Cells
-listedCells t = record { answer = Accepted; count = length (cellsOf t); cells = inPlaces (cellsOf t) }
+unfoldable pub acceptedCells : Totals → Cells
+acceptedCells t = record { answer = Accepted; count = length (cellsOf t); cells = inPlaces (cellsOf t) }
 
 -- the cell at a place of the table
 unfoldable pub formCellAt : ℕ → FormCell

@@ -4,13 +4,13 @@ use mathlib.Core.List.{List, _∷_}
 use Rattle.sub_balances.specs.declared.SubBalance.{SubBalance}
 use Rattle.sub_balances.specs.PlaceOrder.{positionOf}
 use Rattle.withdrawal.specs.Tiers.{TierTable}
-use Rattle.deposits.specs.Inner.Values.{listedValues}
+use Rattle.deposits.specs.Inner.Values.{tabledValues}
 use Rattle.place_values.specs.PlaceTerms.{depositAt}
 
 -- lower and upper value in each scenario of what a place holds
-unfoldable pub listedHeld : SubBalance → ℕ → List ℕ → TierTable → List ℕ → List ℕ → List ℕ
-listedHeld held place rates tiers lower upper = listedValues tiers (held .balance) (depositAt place held) rates (positionOf place .column) lower upper
+unfoldable pub tabledHeld : SubBalance → ℕ → List ℕ → TierTable → List ℕ → List ℕ → List ℕ
+tabledHeld held place rates tiers lower upper = tabledValues tiers (held .balance) (depositAt place held) rates (positionOf place .column) lower upper
 
 -- its balance, and then these
 unfoldable pub rowOf : SubBalance → ℕ → List ℕ → TierTable → List ℕ → List ℕ → List ℕ
-rowOf held place rates tiers lower upper = held .balance ∷ listedHeld held place rates tiers lower upper
+rowOf held place rates tiers lower upper = held .balance ∷ tabledHeld held place rates tiers lower upper

@@ -1,6 +1,6 @@
 -- `deposits::values::value_bounds` meets its contract. Assumes nothing.
 use Rattle.pricing.specs.Rounding.{roundingOf}
-use Rattle.deposits.specs.Inner.Discounts.{valuesAt}
+use Rattle.deposits.specs.Inner.Walked.{valuesAt}
 use borrow.Author.Needs.{needs}
 use Rattle.deposits.proofs.values.value_bounds.Statement.{statement}
 use Rattle.deposits.proofs.values.value_bounds.Tie as tie

@@ -15,9 +15,10 @@ use Rattle.pricing.specs.Rounding.{down, up}
 use Rattle.month_levels.proofs.LevelLaws.{level-survival-le}
 use Rattle.month_steps.specs.Multipliers.{multipliersOf}
 use Rattle.deposits.specs.DepositTerms.{servicingCost}
-use Rattle.deposits.specs.Inner.Discounts.{Discounting, walkedPrices, valuesAt}
+use Rattle.discounts.specs.Inner.Tables.{Discounting}
+use Rattle.deposits.specs.Inner.Walked.{walkedPrices, valuesAt}
 use Rattle.deposits.specs.Inner.Levels.{lentTiers}
-use Rattle.deposits.specs.Inner.Values.{listedValues}
+use Rattle.deposits.specs.Inner.Values.{tabledValues}
 use Rattle.deposits.proofs.TermsLaws.{servicing-le}
 use Rattle.deposits.proofs.WalkLaws.{priceable, prices-le, bounds-are}
 use Rattle.deposits.proofs.ValueLaws.{no-values}
@@ -149,7 +150,7 @@ loop-again c =
     )
 
 returns-2 : tie.Need-returns-2 Inv-loop μ-loop
-unfolding listedValues
+unfolding tabledValues
 returns-2 c =
     let m = c .before .before in
     let early = m .before .before .before .before .before in

@@ -4,7 +4,7 @@ use native.Mathlib.Omega.{arith}
 use borrow.Author.Needs.{needs}
 use Rattle.conditions.proofs.SumLaws.{column-range}
 use Rattle.sub_balances.specs.PlaceOrder.{positionOf}
-use Rattle.place_values.specs.Inner.PlaceRows.{listedHeld}
+use Rattle.place_values.specs.Inner.PlaceRows.{tabledHeld}
 use Rattle.place_values.proofs.place_row.held_values.Statement.{statement}
 use Rattle.place_values.proofs.place_row.held_values.Tie as tie
 
@@ -29,7 +29,7 @@ values-of-requires c κs =
     )
 
 returns : tie.Need-returns
-unfolding listedHeld positionOf
+unfolding tabledHeld positionOf
 returns c = let column = c .before .before in rw (c .values-of .ensures, column .position .ensures, column .before .deposit-at .ensures)
 
 pub held-values-spec : {M : Type 1} → statement M

@@ -1,7 +1,7 @@
 -- `place_values::place_row::row_of` meets its contract. Assumes nothing.
 use borrow.Author.Needs.{needs}
 use Rattle.place_values.specs.Inner.PlaceRows.{rowOf}
-use Rattle.place_values.proofs.RowLaws.{row-written, listed-length, no-row}
+use Rattle.place_values.proofs.RowLaws.{row-written, tabled-length, no-row}
 use Rattle.place_values.proofs.place_row.row_of.Statement.{statement}
 use Rattle.place_values.proofs.place_row.row_of.Tie as tie
 
@@ -24,7 +24,7 @@ returns-2 : tie.Need-returns-2
 unfolding rowOf
 returns-2 c =
     let values = c .before .before .before .before in
-    rw (c .before .write .ensures, values .held-values .ensures) (row-written _ _ (listed-length _ _ _ _ _ _))
+    rw (c .before .write .ensures, values .held-values .ensures) (row-written _ _ (tabled-length _ _ _ _ _ _))
 
 pub row-of-spec : {M : Type 1} → statement M
 row-of-spec =

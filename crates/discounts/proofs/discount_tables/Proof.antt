@@ -1,9 +1,9 @@
--- `deposits::factors::discount_tables` meets its contract. Assumes nothing.
+-- `discounts::discount_tables` meets its contract. Assumes nothing.
 use Rattle.pricing.specs.Rounding.{down, up, roundingOf}
-use Rattle.deposits.proofs.FactorLaws.{factors-at-most-par}
+use Rattle.discounts.proofs.FactorLaws.{factors-at-most-par}
 use borrow.Author.Needs.{needs}
-use Rattle.deposits.proofs.factors.discount_tables.Statement.{statement}
-use Rattle.deposits.proofs.factors.discount_tables.Tie as tie
+use Rattle.discounts.proofs.discount_tables.Statement.{statement}
+use Rattle.discounts.proofs.discount_tables.Tie as tie
 
 fill-factors-requires : tie.Need-fill-factors-requires
 fill-factors-requires c κs = search needs

@@ -18,9 +18,7 @@ use Rattle.pricing.specs.Run.{discountFactorBy}
 use Rattle.pricing.specs.Inner.Multipliers.{discountsBy, AtMost}
 use Rattle.pricing.proofs.LimitLaws.{discount-limit}
 use Rattle.pricing.proofs.MultiplierLaws.{discount-pos}
-use Rattle.deposits.specs.DepositTerms.{sheetYield}
-use Rattle.deposits.specs.Inner.Factors.{yieldFactors, monthFactors, factorsBy}
-use Rattle.deposits.specs.Inner.Prices.{listed, AtMostPar}
+use Rattle.discounts.specs.Inner.Factors.{sheetYield, yieldFactors, monthFactors, factorsBy, factorIn, AtMostPar}
 
 -- a rate of the seven scenarios
 pub shifted-at : (rate scenario : ℕ) → scenario < 7 → getD (shiftedRates rate) scenario 0 ≡ shiftedRate scenario rate
@@ -84,8 +82,8 @@ module _ (ρ : Rounding) (yields : List ℕ) (longest : ℕ) where
 
   -- the factor of scenario s and month t + 1 within the longest term is the discount factor of the definitions
   pub factor-is : (scenario t : ℕ) → scenario < 7 → t < 120 → t < longest
-      → listed (factorsBy ρ yields longest) scenario (suc t) ≡ discountFactorBy ρ (sheetYield yields scenario) (suc t)
-  unfolding listed factorsBy monthFactors yieldFactors discountsBy discountFactorBy sheetYield
+      → factorIn (factorsBy ρ yields longest) scenario (suc t) ≡ discountFactorBy ρ (sheetYield yields scenario) (suc t)
+  unfolding factorIn factorsBy monthFactors yieldFactors discountsBy discountFactorBy sheetYield
   factor-is scenario t hs ht hl =
       let before : suc t - 1 ≡ t = omega arith in
       rw (before, joined-getD 7 120 (monthFactors ρ yields longest) month-length t scenario 0 ht hs, lt-ltb t longest hl)
@@ -93,7 +91,7 @@ module _ (ρ : Rounding) (yields : List ℕ) (longest : ℕ) where
 
 -- an upper factor within the longest term is above 0
 pub upper-factor-pos : (yields : List ℕ) (longest i : ℕ) → longest ≤ 120 → i < 7 * longest → 0 < getD (factorsBy up yields longest) i 0
-unfolding listed discountFactorBy
+unfolding factorIn discountFactorBy
 upper-factor-pos yields longest i hl h =
     let before : suc (i / 7) - 1 ≡ i / 7 = omega arith in
     let same : 7 * (i / 7) + i % 7 ≡ i = omega arith in

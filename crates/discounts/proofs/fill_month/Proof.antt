@@ -1,4 +1,4 @@
--- `deposits::factors::fill_month` meets its contract. Assumes nothing.
+-- `discounts::fill_month` meets its contract. Assumes nothing.
 use mathlib.Core.Path.{_∙_}
 use native.Mathlib.Numerals.{add-one}
 use borrow.Author.Needs.{needs}
@@ -7,9 +7,9 @@ use Rattle.schedule.proofs.ShiftLaws.{shifted-rates-le}
 use Rattle.pricing.specs.Rounding.{up}
 use Rattle.pricing.specs.Inner.Multipliers.{AtMost}
 use Rattle.pricing.proofs.MultiplierLaws.{chained-at-most, upper-chained}
-use Rattle.deposits.specs.Inner.Factors.{yieldFactors}
-use Rattle.deposits.proofs.factors.fill_month.Statement.{statement}
-use Rattle.deposits.proofs.factors.fill_month.Tie as tie
+use Rattle.discounts.specs.Inner.Factors.{yieldFactors}
+use Rattle.discounts.proofs.fill_month.Statement.{statement}
+use Rattle.discounts.proofs.fill_month.Tie as tie
 
 add-n : tie.Need-add-n
 add-n c = search needs

@@ -1,4 +1,4 @@
-// The cells that sums of positions fill, listed.
+// The cells that sums of positions fill.
 use answers::Answer;
 use cell_means::is_present;
 use cell_means::value_of;
@@ -7,12 +7,12 @@ use filled_cells::Cells;
 use filled_cells::Totals;
 use form_cells::form_cell;
 ghost use mathlib.Core.Path.{_≡_};
-ghost use Rattle.filled_cells.specs.Inner.Listing.{Bounded, listedCells};
+ghost use Rattle.filled_cells.specs.Inner.Listing.{Bounded, acceptedCells};
 
 // The cells of some sums, by ascending number.
-pub fn listed(totals: Totals) -> Cells
+pub fn cells_of(totals: Totals) -> Cells
     requires { ⌜ Bounded totals ⌝ }
-    ensures { λ r. ⌜ r ≡ listedCells totals ⌝ }
+    ensures { λ r. ⌜ r ≡ acceptedCells totals ⌝ }
 {
     let mut cells = [CellValue { cell: 0, value: 0 }; 28];
     let mut count = 0;

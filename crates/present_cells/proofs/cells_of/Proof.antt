@@ -1,13 +1,13 @@
--- `listed` meets its contract. The loop's invariant: the cells of the table before a place are listed. Assumes nothing.
+-- `cells_of` meets its contract. The loop's invariant: the cells of the table before a place are taken. Assumes nothing.
 use Prim.Native.Nat.{_-_}
 use native.Mathlib.Omega.{arith}
 use mathlib.Core.Path.{sym, _∙_}
 use mathlib.Core.Logic.{⊎-elim}
 use Rattle.filled_cells.specs.Cells.{cellValue}
-use Rattle.filled_cells.specs.Inner.Listing.{listedCells}
+use Rattle.filled_cells.specs.Inner.Listing.{acceptedCells}
 use Rattle.filled_cells.proofs.ListingLaws.{Listing, listing-start, listing-present, listing-absent, listing-done}
-use Rattle.listed_cells.proofs.listed.Statement.{statement}
-use Rattle.listed_cells.proofs.listed.Tie as tie
+use Rattle.present_cells.proofs.cells_of.Statement.{statement}
+use Rattle.present_cells.proofs.cells_of.Tie as tie
 
 abbrev Inv-loop : tie.InvT-loop
 Inv-loop totals cells₀ count₀ place₀ cells count place = Listing totals cells count place
@@ -57,13 +57,13 @@ loop-again c = let t = c .before .before .before .before .before .args .totals i
     (c .if1 .came)
 
 returns : tie.Need-returns Inv-loop μ-loop
-unfolding listedCells
+unfolding acceptedCells
 returns c = let at = c .before .loop in
     let all = listing-done (c .before .before .args .totals) (at .cells) (at .count) (at .place) (at .inv) (c .loop-test .left) in
     rw (all .0, all .1)
 
-pub listed-spec : {M : Type 1} → statement M
-listed-spec =
+pub cells-of-spec : {M : Type 1} → statement M
+cells-of-spec =
     tie.close
     (tie.spec
     Inv-loop

@@ -1,4 +1,4 @@
--- `deposits::factors::to_multipliers` meets its contract: the places before i hold multipliers, the others their factors. Assumes nothing.
+-- `discounts::to_multipliers` meets its contract: the places before i hold multipliers, the others their factors. Assumes nothing.
 use Prim.Native.Nat.{ℕ, _-_, _≤_}
 use mathlib.Core.Path.{_≡_, refl, _∙_}
 use native.Mathlib.Omega.{arith}
@@ -7,8 +7,8 @@ use lib.Seq.{getD-set-other}
 use Rattle.lists.proofs.FillLaws.{FilledBy, filled-start, filled-more}
 use Rattle.month_steps.specs.Multipliers.{discountMultiplier}
 use Rattle.pricing.specs.Rounding.{roundingOf}
-use Rattle.deposits.proofs.factors.to_multipliers.Statement.{statement}
-use Rattle.deposits.proofs.factors.to_multipliers.Tie as tie
+use Rattle.discounts.proofs.to_multipliers.Statement.{statement}
+use Rattle.discounts.proofs.to_multipliers.Tie as tie
 
 abbrev Inv-loop : tie.InvT-loop
 Inv-loop months up count factors i₀ list i =

@@ -1,4 +1,4 @@
-// Discount factors of every month and scenario.
+// Discount factors of every month and scenario, and tables of their multipliers.
 use lists::write;
 use month_steps::multipliers::discount_multiplier;
 use pricing::discounting::lower_factors;
@@ -7,13 +7,12 @@ use pricing::discounting::upper_multipliers;
 use schedule::scenarios::shifted_rates;
 ghost use mathlib.Core.Path.{_≡_};
 ghost use Prim.Native.Nat.{_*_, _<_, _≤_};
-ghost use lib.ListN.{length, replicate};
+ghost use lib.ListN.{replicate};
 ghost use Rattle.lists.specs.Runs.{written};
 ghost use Rattle.schedule.specs.Limits.{monthsLimit};
 ghost use Rattle.pricing.specs.Rounding.{down, up, roundingOf};
-ghost use Rattle.deposits.specs.Inner.Discounts.{HoldsFactors};
-ghost use Rattle.deposits.specs.Inner.Factors.{yieldFactors, factorsBy, WithinRates};
-ghost use Rattle.deposits.specs.Inner.Prices.{AtMostPar};
+ghost use Rattle.discounts.specs.Inner.Tables.{HoldsFactors};
+ghost use Rattle.discounts.specs.Inner.Factors.{yieldFactors, factorsBy, WithinRates, AtMostPar};
 
 // Seven factors for each month, in billionths: month t and scenario s stand at place 7 (t - 1) + s.
 pub type FactorTable = [u64; 840];

@@ -1,12 +1,13 @@
--- Discount factors of every month and scenario in one list (01:48, 01:60), billionths. Definitions only.
-use Prim.Native.Nat.{ℕ, suc, _≤_}
+-- Discount factors of every month and scenario in one list (01:48, 01:60), billionths, and the yields that they are of. Definitions only.
+use Prim.Native.Nat.{ℕ, suc, _+_, _*_, _-_, _≤_}
 use mathlib.Core.Bool.{cond}
 use mathlib.Core.List.{List}
 use lib.ListN.{getD, replicate}
 use lib.Dec.{ltb}
 use Rattle.lists.specs.Tables.{table, joined}
 use Rattle.schedule.specs.Limits.{monthsLimit, rateLimit}
-use Rattle.schedule.specs.Shift.{shiftedRates, scenarioCount}
+use Rattle.schedule.specs.Shift.{shiftedRate, shiftedRates, scenarioCount}
+use Rattle.pricing.specs.Scales.{par}
 use Rattle.pricing.specs.Rounding.{Rounding}
 use Rattle.pricing.specs.Inner.Multipliers.{discountsBy}
 
@@ -25,3 +26,15 @@ factorsBy ρ yields longest = joined (table monthsLimit (monthFactors ρ yields 
 -- no yield is above the limit
 abbrev pub WithinRates : List ℕ → Type 0
 WithinRates yields = (i : ℕ) → getD yields i 0 ≤ rateLimit
+
+-- the shifted yield of a month, from 1 on, by a sheet of yields, hundredths of a percent a year
+unfoldable pub sheetYield : List ℕ → ℕ → ℕ → ℕ
+sheetYield yields scenario month = shiftedRate scenario (getD yields (month - 1) 0)
+
+-- the discount factor of a month, from 1 on, in a scenario, from a list with seven for each month
+unfoldable pub factorIn : List ℕ → ℕ → ℕ → ℕ
+factorIn factors scenario month = getD factors (scenarioCount * (month - 1) + scenario) 0
+
+-- no factor of a list is above par
+abbrev pub AtMostPar : List ℕ → Type 0
+AtMostPar factors = (i : ℕ) → getD factors i 0 ≤ par
