@@ -7,7 +7,7 @@ use pricing::discounting::upper_multipliers;
 use schedule::scenarios::shifted_rates;
 ghost use mathlib.Core.Path.{_≡_};
 ghost use Prim.Native.Nat.{_*_, _<_, _≤_};
-ghost use lib.ListN.{length, replicate};
+ghost use lib.ListN.{replicate};
 ghost use Rattle.lists.specs.Runs.{written};
 ghost use Rattle.schedule.specs.Limits.{monthsLimit};
 ghost use Rattle.pricing.specs.Rounding.{down, up, roundingOf};

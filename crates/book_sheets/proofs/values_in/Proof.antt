@@ -2,7 +2,7 @@
 use Prim.Native.Nat.{_≤_}
 use native.Mathlib.Omega.{arith}
 use borrow.Author.Tests.{not-true, not-false}
-use mathlib.Core.Path.{refl, sym, _∙_}
+use mathlib.Core.Path.{sym, _∙_}
 use Rattle.schedule.specs.Limits.{monthsLimit}
 use Rattle.pricing.specs.Rounding.{roundingOf}
 use Rattle.deposits.proofs.DiscountLaws.{lower-discounting, upper-discounting}
