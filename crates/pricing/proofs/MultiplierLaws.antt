@@ -12,7 +12,7 @@ use Rattle.schedule.specs.Shift.{shiftedLimit, scenarioCount}
 use Rattle.pricing.specs.Scales.{par, rateScale}
 use Rattle.pricing.specs.Rounding.{Rounding, down, up, quotient}
 use Rattle.pricing.specs.Run.{discountBy}
-use Rattle.pricing.specs.Inner.Multipliers.{multiplierScale, multiplierBy, multipliersBy, nextBy, nextAllBy, chainBy, chainedBy, factorBy, discountsBy, AtMost}
+use Rattle.pricing.specs.Inner.Multipliers.{multiplierScale, multiplierBy, multipliersBy, nextBy, nextAllBy, firstBy, chainBy, chainedBy, factorBy, discountsBy, AtMost}
 use Rattle.pricing.proofs.RoundingLaws.{ceiling-ge, ceiling-lt}
 use Rattle.pricing.proofs.LimitLaws.{discount-limit}
 
@@ -82,12 +82,12 @@ discount-pos z (suc n) =
 
 -- a chain by the multiplier of a rate has its factors; a rate of 0 leaves a lower factor at par
 lower-chain : (z n : ℕ) → suc z ≤ shiftedLimit → chainBy down (multiplierBy down (suc z)) n ≡ discountBy down (suc z) n
-unfolding chainBy nextBy multiplierBy discountBy
+unfolding chainBy firstBy nextBy multiplierBy discountBy
 lower-chain z zero h = refl
 lower-chain z (suc n) h = rw (lower-chain z n h) (lower-scaled (discountBy down (suc z) n) (suc z) (discount-limit (suc z) n down) h)
 
-upper-chain : (z n : ℕ) → z ≤ shiftedLimit → chainBy up (multiplierBy up z) n ≡ discountBy up z n
-unfolding chainBy nextBy multiplierBy discountBy
+upper-chain : (z n : ℕ) → z ≤ shiftedLimit → suc (chainBy up (multiplierBy up z) n) ≡ discountBy up z n
+unfolding chainBy firstBy nextBy multiplierBy discountBy
 upper-chain z zero h = refl
 upper-chain z (suc n) h = rw (upper-chain z n h) (upper-scaled (discountBy up z n) z (discount-limit z n up) h (discount-pos z n))
 
@@ -104,7 +104,7 @@ factor-is up z n h = upper-chain z n h
 
 -- no chain is above par
 no-chain : (n : ℕ) → chainBy down 0 n ≤ par
-unfolding chainBy nextBy
+unfolding chainBy firstBy nextBy
 no-chain zero = le-refl par
 no-chain (suc n) = rw (mul-zero (chainBy down 0 n)) (lit≤ tt)
 
@@ -112,7 +112,7 @@ chain-le : (ρ : Rounding) (z n : ℕ) → z ≤ shiftedLimit → chainBy ρ (mu
 unfolding multiplierBy
 chain-le down zero n h = no-chain n
 chain-le down (suc z) n h = rw (lower-chain z n h) (discount-limit (suc z) n down)
-chain-le up z n h = rw (upper-chain z n h) (discount-limit z n up)
+chain-le up z n h = omega (arith, upper-chain z n h, discount-limit z n up)
 
 -- 2 x m / 2^64 is x m / 2^63
 pub halved : (x m : ℕ) → 2 * x * m / 2 ^ 64 ≡ x * m / 2 ^ 63
@@ -125,7 +125,7 @@ chained-at-most ρ rates h n =
     table-le 0 scenarioCount _ par
     (λ j l u. rw (table-getD scenarioCount (λ (i : ℕ). multiplierBy ρ (getD rates i 0)) j 0 (omega arith)) (chain-le ρ (getD rates j 0) n (h j)))
 
-pub chained-zero : (ρ : Rounding) (ms : List ℕ) → replicate scenarioCount par ≡ chainedBy ρ ms 0
+pub chained-zero : (ρ : Rounding) (ms : List ℕ) → replicate scenarioCount (firstBy ρ) ≡ chainedBy ρ ms 0
 unfolding chainedBy chainBy tableFrom
 chained-zero ρ ms = refl
 
@@ -147,11 +147,10 @@ chained-is ρ rates h n =
     )
     (factor-is ρ (getD rates i 0) n (h i)))
 
-pub upper-chained : (rates : List ℕ) → AtMost shiftedLimit rates → (n : ℕ) → chainedBy up (multipliersBy up rates) n ≡ discountsBy up rates n
-unfolding chainedBy multipliersBy discountsBy
-upper-chained rates h n =
-    table-ext scenarioCount _ _
-    (λ i l. rw (table-getD scenarioCount (λ (j : ℕ). multiplierBy up (getD rates j 0)) i 0 l) (upper-chain (getD rates i 0) n (h i)))
+pub upper-chained : (rates : List ℕ) → AtMost shiftedLimit rates → (n : ℕ)
+    → table scenarioCount (λ (i : ℕ). suc (getD (chainedBy up (multipliersBy up rates) n) i 0)) ≡ discountsBy up rates n
+unfolding factorBy
+upper-chained = chained-is up
 
 -- the multiplier of a lower factor from that of the upper one: 120,000 more, which is below 2^64. With p the quotient 120,000 p + p ≤ (120,000 + z) p < 2^64,
 -- and p is above 120,000

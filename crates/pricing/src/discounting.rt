@@ -3,11 +3,13 @@ use crate::PAR;
 use crate::products::upper_half;
 use schedule::scenarios::Scenario;
 ghost use mathlib.Core.Path.{_≡_};
-ghost use Prim.Native.Nat.{ℕ, _≤_};
-ghost use Rattle.schedule.specs.Shift.{shiftedLimit};
+ghost use Prim.Native.Nat.{ℕ, suc, _≤_};
+ghost use lib.ListN.{getD};
+ghost use Rattle.lists.specs.Tables.{table};
+ghost use Rattle.schedule.specs.Shift.{scenarioCount, shiftedLimit};
 ghost use Rattle.pricing.specs.Scales.{par};
 ghost use Rattle.pricing.specs.Rounding.{down, up, roundingOf};
-ghost use Rattle.pricing.specs.Inner.Multipliers.{multiplierBy, multipliersBy, nextBy, nextAllBy, chainedBy, factorBy, discountsBy, AtMost};
+ghost use Rattle.pricing.specs.Inner.Multipliers.{multiplierBy, multipliersBy, nextBy, nextAllBy, firstBy, chainedBy, factorBy, discountsBy, AtMost};
 
 // The scale of a yield as a month's rate (01:58).
 const RATE_SCALE: u64 = 120_000;
@@ -32,12 +34,19 @@ pub fn lower_factors(rates: &[u64; 7], above: &[u64; 7], n: u64) -> [u64; 7]
     factors
 }
 
-// The upper discount factors of seven rates after n monthly factors each, in billionths, from their multipliers.
+// The upper discount factors of seven rates after n monthly factors each, in billionths, from their multipliers: 1 more than their chains.
 pub fn upper_factors(above: &[u64; 7], n: u64) -> [u64; 7]
     requires { ⌜ ((i : ℕ) → AtMost par (chainedBy up (now above) i)) ⌝ }
-    ensures { λ r. ⌜ r ≡ chainedBy up (now (above .entry)) n ⌝ }
+    ensures { λ r. ⌜ r ≡ table scenarioCount (λ i. suc (getD (chainedBy up (now (above .entry)) n) i 0)) ⌝ }
 {
-    chained(above, n, true)
+    let chain = chained(above, n, true);
+    let mut factors = [0; 7];
+    let mut i: usize = 0;
+    while (i as u64) < Scenario::COUNT {
+        factors[i] = chain[i] + 1;
+        i += 1;
+    }
+    factors
 }
 
 // A lower factor, from its chain: a rate of 0 leaves par.
@@ -47,16 +56,25 @@ fn lower_factor(rate: u64, held: u64) -> u64
     if rate == 0 { PAR } else { held }
 }
 
-// Seven chains of n multiplications each, from par.
+// Seven chains of n multiplications each: of lower factors, from par, or of one less than upper factors, so that 1 is added before a multiplication and not
+// after it.
 fn chained(multipliers: &[u64; 7], n: u64, up: bool) -> [u64; 7]
     requires { ⌜ ((i : ℕ) → AtMost par (chainedBy (roundingOf up) (now multipliers) i)) ⌝ }
     ensures { λ r. ⌜ r ≡ chainedBy (roundingOf up) (now (multipliers .entry)) n ⌝ }
 {
-    let mut chain = [PAR; 7];
+    let first = first_held(up);
+    let mut chain = [first; 7];
     for _ in 0..n {
         chain = next_in_chain(&chain, multipliers, up);
     }
     chain
+}
+
+// What a chain begins with.
+fn first_held(up: bool) -> u64
+    ensures { λ r. ⌜ r ≡ firstBy (roundingOf up) ⌝ }
+{
+    if up { PAR - 1 } else { PAR }
 }
 
 // The next of each of seven chains.
@@ -73,15 +91,15 @@ fn next_in_chain(chain: &[u64; 7], multipliers: &[u64; 7], up: bool) -> [u64; 7]
     next
 }
 
-// A factor times a multiplier: the product's floor, and 1 more for an upper factor, whose multiplier is too low by less than a factor can bring out.
-fn next_factor(factor: u64, multiplier: u64, up: bool) -> u64
-    requires { ⌜ factor ≤ par ⌝ }
-    ensures { λ r. ⌜ r ≡ nextBy (roundingOf up) factor multiplier ⌝ }
+// The floor of a factor times a multiplier. For an upper factor that is one less than the next: its multiplier is too low by less than a factor can bring out.
+fn next_factor(held: u64, multiplier: u64, up: bool) -> u64
+    requires { ⌜ held ≤ par ⌝ }
+    ensures { λ r. ⌜ r ≡ nextBy (roundingOf up) held multiplier ⌝ }
 {
     if up {
-        upper_half(factor, multiplier) + 1
+        upper_half(held + 1, multiplier)
     } else {
-        upper_half(factor, multiplier)
+        upper_half(held, multiplier)
     }
 }
 

@@ -1,11 +1,15 @@
 -- `discounts::fill_month` meets its contract. Assumes nothing.
-use mathlib.Core.Path.{_∙_}
+use Prim.Native.Nat.{ℕ, suc, _+_}
+use mathlib.Core.List.{List}
+use mathlib.Core.Path.{_≡_, _∙_}
 use native.Mathlib.Numerals.{add-one}
+use lib.ListN.{getD}
 use borrow.Author.Needs.{needs}
-use Rattle.schedule.specs.Shift.{shiftedLimit}
+use Rattle.lists.specs.Tables.{table}
+use Rattle.schedule.specs.Shift.{scenarioCount, shiftedLimit, shiftedRates}
 use Rattle.schedule.proofs.ShiftLaws.{shifted-rates-le}
 use Rattle.pricing.specs.Rounding.{up}
-use Rattle.pricing.specs.Inner.Multipliers.{AtMost}
+use Rattle.pricing.specs.Inner.Multipliers.{multipliersBy, chainedBy, AtMost}
 use Rattle.pricing.proofs.MultiplierLaws.{chained-at-most, upper-chained}
 use Rattle.discounts.specs.Inner.Factors.{yieldFactors}
 use Rattle.discounts.proofs.fill_month.Statement.{statement}
@@ -65,6 +69,13 @@ slice-aggregate-write-2 c = search needs
 write-requires-2 : tie.Need-write-requires-2
 write-requires-2 c κs = search needs
 
+-- the upper factors, from their chains
+upper-are : (yields rates multipliers factors : List ℕ) (month : ℕ) → rates ≡ shiftedRates (getD yields month 0) → AtMost shiftedLimit rates
+    → multipliers ≡ multipliersBy up rates → factors ≡ table scenarioCount (λ (i : ℕ). suc (getD (chainedBy up multipliers (month + 1)) i 0))
+    → factors ≡ yieldFactors up yields month
+unfolding yieldFactors
+upper-are yields rates multipliers factors month r h m f = f ∙ rw (m, upper-chained rates h (month + 1), r, add-one)
+
 returns : tie.Need-returns
 unfolding yieldFactors
 returns c =
@@ -72,10 +83,10 @@ returns c =
     let lower = upper .before .before in
     let above = multiplied lower in
     let below = lower .before .before .before in
+    let start = shifted above .before .before in
     let rates = shifted above .shifted-rates .ensures in (
       lower .write .ensures ∙ rw (below .lower-factors .ensures, rates, add-one),
-      c .write2 .ensures
-          ∙ rw (upper .upper-factors .ensures, above .upper-multipliers .ensures, upper-chained _ (rates-le (shifted above)), rates, add-one),
+      c .write2 .ensures ∙ rw (upper-are (start .args .yields .now) _ _ _ (start .args .month) rates (rates-le (shifted above)) (above .upper-multipliers .ensures) (upper .upper-factors .ensures)),
     )
 
 pub fill-month-spec : {M : Type 1} → statement M

@@ -24,17 +24,22 @@ multiplierBy up z = rateScale * ((2 ^ 64 - 1) / (rateScale + z))
 unfoldable pub multipliersBy : Rounding → List ℕ → List ℕ
 multipliersBy ρ rates = table scenarioCount (λ (i : ℕ). multiplierBy ρ (getD rates i 0))
 
--- a factor times a multiplier: 1 more than the floor for the upper factors, since their multipliers are too low
+-- the floor of a factor times a multiplier. An upper factor is 1 more than the floor, since its multiplier is too low: its chain holds one less than the factor
 unfoldable pub nextBy : Rounding → ℕ → ℕ → ℕ
 nextBy down x m = x * m / multiplierScale
-nextBy up x m = suc (x * m / multiplierScale)
+nextBy up x m = suc x * m / multiplierScale
 
 unfoldable pub nextAllBy : Rounding → List ℕ → List ℕ → List ℕ
 nextAllBy ρ xs ms = table scenarioCount (λ (i : ℕ). nextBy ρ (getD xs i 0) (getD ms i 0))
 
--- a chain from par after n multiplications, and seven of them
+-- where a chain begins
+unfoldable pub firstBy : Rounding → ℕ
+firstBy down = par
+firstBy up = par - 1
+
+-- a chain after n multiplications, and seven of them
 unfoldable pub chainBy : Rounding → ℕ → ℕ → ℕ
-chainBy ρ m zero = par
+chainBy ρ m zero = firstBy ρ
 chainBy ρ m (suc n) = nextBy ρ (chainBy ρ m n) m
 
 unfoldable pub chainedBy : Rounding → List ℕ → ℕ → List ℕ
@@ -44,7 +49,7 @@ chainedBy ρ ms n = table scenarioCount (λ (i : ℕ). chainBy ρ (getD ms i 0) 
 unfoldable pub factorBy : Rounding → ℕ → ℕ → ℕ
 factorBy down zero x = par
 factorBy down (suc z) x = x
-factorBy up z x = x
+factorBy up z x = suc x
 
 -- the discount factors of seven rates after n factors each
 unfoldable pub discountsBy : Rounding → List ℕ → ℕ → List ℕ

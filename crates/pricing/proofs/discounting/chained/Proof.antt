@@ -10,18 +10,21 @@ use Rattle.pricing.proofs.discounting.chained.Statement.{statement}
 use Rattle.pricing.proofs.discounting.chained.Tie as tie
 
 abbrev Inv-loop : tie.InvT-loop
-Inv-loop multipliers n up chain₀ counter₀ chain counter = (counter ≤ n) × (chain ≡ chainedBy (roundingOf up) multipliers counter)
+Inv-loop multipliers n up first chain₀ counter₀ chain counter = (counter ≤ n) × (chain ≡ chainedBy (roundingOf up) multipliers counter)
 
 abbrev μ-loop : tie.MeasureT-loop
-μ-loop multipliers n up chain₀ counter₀ chain counter = n - counter
+μ-loop multipliers n up first chain₀ counter₀ chain counter = n - counter
+
+first-held-requires : tie.Need-first-held-requires Inv-loop μ-loop
+first-held-requires c κs = tt
 
 loop-holds : tie.Need-loop-holds Inv-loop μ-loop
-loop-holds c = (omega arith, chained-zero _ _)
+loop-holds c = (omega arith, rw (c .first-held .ensures) (chained-zero _ _))
 
 next-in-chain-requires : tie.Need-next-in-chain-requires Inv-loop μ-loop
 next-in-chain-requires c κs =
     let at = c .before .before in
-    rw (at .loop .inv .1) (at .before .pre _)
+    rw (at .loop .inv .1) (at .before .before .pre _)
 
 add-counter : tie.Need-add-counter Inv-loop μ-loop
 add-counter c = omega arith
@@ -37,9 +40,9 @@ loop-again c =
 returns : tie.Need-returns Inv-loop μ-loop
 returns c =
     let at = c .before in
-    let e : at .loop .counter ≡ at .before .args .n = omega arith in
+    let e : at .loop .counter ≡ at .before .before .args .n = omega arith in
     rw (at .loop .inv .1, e)
 
 pub chained-spec : {M : Type 1} → statement M
 chained-spec =
-    tie.close (tie.spec Inv-loop μ-loop loop-holds next-in-chain-requires add-counter loop-less loop-again returns)
+    tie.close (tie.spec Inv-loop μ-loop first-held-requires loop-holds next-in-chain-requires add-counter loop-less loop-again returns)
