@@ -38,6 +38,7 @@ use Rattle.place_values.specs.HeldValues.{valueHeld}
 use Rattle.place_values.proofs.PlaceTermsLaws.{penalty-le}
 use Rattle.valuation.specs.Run.{valueAt, totalBy}
 use Rattle.valuation.specs.Numbers.{scenarioTotals}
+use Rattle.valuation.proofs.NumberLaws.{scenarioTotals-length}
 use Rattle.book_places.specs.declared.Book.{Book}
 use Rattle.place_limits.specs.PlaceLimits.{penaltyWithin, fitsPlace}
 use Rattle.book_places.specs.BookPlaces.{heldIn}
@@ -187,18 +188,14 @@ module _ (s : List ℕ) (a : filingVerdict s ≡ accepted) where
         ),
       )
 
-  four : (scenario : ℕ) → length (scenarioTotals k scenario) ≡ 4
-  unfolding scenarioTotals
-  four scenario = refl
-
   totals-shown : full .totals ≡ joined (table 7 (scenarioTotals k))
   unfolding totalIn
   totals-shown =
-      ext-getD 0 (full .totals) (joined (table 7 (scenarioTotals k))) (kept 36 .standing .totals-size ∙ sym (joined-length 4 0 7 (scenarioTotals k) four))
+      ext-getD 0 (full .totals) (joined (table 7 (scenarioTotals k))) (kept 36 .standing .totals-size ∙ sym (joined-length 4 0 7 (scenarioTotals k) (scenarioTotals-length k)))
       (λ i h.
       let small : i < 28 = rw (kept 36 .standing .totals-size) at h in
       let e : 4 * (i / 4) + i % 4 ≡ i = omega arith in
-      rw e at (total-share (i / 4) (omega arith) (i % 4) (omega arith) ∙ sym (joined-getD 4 7 (scenarioTotals k) four (i / 4) (i % 4) 0 (omega arith) (omega arith))))
+      rw e at (total-share (i / 4) (omega arith) (i % 4) (omega arith) ∙ sym (joined-getD 4 7 (scenarioTotals k) (scenarioTotals-length k) (i / 4) (i % 4) 0 (omega arith) (omega arith))))
 
   balance-shown : full .balance ≡ cell k totalCell
   unfolding balanceIn

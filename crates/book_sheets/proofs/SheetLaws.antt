@@ -11,7 +11,7 @@ use borrow.Author.Tests.{ltb-true, ltb-false, le-ltb, leb-true, leb-false, le-le
 use lib.Dec.{leb, ltb, lit≤}
 use lib.ListN.{length, getD, List·getD-eq-default}
 use Rattle.lists.specs.Tables.{anyBelow}
-use Rattle.lists.proofs.TestLaws.{any-fails}
+use Rattle.lists.proofs.TestLaws.{and-true, any-fails}
 use Rattle.schedule.specs.Limits.{rateLimit, monthsLimit, tierLimit, withdrawalLimit}
 use Rattle.contents.specs.declared.Contents.{Contents}
 use Rattle.contents.specs.declared.FiledTiers.{FiledTiers}
@@ -24,11 +24,6 @@ use Rattle.place_values.specs.Inner.FiledLimits.{FiledLimits}
 use Rattle.place_values.proofs.FilingTierLaws.{filed-limits}
 use Rattle.place_values.proofs.HeldLaws.{rates-within}
 use Rattle.book_sheets.specs.Sheets.{aboveLimit, noneAbove, isZero, noneZero, notRising, tiersUsable, sheetsUsable}
-
--- both sides of a conjunction
-pub and-true : (a b : Bool) → (a && b) ≡ true → (a ≡ true) × (b ≡ true)
-and-true true b e = (refl, e)
-and-true false b e = absurd (false≢true e)
 
 none-below : (test : ℕ → Bool) (n : ℕ) → ((i : ℕ) → i < n → test i ≡ false) → anyBelow test n ≡ false
 unfolding anyBelow

@@ -9,7 +9,7 @@ use borrow.Author.Tests.{leb-true, ltb-true}
 use lib.Dec.{leb, ltb, lit<}
 use Rattle.lists.specs.Tables.{tableFrom, joined}
 use Rattle.lists.proofs.TableLaws.{table-ext}
-use Rattle.lists.proofs.TestLaws.{either, entries-le}
+use Rattle.lists.proofs.TestLaws.{and-true, either, entries-le}
 use Rattle.schedule.specs.Cells.{withinRow, leastMonths, mostMonths}
 use Rattle.schedule.specs.Limits.{balanceLimit, couponLimit, penaltyLimit, monthsLimit}
 use Rattle.contents.specs.declared.Contents.{Contents}
@@ -29,7 +29,7 @@ use Rattle.book_sheets.specs.Sheets.{valuesUnder}
 use Rattle.books.specs.Books.{valuedIn}
 use Rattle.books.specs.Changes.{unvalued}
 use Rattle.books.specs.Inner.Standing.{Under, Within}
-use Rattle.book_sheets.proofs.SheetLaws.{and-true, limits-usable, filing-limits}
+use Rattle.book_sheets.proofs.SheetLaws.{limits-usable, filing-limits}
 
 -- nothing has the value 0
 none-valued : (k : Contents) (place : ℕ) → noValues ≡ valuesHeld k place noPlace

@@ -10,7 +10,7 @@ use lib.ListN.{length, getD, replicate, length-set, length-replicate, getD-repli
 use lib.Seq.{getD-set-same, getD-set-other}
 use Rattle.lists.specs.Sums.{sumWhere, everywhere}
 use Rattle.lists.proofs.SumLaws.{sumWhere-ext}
-use Rattle.lists.proofs.TableLaws.{table-length, table-getD, joined-le}
+use Rattle.lists.proofs.TableLaws.{zeros-getD, table-length, table-getD, joined-le}
 use Rattle.schedule.specs.Limits.{balanceLimit}
 use Rattle.contents.specs.declared.Contents.{Contents}
 use Rattle.contents.specs.Valid.{Valid}
@@ -40,11 +40,6 @@ module _ (k : Contents) (place : ℕ) (held : SubBalance) (w : Within k place he
   unfolding valuesHeld
   value-small i = rw (w .values-are) (joined-le 0 7 (boundsHeld k place held) valueLimit (λ s j l u. bound-small s j) i)
 
-zero-at : (n i : ℕ) → _≡_ {A = ℕ} (getD (replicate n 0) i 0) 0
-zero-at zero i = refl
-zero-at (suc n) zero = refl
-zero-at (suc n) (suc i) = zero-at n i
-
 module _ (k : Contents) (v : Valid k) where
   -- every place of the empty book holds nothing
   none-held : (place : ℕ) → place < 36 → heldIn (emptyBook k) place ≡ noPlace
@@ -52,7 +47,7 @@ module _ (k : Contents) (v : Valid k) where
   none-held place h = getD-replicate 36 place noPlace _ h
 
   none-value : (i place : ℕ) → place < 36 → getD (heldIn (emptyBook k) place .values) (valueOfTotal i) 0 ≡ 0
-  none-value i place h = rw (none-held place h) (zero-at 14 (valueOfTotal i))
+  none-value i place h = rw (none-held place h) (zeros-getD 14 (valueOfTotal i))
 
   pub empty-stands : Standing k (emptyBook k)
   unfolding emptyBook

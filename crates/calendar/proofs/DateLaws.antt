@@ -11,14 +11,14 @@ use Rattle.lists.specs.Ranges.{within}
 use Rattle.calendar.specs.declared.Date.{Date}
 use Rattle.calendar.specs.Inner.Days.{Day}
 use Rattle.calendar.specs.Dates.{lastDay, isDate, monthIndex, onOrAfter, dayIn, movedOn}
-use Rattle.lists.proofs.LogicLaws.{and-both}
+use Rattle.lists.proofs.TestLaws.{and-true}
 
 -- what a day of 1900 to 2199 is
 pub date-day : (d : Date) → isDate d ≡ true → Day d
 unfolding isDate
 date-day d h =
-    let years = and-both (within 1900 2199 (d .year)) _ h in
-    let months = and-both (within 1 12 (d .month)) _ (years .1) in
+    let years = and-true (within 1900 2199 (d .year)) _ h in
+    let months = and-true (within 1 12 (d .month)) _ (years .1) in
     let year = within-both 1900 2199 (d .year) (years .0) in
     let month = within-both 1 12 (d .month) (months .0) in
     let day = within-both 1 (lastDay (d .year) (d .month)) (d .day) (months .1) in
@@ -38,7 +38,7 @@ After a b = (monthIndex b < monthIndex a) ⊎ ((monthIndex b ≡ monthIndex a) �
 -- the test of the order over its three comparisons
 order-tests : (later same day : Bool) → (later || (same && day)) ≡ true → (later ≡ true) ⊎ ((same ≡ true) × (day ≡ true))
 order-tests true same day h = inl refl
-order-tests false same day h = inr (and-both same day h)
+order-tests false same day h = inr (and-true same day h)
 
 pub on-or-after : (a b : Date) → onOrAfter a b ≡ true → After a b
 unfolding onOrAfter

@@ -8,7 +8,7 @@ use borrow.Author.Tests.{leb-false, lt-ltb, le-ltb, le-leb, lt-leb}
 use lib.Dec.{leb, ltb}
 use Rattle.calendar.specs.declared.Date.{Date}
 use Rattle.calendar.specs.Dates.{lastDay, monthIndex, onOrAfter, dayIn, movedOn, monthsBetween}
-use Rattle.lists.proofs.LogicLaws.{lt-or-le}
+use Rattle.lists.proofs.OrderLaws.{lt-or-le}
 use Rattle.lists.proofs.RangeLaws.{least-is}
 use Rattle.calendar.specs.Inner.Days.{Day}
 use Rattle.calendar.proofs.DateLaws.{After, on-or-after, later-month, same-month, earlier-month, after, after-trans, moved-index, moved-on-mono}

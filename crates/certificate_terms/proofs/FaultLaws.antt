@@ -13,7 +13,7 @@ use Rattle.certificate_terms.specs.declared.Certificate.{Certificate}
 use Rattle.certificate_terms.specs.Terms.{remainingMonths, originalMonths, positionOf}
 use Rattle.certificate_terms.specs.Faults.{overLimit, noSuchDay, notOutstanding, tooManyMonths, ownVerdict}
 use Rattle.calendar.specs.Dates.{isDate, onOrAfter}
-use Rattle.lists.proofs.LogicLaws.{or-neither}
+use Rattle.lists.proofs.TestLaws.{neither}
 use Rattle.calendar.proofs.DateLaws.{date-day, on-or-after}
 use Rattle.calendar.proofs.MonthLaws.{months-between-least, months-between-anti}
 use Rattle.certificate_terms.proofs.PositionLaws.{position-lt}
@@ -61,8 +61,8 @@ pub days-are : (v : Date) (c : Certificate) → noSuchDay v c ≡ false
     → (isDate v ≡ true) × ((isDate (c .issue) ≡ true) × (isDate (c .maturity) ≡ true))
 unfolding noSuchDay
 days-are v c h =
-    let a = or-neither (not (isDate v)) _ h in
-    let b = or-neither (not (isDate (c .issue))) _ (a .1) in
+    let a = neither (not (isDate v)) _ h in
+    let b = neither (not (isDate (c .issue))) _ (a .1) in
     (not-false _ (a .0), (not-false _ (b .0), not-false _ (b .1)))
 
 -- a certificate without a fault
@@ -83,9 +83,9 @@ own-sound v k c h =
     let two = first-none (refusedIf (noSuchDay v c) 13 k) _ (one .1) in
     let three = first-none (refusedIf (notOutstanding v c) 14 k) _ (two .1) in
     let four = first-none (refusedIf (tooManyMonths v c) 15 k) _ (three .1) in
-    let limits = or-neither (ltb balanceLimit (c .balance)) _ (condition-fails (overLimit c) 4 k (one .0)) in
+    let limits = neither (ltb balanceLimit (c .balance)) _ (condition-fails (overLimit c) 4 k (one .0)) in
     let days = days-are v c (condition-fails (noSuchDay v c) 12 k (two .0)) in
-    let order = or-neither (not (onOrAfter v (c .issue))) _ (condition-fails (notOutstanding v c) 13 k (three .0)) in
+    let order = neither (not (onOrAfter v (c .issue))) _ (condition-fails (notOutstanding v c) 13 k (three .0)) in
     record {
       balance-le = ltb-false _ _ (limits .0);
       coupon-le = ltb-false _ _ (limits .1);

@@ -9,7 +9,7 @@ use Rattle.lists.proofs.TestLaws.{allFrom, all-at}
 use Rattle.schedule.specs.Cells.{position, positions, positionAt, withinRow}
 use Rattle.lists.specs.Ranges.{firstFrom}
 use Rattle.certificate_terms.specs.Terms.{columnOf, positionFor}
-use Rattle.lists.proofs.LogicLaws.{lt-or-le}
+use Rattle.lists.proofs.OrderLaws.{lt-or-le}
 
 -- the three columns
 pub column-one : (m : ℕ) → m ≤ 12 → columnOf m ≡ 1

@@ -9,7 +9,7 @@ use borrow.Author.Tests.{eq-eqb, ne-eqb}
 use lib.Dec.{eqb}
 use lib.ListN.{length, getD, List·getD-eq-default}
 use Rattle.lists.specs.Tables.{table}
-use Rattle.lists.proofs.LogicLaws.{lt-or-le}
+use Rattle.lists.proofs.OrderLaws.{lt-or-le}
 use Rattle.lists.proofs.RangeLaws.{within-is, within-below, within-above}
 use Rattle.lists.proofs.TableLaws.{table-length, table-getD, table-le}
 use Rattle.schedule.specs.Limits.{balanceLimit, filedCouponLimit, monthsLimit}

@@ -11,7 +11,8 @@ use borrow.Author.Tests.{ltb-true, eqb-true, eqb-false, eq-eqb, ne-eqb, leb-true
 use lib.Dec.{ltb, eqb, leb}
 use lib.ListN.{length, List·getD-eq-default}
 use Rattle.lists.specs.Ranges.{firstFrom}
-use Rattle.lists.proofs.LogicLaws.{and-both, lt-or-le}
+use Rattle.lists.proofs.OrderLaws.{lt-or-le}
+use Rattle.lists.proofs.TestLaws.{and-true}
 use Rattle.lists.proofs.RangeLaws.{search-here, search-next, search-end, least-fails}
 use Rattle.numerals.specs.Numerals.{byteAt, isDigit, numberEnd, isNumber}
 use Rattle.numerals.specs.Forms.{hasForm, formNumbers, formEnd}
@@ -40,7 +41,7 @@ module _ (s : List ℕ) where
   -- a digit is no line feed
   digit-feed : (b : ℕ) → isDigit b ≡ true → eqb b 10 ≡ false
   unfolding isDigit
-  digit-feed b h = ne-eqb b 10 (λ e. let l = leb-true 48 b (and-both (leb 48 b) (leb b 57) h .0) in omega (arith, l))
+  digit-feed b h = ne-eqb b 10 (λ e. let l = leb-true 48 b (and-true (leb 48 b) (leb b 57) h .0) in omega (arith, l))
 
   module _ (at : ℕ) (some : at < numberEnd s at) where
     digits : (k : ℕ) → at ≤ k → k < numberEnd s at → isDigit (byteAt s k) ≡ true
@@ -83,9 +84,9 @@ pub record Begins (s : List ℕ) (at x : ℕ) (xs : List ℕ) : Type 0 where
 pub form-begins : (s : List ℕ) (at x : ℕ) (xs : List ℕ) → hasForm s at (x ∷ xs) ≡ true → Begins s at x xs
 unfolding hasForm isNumber
 form-begins s at x xs h =
-    let a = and-both (isNumber s at && eqb (byteAt s (numberEnd s at)) x) _ h in
-    let b = and-both (isNumber s at) _ (a .0) in
-    let c = and-both (ltb at (numberEnd s at)) _ (b .0) in
+    let a = and-true (isNumber s at && eqb (byteAt s (numberEnd s at)) x) _ h in
+    let b = and-true (isNumber s at) _ (a .0) in
+    let c = and-true (ltb at (numberEnd s at)) _ (b .0) in
     record { some = ltb-true _ _ (c .0); separated = eqb-true _ _ (b .1); rest = a .1 }
 
 -- the form's end is behind the line's
@@ -98,7 +99,7 @@ form-line s at (x ∷ []) e h =
     ap (λ (n : ℕ). n + 1) (sym (line-number s at (b .some) ∙ line-here s (numberEnd s at) feed))
 form-line s at (x ∷ y ∷ ys) e h =
     let b = form-begins s at x (y ∷ ys) h in
-    let split = and-both (not (eqb x 10)) (endsLine (y ∷ ys)) e in
+    let split = and-true (not (eqb x 10)) (endsLine (y ∷ ys)) e in
     let other = eqb-false x 10 (not-true (eqb x 10) (split .0)) in
     form-line s (numberEnd s at + 1) (y ∷ ys) (split .1) (b .rest)
     ∙ ap (λ (n : ℕ). n + 1)

@@ -9,7 +9,7 @@ use borrow.Author.Tests.{lt-ltb, not-false}
 use lib.ListN.{length, take, drop}
 use lib.Seq.{take-at}
 use Rattle.lists.specs.Tables.{table, joined}
-use Rattle.lists.proofs.LogicLaws.{lt-or-le}
+use Rattle.lists.proofs.OrderLaws.{lt-or-le}
 use Rattle.lists.proofs.RangeLaws.{least-le, least-fails}
 use Rattle.lists.proofs.TableLaws.{joined-length}
 use Rattle.certificates_input.specs.declared.Text.{Text}

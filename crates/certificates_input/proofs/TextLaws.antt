@@ -14,7 +14,7 @@ use lib.ListN.{length, getD}
 use Rattle.lists.specs.Runs.{written}
 use Rattle.lists.specs.Tables.{table, joined}
 use Rattle.lists.specs.Ranges.{firstFrom}
-use Rattle.lists.proofs.LogicLaws.{lt-or-le}
+use Rattle.lists.proofs.OrderLaws.{lt-or-le}
 use Rattle.lists.proofs.RunLaws.{Overwritten, overwritten-row}
 use Rattle.lists.proofs.RangeLaws.{least-is, least-passes, least-ge}
 use Rattle.calendar.specs.declared.Date.{Date}

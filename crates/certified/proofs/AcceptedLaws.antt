@@ -32,7 +32,7 @@ use Rattle.certified.specs.Fit.{valueIn, Fit}
 use Rattle.certified.specs.Filed.{filingOf}
 use Rattle.certified.proofs.LookUpLaws.{value-past}
 use Rattle.certified.proofs.TotalLaws.{filled-total-le}
-use Rattle.certified.proofs.FitLaws.{certificates-fit}
+use Rattle.certified.proofs.FitLaws.{balances-by-position, certificates-fit}
 use Rattle.certified.proofs.ListedLaws.{Listed, cells-listed}
 use Rattle.certified.proofs.FiledLaws.{records-pass}
 use Rattle.certified.proofs.SaidLaws.{sheets-there, saidCells, said}
@@ -47,10 +47,6 @@ none-refuses verdict j (suc n) f = rw (f j (omega arith)) (none-refuses verdict 
 by-place : (f : Position → Verdict) → map f positions ≡ table 9 (λ (i : ℕ). f (positionAt i))
 unfolding positions positionAt position tableFrom
 by-place f = refl
-
-balances-by-place : (f : ℕ → ℕ) → map (λ (p : Position). f (p .balance)) positions ≡ table 9 (λ (i : ℕ). f (positionAt i .balance))
-unfolding positions positionAt position tableFrom
-balances-by-place f = refl
 
 module _ (cells : List CellValue) (yields rates : ℕ → ℕ) (listed : Listed 0 cells) (ys : (t : ℕ) → yields t ≤ rateLimit) (rs : (j : ℕ) → rates j ≤ rateLimit)
     (fit : Fit cells) (past : (n : ℕ) → 646 ≤ n → valueIn cells n ≡ 0) where
@@ -107,10 +103,10 @@ module _ (cells : List CellValue) (yields rates : ℕ → ℕ) (listed : Listed 
   balances-told : balances told ≡ map (λ (p : Position). valueIn cells (p .balance)) positions
   unfolding balances
   balances-told =
-      balances-by-place (cellIn told)
+      balances-by-position (cellIn told)
       ∙ table-ext 9 (λ (i : ℕ). cellIn told (positionAt i .balance)) (λ (i : ℕ). valueIn cells (positionAt i .balance))
       (λ i h. says (positionAt i .balance) 1 (balance-cell i h) refl)
-      ∙ sym (balances-by-place (valueIn cells))
+      ∙ sym (balances-by-position (valueIn cells))
 
   total-passes : totalVerdict told ≡ accepted
   unfolding totalVerdict totalDiffers refusedIf

@@ -9,7 +9,7 @@ use mathlib.Core.List.{List, [], _∷_}
 use borrow.Author.Tests.{le-ltb, ne-eqb}
 use lib.Dec.{eqb}
 use lib.ListN.{length, getD}
-use Rattle.lists.proofs.LogicLaws.{lt-or-le}
+use Rattle.lists.proofs.OrderLaws.{lt-or-le}
 use Rattle.lists.proofs.TestLaws.{entries-le}
 use Rattle.schedule.specs.Limits.{balanceLimit, columnLimit, totalLimit, filedCouponLimit, monthsLimit, penaltyLimit, cellClass, classLimit, rateLimit}
 use Rattle.answers.specs.Verdict.{accepted}

@@ -16,7 +16,7 @@ use Rattle.filled_cells.specs.declared.Totals.{Totals}
 use Rattle.filled_cells.specs.Means.{mean, balanceAt, couponAt, monthsAt}
 use Rattle.certificates.specs.Sums.{standsAt, positionSum, balanceOf, weightedCoupon, weightedMonths, totalsOf}
 use Rattle.certificates.specs.Verdict.{countVerdict, eachVerdict, certificatesVerdict}
-use Rattle.lists.proofs.LogicLaws.{and-both}
+use Rattle.lists.proofs.TestLaws.{and-true}
 use Rattle.lists.proofs.RangeLaws.{least-passes}
 use Rattle.certificate_terms.proofs.FaultLaws.{Sound, sound-position}
 use Rattle.certificates.proofs.SumLaws.{Passed, passed-sound, balance-sum-le}
@@ -26,13 +26,13 @@ use Rattle.certificates.proofs.CallLaws.{each-passed}
 -- a certificate's remaining months lie within the row of its position
 position-row : (m column : ℕ) → positionFor m column < 9 → withinRow (positionAt (positionFor m column) .row) m ≡ true
 unfolding positionFor
-position-row m column h = and-both _ _ (least-passes _ 0 9 h) .0
+position-row m column h = and-true _ _ (least-passes _ 0 9 h) .0
 
 -- what lies within a row
 pub row-both : (row m : ℕ) → withinRow row m ≡ true → (leastMonths row ≤ m) × (m ≤ mostMonths row)
 unfolding withinRow
 row-both row m h =
-    let e = and-both (leb (leastMonths row) m) (leb m (mostMonths row)) h in
+    let e = and-true (leb (leastMonths row) m) (leb m (mostMonths row)) h in
     (leb-true _ _ (e .0), leb-true _ _ (e .1))
 
 pub row-within : (row m : ℕ) → leastMonths row ≤ m → m ≤ mostMonths row → withinRow row m ≡ true

@@ -78,6 +78,11 @@ at-most b x limit f = by (eqb b 0) refl
     by true e = omega arith
     by false e = let some = eqb-false b 0 e in f (omega arith)
 
+-- the nine balances by position
+pub balances-by-position : (f : ℕ → ℕ) → map (λ (p : Position). f (p .balance)) positions ≡ table 9 (λ (i : ℕ). f (positionAt i .balance))
+unfolding positions positionAt position tableFrom
+balances-by-position f = refl
+
 module _ (t : Totals) where
   -- what a cell of a position holds
   value-at : (m class i : ℕ) → Belongs m class i → isFilled m ≡ true
@@ -106,14 +111,9 @@ module _ (t : Totals) where
   unfolding valueOf isPresent formCell isFilled within cellClass contains positions position brokeredCell penaltyBalanceCell penaltyMonthsCell
   total-value = value-filled t totalCell (omega arith) (omega arith) refl
 
-  -- the nine balances by position
-  positions-table : (f : ℕ → ℕ) → map (λ (p : Position). f (p .balance)) positions ≡ table 9 (λ (i : ℕ). f (positionAt i .balance))
-  unfolding positions positionAt position tableFrom
-  positions-table f = refl
-
   pub balances-are : map (λ (p : Position). valueIn (cellsOf t) (p .balance)) positions ≡ table 9 (balanceAt t)
   balances-are =
-      positions-table (valueIn (cellsOf t))
+      balances-by-position (valueIn (cellsOf t))
       ∙ table-ext 9 (λ (i : ℕ). valueIn (cellsOf t) (positionAt i .balance)) (balanceAt t) balance-value
 
 module _ (v : Date) (s : List ℕ) (accepted : certificatesVerdict v s .number ≡ 0) where

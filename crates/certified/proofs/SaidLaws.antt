@@ -11,7 +11,7 @@ use lib.Dec.{eqb}
 use lib.ListN.{length, getD}
 use Rattle.lists.specs.Ranges.{firstFrom}
 use Rattle.lists.specs.Tables.{tableFrom}
-use Rattle.lists.proofs.LogicLaws.{lt-or-le}
+use Rattle.lists.proofs.OrderLaws.{lt-or-le}
 use Rattle.lists.proofs.RangeLaws.{least-passes, least-fails}
 use Rattle.lists.proofs.TableLaws.{tableFrom-getD}
 use Rattle.schedule.specs.Limits.{couponClass, cellClass, rateLimit}

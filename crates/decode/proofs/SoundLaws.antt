@@ -29,7 +29,7 @@ use Rattle.tier_faults.proofs.TierLaws.{SoundTiers, tier-fits, tier-rises}
 use Rattle.record_verdicts.proofs.FaultLaws.{Sound, record-plain, faultless-sound}
 use Rattle.faults.proofs.RepetitionLaws.{gives-plain}
 use Rattle.fields.proofs.FirstLaws.{first-earlier}
-use Rattle.notes.proofs.CountingLaws.{counting-holds}
+use Rattle.notes.proofs.CountingLaws.{ranked-cell, counting-holds}
 use Rattle.conditions.specs.Conditions.{cellIn}
 use Rattle.decode.specs.Contents.{filedValue, amountAt, cellOffset, cellValue, sheetOffset, tierNumber, tiersAt, contentsOf}
 use Rattle.contents.specs.Contents.{cell}
@@ -112,15 +112,11 @@ module _ (s : List ℕ) (none : firstFaulty s ≡ length s) where
   unfolding itemRank
   holds n h = let c = counting-sound n h in by (recordItem s (cellOffset s n)) refl (c .0) (c .1)
     where
-      same : (m number : ℕ) (b : Bool) → eqb m n ≡ b → 0 < cond b number 0 → m ≡ n
-      same m number true e l = eqb-true m n e
-      same m number false e l = absurd (omega arith)
-
       by : (item : Item) → recordItem s (cellOffset s n) ≡ item → Sound s (cellOffset s n) → 0 < itemRank n (recordItem s (cellOffset s n)) → Holds n (cellOffset s n)
-      by (Cell m) e sound l = cell-holds n (cellOffset s n) sound (e ∙ ap Cell (same m 1 (eqb m n) refl (rw e at l)))
+      by (Cell m) e sound l = cell-holds n (cellOffset s n) sound (e ∙ ap Cell (ranked-cell m n 1 (rw e at l)))
       by (Sheet kind) e sound l = absurd (omega (arith, rw e at l))
       by (Amendment m number) e sound l =
-          amendment-holds n number (cellOffset s n) sound (e ∙ ap (λ (c : ℕ). Amendment c number) (same m (number + 1) (eqb m n) refl (rw e at l)))
+          amendment-holds n number (cellOffset s n) sound (e ∙ ap (λ (c : ℕ). Amendment c number) (ranked-cell m n (number + 1) (rw e at l)))
       by Nothing e sound l = absurd (omega (arith, rw e at l))
 
   present-limit : (n : ℕ) → cellOffset s n < length s → amountAt s (cellOffset s n) ≤ heldLimit (cellClass (recordCell s (cellOffset s n)))

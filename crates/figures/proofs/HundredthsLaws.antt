@@ -9,6 +9,7 @@ use native.Mathlib.Omega.{arith}
 use lib.Dec.{leb}
 use lib.IntN.{ℤ}
 use borrow.Author.Tests.{leb-true, leb-false, le-leb, lt-leb}
+use Rattle.lists.proofs.OrderLaws.{leb-iff}
 use Rattle.schedule.specs.Limits.{filedCouponLimit, penaltyLimit}
 use Rattle.withdrawal.specs.declared.Incentive.{Incentive}
 use Rattle.withdrawal.specs.Gain.{gainScale, gain, cost, atMost}
@@ -19,14 +20,6 @@ use Rattle.withdrawal.specs.Inner.Incentives.{gainOf}
 use Rattle.withdrawal.proofs.GainLaws.{difference-pos, reached-iff, gain-above-cost-iff}
 use Rattle.pricing.specs.Scales.{couponGrowth}
 use Rattle.figures.specs.Hundredths.{gainInHundredths, costInHundredths, growthInHundredths}
-
--- tests of facts that imply each other are equal
-leb-iff : (a b c d : ℕ) → (a ≤ b → c ≤ d) → (c ≤ d → a ≤ b) → leb a b ≡ leb c d
-leb-iff a b c d f g = by (leb a b) refl
-  where
-    by : (t : Bool) → leb a b ≡ t → t ≡ leb c d
-    by true e = sym (le-leb c d (f (leb-true a b e)))
-    by false e = sym (lt-leb c d (lt-of-not-le (λ l. not-le-of-lt (leb-false a b e) (g l))))
 
 -- edges that are reached by two gains and costs alike give the same withdrawal
 same-first : (g h : ℤ) (k m otherwise : ℕ) → ((edge : ℕ) → reached g k edge ≡ reached h m edge) → (xs : List WithdrawalTier)

@@ -26,7 +26,7 @@ use Rattle.faults.proofs.RepetitionLaws.{single-stands}
 use Rattle.fields.proofs.SearchLaws.{Reached}
 use Rattle.scan.proofs.NotingLaws.{table-same}
 use Rattle.fields.proofs.FirstLaws.{first-found, first-earlier, first-reached}
-use Rattle.notes.proofs.CountingLaws.{counting-most, counting-holds}
+use Rattle.notes.proofs.CountingLaws.{ranked-cell, counting-most, counting-holds}
 use Rattle.decode.specs.Contents.{filedValue, amountAt, cellOffset, cellValue, sheetOffset, rateCount, rateNumber, tierNumber, tiersAt, contentsOf}
 use Rattle.filing.specs.Survivors.{withdraws, survives, Surviving}
 
@@ -46,12 +46,8 @@ module _ (t : List ℕ) (sound : firstRefused t (recordVerdict t) ≡ length t)
   unfolding itemRank
   item-is at r l h = by (recordItem t at) refl h
     where
-      same : (m number : ℕ) (b : Bool) → eqb m n ≡ b → 0 < cond b number 0 → m ≡ n
-      same m number true e p = eqb-true m n e
-      same m number false e p = absurd (omega arith)
-
       by : (item : Item) → recordItem t at ≡ item → 0 < itemRank n item → recordItem t at ≡ Cell n
-      by (Cell m) e p = e ∙ ap Cell (same m 1 (eqb m n) refl p)
+      by (Cell m) e p = e ∙ ap Cell (ranked-cell m n 1 p)
       by (Sheet kind) e p = absurd (omega arith)
       by (Amendment m number) e p =
           absurd (true≢false (sym (eq-eqb (recordKind t at) amendmentKind (record-of-amendment t at m number e .kind-is))

@@ -1,6 +1,6 @@
 pub mod EachLaws
 pub mod FillLaws
-pub mod LogicLaws
+pub mod OrderLaws
 pub mod RangeLaws
 pub mod RunLaws
 pub mod SumLaws

@@ -9,14 +9,14 @@ use mathlib.Core.Bool.{Bool, true, false, cond}
 use borrow.Author.Tests.{leb-true, le-leb, lt-leb}
 use lib.Dec.{leb}
 use Rattle.lists.specs.Ranges.{within, firstFrom}
-use Rattle.lists.proofs.LogicLaws.{and-both}
+use Rattle.lists.proofs.TestLaws.{and-true}
 
 module _ (least most x : ℕ) where
   -- a number within two others is at least the one and at most the other
   pub within-both : within least most x ≡ true → (least ≤ x) × (x ≤ most)
   unfolding within
   within-both h =
-      let e = and-both (leb least x) (leb x most) h in
+      let e = and-true (leb least x) (leb x most) h in
       (leb-true least x (e .0), leb-true x most (e .1))
 
   pub within-is : least ≤ x → x ≤ most → within least most x ≡ true

@@ -5,7 +5,7 @@ use mathlib.Core.List.{List, [], _∷_, _++_, append-assoc, append-nil}
 use native.Mathlib.Nat.{not-suc-le-zero, le-of-suc-le-suc, add-zero, zero-add, add-suc, suc-add, mul-zero, mul-suc}
 use native.Mathlib.Numerals.{add-one}
 use native.Mathlib.Omega.{arith}
-use lib.ListN.{length, getD, length-append, List·getD-append}
+use lib.ListN.{length, getD, replicate, length-append, List·getD-append}
 use lib.Seq.{getD-append-add}
 use Rattle.lists.specs.Tables.{tableFrom, table, joined}
 
@@ -98,3 +98,9 @@ joined-le s zero f limit h i = omega arith
 joined-le s (suc n) f limit h i =
     append-le (f s) (joined (tableFrom (suc s) n f)) limit (λ j. h s j (omega arith) (omega arith))
     (joined-le (suc s) n f limit (λ j k l u. h j k (omega arith) (omega arith))) i
+
+-- a list of zeros has 0 at every place
+pub zeros-getD : (n i : ℕ) → _≡_ {A = ℕ} (getD (replicate n 0) i 0) 0
+zeros-getD zero i = refl
+zeros-getD (suc n) zero = refl
+zeros-getD (suc n) (suc i) = zeros-getD n i

@@ -6,8 +6,8 @@ use native.Mathlib.Omega.{arith}
 use mathlib.Core.Path.{_≡_, refl, sym, _∙_}
 use mathlib.Core.Bool.{Bool, true, false, cond, _||_}
 use mathlib.Core.List.{List}
-use borrow.Author.Tests.{le-leb, lt-leb, leb-false, ltb-true, ltb-false, le-ltb}
-use lib.Dec.{leb, ltb}
+use borrow.Author.Tests.{eqb-true, le-leb, lt-leb, leb-false, ltb-true, ltb-false, le-ltb}
+use lib.Dec.{eqb, leb, ltb}
 use lib.ListN.{length}
 use Rattle.fields.specs.Records.{nextRecord}
 use Rattle.records.specs.declared.items.Item.{Item}
@@ -16,6 +16,14 @@ use Rattle.records.specs.Items.{recordItem}
 use Rattle.notes.specs.Counting.{itemRank, rank, counting, countsFrom, countingBefore}
 use Rattle.notes.specs.Inner.Notes.{amendsIn, fallsAs, falls, fallsBefore}
 use Rattle.fields.proofs.SearchLaws.{Reached, here, step, next-lt, reached-le, reached-next, found-next}
+
+-- a rank above 0 is that of the cell itself
+pub ranked-cell : (m n number : ℕ) → 0 < cond (eqb m n) number 0 → m ≡ n
+ranked-cell m n number = by (eqb m n) refl
+  where
+    by : (b : Bool) → eqb m n ≡ b → 0 < cond b number 0 → m ≡ n
+    by true e l = eqb-true m n e
+    by false e l = absurd (omega arith)
 
 module _ (s : List ℕ) (cell : ℕ) where
   counts-end : (end before at steps : ℕ) → end ≤ at → countsFrom s cell end before at steps ≡ before

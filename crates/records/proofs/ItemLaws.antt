@@ -120,8 +120,9 @@ module _ (s : List ℕ) (at : ℕ) where
   unfolding recordClass
   class-is = listed-class (cellClass (recordCell s at)) (eqb (recordKind s at) fineCouponKind) (eqb (cellClass (recordCell s at)) couponClass) refl
 
-  listed : (recordClass s at ≡ 0 → ⊥) → (firstCell ≤ recordCell s at) × (recordCell s at < firstCell + cellCount)
-  listed h = let l = class-listed (recordCell s at) (class-is h .0) in (omega (arith, l .0), omega (arith, l .1))
+  -- a cell of a class that is listed
+  pub cell-listed : (recordClass s at ≡ 0 → ⊥) → (firstCell ≤ recordCell s at) × (recordCell s at < firstCell + cellCount)
+  cell-listed h = let l = class-listed (recordCell s at) (class-is h .0) in (omega (arith, l .0), omega (arith, l .1))
 
   of-cell : (cell : ℕ) (gives off amends none : Bool) → givesCell (recordKind s at) ≡ gives → eqb (recordClass s at) 0 ≡ off
       → itemBy gives off amends none ≡ Cell cell → OfCell s at cell
@@ -132,8 +133,8 @@ module _ (s : List ℕ) (at : ℕ) where
       record {
         gives = a;
         cell-is = is;
-        from-first = rw is at (listed class .0);
-        to-last = rw is at (listed class .1);
+        from-first = rw is at (cell-listed class .0);
+        to-last = rw is at (cell-listed class .1);
         coupon = λ k. rw is at (class-is class .1 (eq-eqb (recordKind s at) fineCouponKind k));
       }
   of-cell cell false true true none a b e = let z : _≡_ {A = ℕ} 0 1 = cc in absurd (omega arith)
@@ -153,8 +154,8 @@ module _ (s : List ℕ) (at : ℕ) where
         kind-is = eqb-true (recordKind s at) amendmentKind a;
         cell-is = is;
         number-is = cc;
-        from-first = rw is at (listed class .0);
-        to-last = rw is at (listed class .1);
+        from-first = rw is at (cell-listed class .0);
+        to-last = rw is at (cell-listed class .1);
       }
   of-amendment cell number false off false true a b e = let z : _≡_ {A = ℕ} 0 1 = cc in absurd (omega arith)
   of-amendment cell number false off false false a b e = let z : _≡_ {A = ℕ} 0 1 = cc in absurd (omega arith)

@@ -10,6 +10,7 @@ use borrow.Author.Tests.{eqb-true, eqb-false, eq-eqb, ne-eqb}
 use lib.Dec.{eqb, ltb}
 use lib.ListN.{length, getD, replicate, length-set}
 use lib.Pow.{pow-pos}
+use Rattle.lists.proofs.TableLaws.{zeros-getD}
 use Rattle.lists.proofs.TestLaws.{and-false}
 use Rattle.numbers.specs.Members.{bit, member, withMember}
 use Rattle.numbers.proofs.BitLaws.{member-with}
@@ -31,14 +32,9 @@ abbrev pub wordCount : ℕ
 wordCount = 1024
 
 -- a set of no word but 0 has no member
-zeros : (n i : ℕ) → _≡_ {A = ℕ} (getD (replicate n 0) i 0) 0
-zeros zero i = refl
-zeros (suc n) zero = refl
-zeros (suc n) (suc i) = zeros n i
-
 none-member : (n v : ℕ) → member (replicate n 0) v ≡ false
 unfolding member bit
-none-member n v = rw (zeros n (v / 64), div-eq-of-lt (pow-pos (v % 64)))
+none-member n v = rw (zeros-getD n (v / 64), div-eq-of-lt (pow-pos (v % 64)))
 
 or-turned : (a b : Bool) → (a || b) ≡ (b || a)
 or-turned true true = refl

@@ -17,7 +17,6 @@ use Rattle.fields.specs.Records.{recordLength, recordKind, recordCell, recordVa
 use Rattle.records.specs.Kinds.{cellKind, flatRatesKind, tiersKind, ratePathKind, fineCouponKind, amendmentKind, givesCell, namesCell, dueLength}
 use Rattle.records.specs.declared.items.Item.the-variants.{Cell}
 use Rattle.records.specs.Items.{recordClass, recordItem}
-use Rattle.records.proofs.ItemLaws.{record-of-cell}
 use Rattle.notes.specs.Inner.Notes.{notedBefore}
 use Rattle.bodies.specs.Bodies.{valueLimit, unfitAmendment, overLimit}
 use Rattle.tier_faults.specs.TierFaults.{unsoundTiers}
@@ -118,9 +117,6 @@ module _ (s : List ℕ) (at : ℕ) where
     cell-item : (recordClass s at ≡ 0 → ⊥) → recordItem s at ≡ Cell (recordCell s at)
     unfolding recordItem
     cell-item h = simp (gives, ne-eqb (recordClass s at) 0 h)
-
-    pub cell-range : (recordClass s at ≡ 0 → ⊥) → (firstCell ≤ recordCell s at) × (recordCell s at < firstCell + cellCount)
-    cell-range h = let of = record-of-cell s at (recordCell s at) (cell-item h) in (of .from-first, of .to-last)
 
     cell-alone : pathBesideFlat s at ≡ false
     unfolding pathBesideFlat

@@ -30,7 +30,7 @@ module _ (k : Contents) where
   unfolding placeNumbers
   row-length place = ap suc (joined-length 2 0 7 (valuesOf k place) (valuesOf-length place))
 
-  scenarioTotals-length : (scenario : ℕ) → length (scenarioTotals k scenario) ≡ 4
+  pub scenarioTotals-length : (scenario : ℕ) → length (scenarioTotals k scenario) ≡ 4
   unfolding scenarioTotals
   scenarioTotals-length scenario = refl
 

@@ -7,18 +7,11 @@ use native.Mathlib.Omega.{arith}
 use lib.Dec.{leb, ltb}
 use lib.IntN.{pos, negsuc, negℤ, one, _-ℤ_, _*ℤ_, *ℤ-comm, *ℤ-one}
 use borrow.Author.Tests.{leb-true, leb-false, ltb-true, ltb-false, le-leb, lt-leb, le-ltb, lt-ltb}
+use Rattle.lists.proofs.OrderLaws.{leb-iff}
 use Rattle.withdrawal.specs.declared.Incentive.{Incentive}
 use Rattle.withdrawal.specs.Gain.{atMost}
 use Rattle.withdrawal.specs.Tiers.{reached}
 use Rattle.withdrawal.specs.Inner.Incentives.{gainOf}
-
--- tests of facts that imply each other are equal
-leb-iff : (a b c d : ℕ) → (a ≤ b → c ≤ d) → (c ≤ d → a ≤ b) → leb a b ≡ leb c d
-leb-iff a b c d f g = by (leb a b) refl
-  where
-    by : (t : Bool) → leb a b ≡ t → t ≡ leb c d
-    by true e = sym (le-leb c d (f (leb-true a b e)))
-    by false e = sym (lt-leb c d (lt-of-not-le (λ l. not-le-of-lt (leb-false a b e) (g l))))
 
 -- a difference of whole numbers that is not negative
 pub difference-pos : (a b : ℕ) → b ≤ a → pos a -ℤ pos b ≡ pos (a - b)

@@ -14,9 +14,10 @@ use Rattle.fields.specs.Bytes.{numberAt}
 use Rattle.fields.specs.Records.{recordLength, recordKind, recordCell}
 use Rattle.records.specs.Kinds.{fineCouponKind}
 use Rattle.notes.specs.Inner.Notes.{notedBefore}
+use Rattle.records.proofs.ItemLaws.{cell-listed}
 use Rattle.sound_records.specs.Inner.SoundRecords.{mostIn}
 use Rattle.sound_records.proofs.LimitLaws.{most-listed, listed-most, most-limit}
-use Rattle.sound_records.proofs.NamedLaws.{told, not-told, cell-range, value-told, told-value}
+use Rattle.sound_records.proofs.NamedLaws.{told, not-told, value-told, told-value}
 use borrow.Author.Needs.{needs}
 use Rattle.sound_records.proofs.sound_value.Statement.{statement}
 use Rattle.sound_records.proofs.sound_value.Tie as tie
@@ -47,7 +48,7 @@ range : (c : tie.Else2) → (firstCell ≤ c .before .before .field-within2 .res
 range c =
     let at-most = c .before in
     let start = start-of at-most in
-    let listed = cell-range _ _ (start .pre .0 .1) (most-listed _ _ (λ z. c .if2 .left (most-is at-most ∙ z))) in
+    let listed = cell-listed _ _ (most-listed _ _ (λ z. c .if2 .left (most-is at-most ∙ z))) in
     (omega (arith, listed .0, at-most .before .field-within2 .ensures), omega (arith, listed .1, at-most .before .field-within2 .ensures))
 
 noted-at : (c : tie.Else2)
