@@ -1,3 +1,4 @@
 pub mod Cells
 pub mod Limits
 pub mod Shift
+pub mod Inner

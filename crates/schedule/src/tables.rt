@@ -2,9 +2,10 @@
 use crate::FIRST_CELL;
 use crate::LAST_CELL;
 ghost use mathlib.Core.Path.{_≡_};
-ghost use Prim.Native.Nat.{_-_};
+ghost use Prim.Native.Nat.{_<_};
 ghost use lib.ListN.{getD};
 ghost use Rattle.schedule.specs.Limits.{cellClass, classLimit};
+ghost use Rattle.schedule.specs.Inner.Classes.{sixteenClasses};
 
 // The class of a coupon.
 pub const COUPON_CLASS: usize = 2;
@@ -21,7 +22,7 @@ const LIMITS: [u64; 8] = [
     18_446_744_073_709_551_615,
 ];
 
-// The class of a cell: 0 where it is not listed. The digits are the classes of the cells from the first to the last.
+// The class of a cell: 0 where it is not listed.
 pub fn cell_class(cell: u64) -> usize
     ensures { λ r. ⌜ r ≡ cellClass cell ⌝ }
 {
@@ -31,11 +32,21 @@ pub fn cell_class(cell: u64) -> usize
     if LAST_CELL < cell {
         return 0;
     }
-    let i = (cell - FIRST_CELL) as usize;
-    digit_at(
-        b"1117222333000011172223330000001172233000172360000444444555777",
-        i,
-    )
+    let i = cell - FIRST_CELL;
+    ((sixteen_classes(i / 16) >> (4 * (i % 16))) % 16) as usize
+}
+
+// The classes of sixteen cells, a hexadecimal digit each, the lowest cell's last. The numbers stand in the code: a constant array is built anew at each read.
+fn sixteen_classes(part: u64) -> u64
+    requires { ⌜ part < 4 ⌝ }
+    ensures { λ r. ⌜ r ≡ sixteenClasses part ⌝ }
+{
+    match part {
+        0 => 0x1100_0033_3222_7111,
+        1 => 0x1100_0000_3332_2271,
+        2 => 0x0006_3271_0003_3227,
+        _ => 0x0007_7755_5444_4440,
+    }
 }
 
 // The largest value of a class, as filed.
@@ -50,22 +61,4 @@ pub fn entry_at(table: &[u64], i: usize) -> u64
     ensures { λ r. ⌜ r ≡ getD (now (table .entry)) i 0 ⌝ }
 {
     if i < table.len() { table[i] } else { 0 }
-}
-
-// The digit at a place of a text of digits: 0 past its end.
-fn digit_at(digits: &[u8], i: usize) -> usize
-    ensures { λ r. ⌜ r ≡ getD (now (digits .entry)) i 0 - 48 ⌝ }
-{
-    if i < digits.len() {
-        digit_of(digits[i])
-    } else {
-        0
-    }
-}
-
-// The number of a digit.
-fn digit_of(byte: u8) -> usize
-    ensures { λ r. ⌜ r ≡ byte - 48 ⌝ }
-{
-    if byte < 48 { 0 } else { (byte - 48) as usize }
 }
