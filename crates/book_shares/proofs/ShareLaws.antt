@@ -8,7 +8,7 @@ use native.Mathlib.Nat.{le-trans, le-refl, le-of-lt, lt-suc-self, lt-of-lt-of-le
 use native.Mathlib.Omega.{arith}
 use borrow.Author.Tests.{lt-ltb, le-leb, eqb-true, eqb-false}
 use lib.Dec.{T, eqb, lit<}
-use lib.ListN.{length, getD, getD-replicate}
+use lib.ListN.{getD, getD-replicate}
 use lib.Seq.{ext-getD}
 use Rattle.lists.specs.Sums.{everywhere}
 use Rattle.lists.specs.Tables.{table, joined}

@@ -2,13 +2,11 @@
 -- writes with hundredths: gain and cost are both ten times document 01's, so the same edges are reached. Assumes nothing.
 use Prim.Native.Nat.{ℕ, suc, _+_, _*_, _-_, _≤_}
 use mathlib.Core.Path.{_≡_, refl, sym, ap, _∙_}
-use mathlib.Core.Bool.{Bool, true, false, cond}
+use mathlib.Core.Bool.{Bool, cond}
 use mathlib.Core.List.{List, [], _∷_}
-use native.Mathlib.Nat.{mul-le-mul, lt-of-not-le, not-le-of-lt}
+use native.Mathlib.Nat.{mul-le-mul}
 use native.Mathlib.Omega.{arith}
-use lib.Dec.{leb}
 use lib.IntN.{ℤ}
-use borrow.Author.Tests.{leb-true, leb-false, le-leb, lt-leb}
 use Rattle.lists.proofs.OrderLaws.{leb-iff}
 use Rattle.schedule.specs.Limits.{filedCouponLimit, penaltyLimit}
 use Rattle.withdrawal.specs.declared.Incentive.{Incentive}

@@ -1,6 +1,6 @@
 -- The cells and numbers met in a pass for a block: none at its start, one record more, and what they say of the record at hand.
 -- Assumes nothing.
-use Prim.Native.Nat.{ℕ, zero, suc, _+_, _*_, _/_, _%_, _^_, _≤_, _<_}
+use Prim.Native.Nat.{ℕ, _+_, _*_, _/_, _%_, _^_, _≤_, _<_}
 use native.Mathlib.Nat.{div-eq-of-lt}
 use native.Mathlib.Omega.{arith}
 use mathlib.Core.Path.{_≡_, refl, sym, ap, _∙_}
@@ -8,7 +8,7 @@ use mathlib.Core.Bool.{Bool, true, false, cond, _||_, _&&_}
 use mathlib.Core.List.{List}
 use borrow.Author.Tests.{eqb-true, eqb-false, eq-eqb, ne-eqb}
 use lib.Dec.{eqb, ltb}
-use lib.ListN.{length, getD, replicate, length-set}
+use lib.ListN.{length, replicate, length-set}
 use lib.Pow.{pow-pos}
 use Rattle.lists.proofs.TableLaws.{zeros-getD}
 use Rattle.lists.proofs.TestLaws.{and-false}

@@ -2,11 +2,11 @@
 use Prim.Native.Nat.{ℕ, zero, suc, _+_, _*_, _-_, _≤_, _<_}
 use mathlib.Core.Path.{_≡_, refl, sym, ap, _∙_}
 use mathlib.Core.Bool.{Bool, true, false}
-use native.Mathlib.Nat.{mul-le-mul-left, mul-lt-mul-of-pos-left, mul-sub, one-mul, lt-of-not-le, not-le-of-lt, mul-pos, not-suc-le-zero, zero-lt-suc, suc-add}
+use native.Mathlib.Nat.{mul-le-mul-left, mul-lt-mul-of-pos-left, mul-sub, one-mul, mul-pos, not-suc-le-zero, zero-lt-suc, suc-add}
 use native.Mathlib.Omega.{arith}
 use lib.Dec.{leb, ltb}
 use lib.IntN.{pos, negsuc, negℤ, one, _-ℤ_, _*ℤ_, *ℤ-comm, *ℤ-one}
-use borrow.Author.Tests.{leb-true, leb-false, ltb-true, ltb-false, le-leb, lt-leb, le-ltb, lt-ltb}
+use borrow.Author.Tests.{ltb-true, ltb-false, lt-leb, le-ltb, lt-ltb}
 use Rattle.lists.proofs.OrderLaws.{leb-iff}
 use Rattle.withdrawal.specs.declared.Incentive.{Incentive}
 use Rattle.withdrawal.specs.Gain.{atMost}
