@@ -1,12 +1,12 @@
 // The calls by their numbers.
-use second_numbers::arith::least;
-use second_output::book::print_book;
-use second_output::certificates::print_certificates;
-use second_output::filings::print_listing;
-use second_output::filings::print_splitting;
-use second_output::filings::print_valuing;
-use second_output::lines::print_line;
-use second_output::searches::print_search;
+use crate::book::print_book;
+use crate::certificates::print_certificates;
+use crate::filings::print_listing;
+use crate::filings::print_splitting;
+use crate::filings::print_valuing;
+use crate::lines::print_line;
+use crate::searches::print_search;
+use second_filings::arith::least;
 
 // A call, the length of its list of numbers and that of its list of places.
 pub struct Call {

@@ -1,9 +1,15 @@
 // A second valuation, written on its own from the papers, to compare the library with: it reads the
 // entries that the test program reads, and prints the same bytes.
+mod book;
 mod calls;
+mod certificates;
 mod entries;
+mod figures;
+mod filings;
+mod lines;
+mod searches;
 
 fn main() {
-    let survivals = second_numbers::survival::survivals();
+    let survivals = second_values::survival::survivals();
     entries::print_entries(&survivals);
 }

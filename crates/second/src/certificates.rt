@@ -1,0 +1,34 @@
+// What is printed of certificates.
+use crate::lines::print;
+use crate::lines::print_line;
+use crate::lines::print_number;
+use crate::lines::print_pair;
+use second_filings::arith::LARGEST;
+use second_values::certificates::cell_count;
+use second_values::certificates::cell_value;
+use second_values::certificates::sums_of;
+
+// The answer, and the cells with their values; none on a refusal.
+pub fn print_certificates(s: &[u8]) {
+    let sums = sums_of(s);
+    print_pair(b"answer", sums.number, sums.place);
+    if sums.number == 0 {
+        let list = sums.list;
+        print_cells(&list);
+    } else {
+        print_line(b"cells", 0);
+    }
+}
+
+// How many cells there are, and each.
+fn print_cells(sums: &[u64]) {
+    print_line(b"cells", cell_count(sums));
+    for cell in 601..646 {
+        let value = cell_value(sums, cell);
+        if value != LARGEST {
+            print(b"cell");
+            print_number(cell);
+            print_line(b"", value);
+        }
+    }
+}
