@@ -2,37 +2,34 @@
 use crate::figures::print_bounds;
 use crate::figures::print_part;
 use crate::figures::print_totals;
+use crate::lines::print_answer;
 use crate::lines::print_line;
-use crate::lines::print_pair;
-use second_filings::arith::add;
-use second_filings::arith::chosen;
-use second_filings::bytes::number;
-use second_filings::refusals::refusal_of;
-use second_values::book::ACTION;
-use second_values::book::PLACE;
-use second_values::book::field;
-use second_values::book::held;
-use second_values::book::held_places;
-use second_values::book::is_refused;
-use second_values::shares::SubBalance;
+use second_valuation::arith::add;
+use second_valuation::arith::chosen;
+use second_valuation::book::ACTION;
+use second_valuation::book::PLACE;
+use second_valuation::book::field;
+use second_valuation::book::held;
+use second_valuation::book::held_places;
+use second_valuation::book::is_refused;
+use second_valuation::bytes::number;
+use second_valuation::refusals::refusal_of;
+use second_valuation::shares::SubBalance;
 
 // The answer of the opening, and what each call answers where the book is open.
 pub fn print_book(s: &[u8], survivals: &[u64]) {
     let n = number(s, 0, 0, 8) as usize;
     if 8 <= s.len() {
-        print_parts(&s[8..], n, survivals);
-    }
-}
-
-fn print_parts(s: &[u8], n: usize, survivals: &[u64]) {
-    if n <= s.len() {
-        print_opened(&s[..n], &s[n..], survivals);
+        let rest = &s[8..];
+        if n <= rest.len() {
+            print_opened(&rest[..n], &rest[n..], survivals);
+        }
     }
 }
 
 fn print_opened(filing: &[u8], calls: &[u8], survivals: &[u64]) {
     let refusal = refusal_of(filing, 0, 0);
-    print_pair(b"answer", refusal.number, refusal.place);
+    print_answer(refusal.number, refusal.place);
     let count = chosen(refusal.number == 0, calls.len() as u64 / 48, 0);
     for k in 0..count {
         print_call(filing, calls, survivals, k);
@@ -46,7 +43,7 @@ fn print_call(filing: &[u8], calls: &[u8], survivals: &[u64], k: u64) {
         0 | 1 => {
             let is_refused = is_refused(calls, k);
             let number = chosen(is_refused, 17, 0);
-            print_pair(b"answer", number, chosen(is_refused, place, 0));
+            print_answer(number, chosen(is_refused, place, 0));
         }
         2 => {
             let part = held(calls, place, k);

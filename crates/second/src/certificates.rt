@@ -1,17 +1,16 @@
 // What is printed of certificates.
-use crate::lines::print;
+use crate::lines::print_answer;
 use crate::lines::print_line;
-use crate::lines::print_number;
 use crate::lines::print_pair;
-use second_filings::arith::LARGEST;
-use second_values::certificates::cell_count;
-use second_values::certificates::cell_value;
-use second_values::certificates::sums_of;
+use second_valuation::arith::LARGEST;
+use second_valuation::certificates::cell_count;
+use second_valuation::certificates::cell_value;
+use second_valuation::certificates::sums_of;
 
 // The answer, and the cells with their values; none on a refusal.
 pub fn print_certificates(s: &[u8]) {
     let sums = sums_of(s);
-    print_pair(b"answer", sums.number, sums.place);
+    print_answer(sums.number, sums.place);
     if sums.number == 0 {
         let list = sums.list;
         print_cells(&list);
@@ -26,9 +25,7 @@ fn print_cells(sums: &[u64]) {
     for cell in 601..646 {
         let value = cell_value(sums, cell);
         if value != LARGEST {
-            print(b"cell");
-            print_number(cell);
-            print_line(b"", value);
+            print_pair(b"cell", cell, value);
         }
     }
 }

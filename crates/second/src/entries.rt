@@ -4,8 +4,8 @@ use crate::calls::Call;
 use crate::calls::print_call;
 use crate::lines::print_line;
 use libc::STDIN_FILENO;
-use second_filings::arith::LARGEST;
-use second_filings::bytes::number;
+use second_valuation::arith::LARGEST;
+use second_valuation::bytes::number;
 
 // Prints what the call of each entry answers.
 pub fn print_entries(survivals: &[u64]) {

@@ -1,19 +1,19 @@
 // What is printed of sub-balances, of a filing or of a book.
 use crate::lines::print;
-use crate::lines::print_line;
+use crate::lines::print_first;
+use crate::lines::print_last;
 use crate::lines::print_number;
 use libc::STDOUT_FILENO;
-use second_filings::arith::add;
-use second_filings::arith::mul;
-use second_filings::arith::sub;
-use second_values::pricing::total;
-use second_values::pricing::value_of;
-use second_values::shares::SubBalance;
+use second_valuation::arith::add;
+use second_valuation::arith::mul;
+use second_valuation::arith::sub;
+use second_valuation::pricing::total;
+use second_valuation::pricing::value_of;
+use second_valuation::shares::SubBalance;
 
 // A name, a place and its balance, coupon, months and penalty.
 pub fn print_part(name: &[u8], place: u64, part: SubBalance) {
-    print(name);
-    print_number(place);
+    print_first(name, place);
     print_number(part.balance);
     print_number(part.coupon);
     print_number(part.months);
@@ -38,7 +38,7 @@ pub fn print_totals(s: &[u8], survivals: &[u64], name: &[u8], parts: [SubBalance
         print_number(total(s, survivals, parts, 0, 24, scenario, false));
         print_number(total(s, survivals, parts, 0, 24, scenario, true));
         print_number(total(s, survivals, parts, 24, 36, scenario, false));
-        print_line(b"", total(s, survivals, parts, 24, 36, scenario, true));
+        print_last(total(s, survivals, parts, 24, 36, scenario, true));
     }
 }
 

@@ -3,44 +3,39 @@ use crate::figures::print_bounds;
 use crate::figures::print_part;
 use crate::figures::print_totals;
 use crate::lines::print;
-use crate::lines::print_line;
+use crate::lines::print_answer;
+use crate::lines::print_first;
+use crate::lines::print_last;
 use crate::lines::print_number;
 use crate::lines::print_pair;
-use second_filings::arith::chosen;
-use second_filings::arith::sub;
-use second_filings::refusals::Refusal;
-use second_filings::refusals::refusal_of;
-use second_values::shares::sub_balances;
+use second_valuation::arith::chosen;
+use second_valuation::arith::sub;
+use second_valuation::refusals::refusal_of;
+use second_valuation::shares::sub_balances;
 
-// Values a filing with a list of `length` numbers.
-pub fn print_valuing(s: &[u8], survivals: &[u64], length: u64) {
-    let refusal = refusal_of(s, length, 568);
-    print_pair(b"answer", refusal.number, refusal.place);
-    if refusal.number == 0 {
-        print_values(s, survivals);
+// How many numbers the values of a filing are, and how many places its sub-balances.
+pub const NUMBERS: u64 = 568;
+
+pub const PLACES: u64 = 36;
+
+// Values a filing, with a list of `length` numbers of which NUMBERS are needed, or splits it, with a
+// list of `length` places of which PLACES are needed; what is left of the list stands last.
+pub fn print_list(s: &[u8], survivals: &[u64], length: u64, needed: u64) {
+    let refusal = refusal_of(s, length, needed);
+    print_answer(refusal.number, refusal.place);
+    let written = chosen(refusal.number == 0, needed, 0);
+    match written {
+        NUMBERS => print_values(s, survivals),
+        PLACES => print_shares(s),
+        _ => {}
     }
-    print_rest(refusal, length, 568);
-}
-
-// Splits a filing into a list of `length` places.
-pub fn print_splitting(s: &[u8], length: u64) {
-    let refusal = refusal_of(s, length, 36);
-    print_pair(b"answer", refusal.number, refusal.place);
-    if refusal.number == 0 {
-        print_shares(s);
-    }
-    print_rest(refusal, length, 36);
-}
-
-// What is left of a list of `length` places, of which acceptance writes `needed`.
-fn print_rest(refusal: Refusal, length: u64, needed: u64) {
-    let rest = sub(length, chosen(refusal.number == 0, needed, 0));
+    let rest = sub(length, written);
     print_pair(b"rest", rest, rest);
 }
 
 // The listing of up to 65,536 bytes.
 pub fn print_listing(s: &[u8], survivals: &[u64]) {
-    let refusal = refusal_of(s, 568, 568);
+    let refusal = refusal_of(s, 0, 0);
     if 65536 < s.len() {
         print(b"too long\n");
     } else if refusal.number == 0 {
@@ -57,8 +52,7 @@ fn print_values(s: &[u8], survivals: &[u64]) {
     for place in 0..36usize {
         let part = parts[place];
         if part.balance != 0 {
-            print(b"value");
-            print_number(place as u64);
+            print_first(b"value", place as u64);
             print_number(part.balance);
             print_bounds(s, survivals, part);
         }
@@ -74,7 +68,7 @@ fn print_shares(s: &[u8]) {
         let part = parts[place];
         if part.balance | part.coupon | part.months | part.penalty != 0 {
             print_part(b"share", place as u64, part);
-            print_line(b"", 14);
+            print_last(14);
         }
     }
 }

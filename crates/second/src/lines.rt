@@ -1,18 +1,32 @@
 // Lines of text and numbers on standard output.
 use libc::STDOUT_FILENO;
 
-// A name and two numbers: those of an answer are its number and its place, both 0 on acceptance;
-// those of a rest are how many places of a list are past the written ones, and how many of these
-// are as they were.
-pub fn print_pair(name: &[u8], a: u64, b: u64) {
-    print(name);
-    print_number(a);
-    print_line(b"", b);
+// An answer: a refusal's number and its place, both 0 on acceptance.
+pub fn print_answer(number: u64, place: u64) {
+    print_pair(b"answer", number, place);
 }
 
-// A text, a number and the line's end.
-pub fn print_line(text: &[u8], n: u64) {
-    print(text);
+// A name and two numbers. Those of a rest are how many places of a list are past the written ones,
+// and how many of these are as they were.
+pub fn print_pair(name: &[u8], a: u64, b: u64) {
+    print_first(name, a);
+    print_last(b);
+}
+
+// A name and a number.
+pub fn print_line(name: &[u8], n: u64) {
+    print(name);
+    print_last(n);
+}
+
+// A name and the first number of a line.
+pub fn print_first(name: &[u8], n: u64) {
+    print(name);
+    print_number(n);
+}
+
+// The last number of a line.
+pub fn print_last(n: u64) {
     print_number(n);
     print(b"\n");
 }

@@ -10,6 +10,6 @@ mod lines;
 mod searches;
 
 fn main() {
-    let survivals = second_values::survival::survivals();
+    let survivals = second_valuation::survival::survivals();
     entries::print_entries(&survivals);
 }

@@ -1,14 +1,15 @@
 // What is printed of a search for a tier. The input has what is earned, what is lost and the cost,
 // 8 bytes each, and a filing, whose tiers are searched.
 use crate::lines::print;
-use crate::lines::print_line;
+use crate::lines::print_answer;
+use crate::lines::print_first;
+use crate::lines::print_last;
 use crate::lines::print_number;
-use crate::lines::print_pair;
-use second_filings::bytes::number;
-use second_filings::cells::entry;
-use second_filings::refusals::refusal_of;
-use second_values::withdrawals::edges_tried;
-use second_values::withdrawals::withdrawal;
+use second_valuation::bytes::number;
+use second_valuation::cells::entry;
+use second_valuation::refusals::refusal_of;
+use second_valuation::withdrawals::edges_tried;
+use second_valuation::withdrawals::withdrawal;
 
 // The largest parts of a gain, and the largest cost, that are searched with.
 const MOST_GAIN: u64 = 10000000000000000;
@@ -32,14 +33,13 @@ pub fn print_search(s: &[u8], survivals: &[u64]) {
 fn print_found(s: &[u8], survivals: &[u64], earned: u64, lost: u64, cost: u64) {
     let refusal = refusal_of(s, 0, 0);
     if refusal.number != 0 {
-        print_pair(b"answer", refusal.number, refusal.place);
+        print_answer(refusal.number, refusal.place);
     } else if (MOST_GAIN < earned) | (MOST_GAIN < lost) | (MOST_COST < cost) {
         print(b"too large\n");
     } else {
         let withdrawal = withdrawal(s, earned, lost, cost);
-        print(b"tier");
-        print_number(withdrawal);
+        print_first(b"tier", withdrawal);
         print_number(entry(survivals, withdrawal));
-        print_line(b"", edges_tried(s, earned, lost, cost));
+        print_last(edges_tried(s, earned, lost, cost));
     }
 }

@@ -5,11 +5,11 @@ use Rattle.second.proofs.certificates.print_cells.Statement.{statement}
 use Rattle.second.proofs.certificates.print_cells.Tie as tie
 
 abbrev Inv-loop : tie.InvT-loop
-Inv-loop sums cell₀ t5 t6 cell = Unit {0}
+Inv-loop sums cell₀ t5 cell = Unit {0}
 
 abbrev μ-loop : tie.MeasureT-loop
-μ-loop sums cell₀ t5 t6 cell = 646 - cell
+μ-loop sums cell₀ t5 cell = 646 - cell
 
 pub print-cells-spec : {M : Type 1} → statement M
 print-cells-spec =
-    tie.close (tie.spec Inv-loop μ-loop (λ c. search needs) (λ c κs. tt) (λ c κs. tt) (λ c. tt) (λ c κs. tt) (λ c. search needs) (λ c κs. tt) (λ c κs. tt) (λ c. search needs) (λ c κs. tt) (λ c. search needs) (λ c. search needs) (λ c. tt) (λ c. tt))
+    tie.close (tie.spec Inv-loop μ-loop (λ c. search needs) (λ c κs. tt) (λ c κs. tt) (λ c. tt) (λ c κs. tt) (λ c. search needs) (λ c κs. tt) (λ c. search needs) (λ c. search needs) (λ c. tt) (λ c. tt))
