@@ -91,7 +91,7 @@ pub fn retail_rate(s: &[u8], column: u64, month: u64) -> u64 {
 
 // The n-th number, from 1 on, of the sheet of a kind.
 pub fn sheet_number(s: &[u8], kind: u64, n: u64) -> u64 {
-    word(s, sheet(s, kind), add(2, mul(2, n)))
+    word(s, sheet(s, kind), add(n, 1) << 1)
 }
 
 // The offset of the record of a kind that a filing has once; the end where it lacks one.

@@ -1,7 +1,6 @@
 // Why a filing is refused: the number of the refusal and its place. Number 0 is none.
 use crate::arith::add;
 use crate::arith::chosen;
-use crate::arith::mul;
 use crate::bytes::number;
 use crate::bytes::word;
 use crate::cells::BALANCE;
@@ -112,14 +111,14 @@ fn sheet_fault(s: &[u8], at: u64, kind: u64, count: u64, other: u64) -> u64 {
     let mut fault = chosen(is_rate_over(s, at, count), 5, 0);
     fault = chosen(found(s, at, other, 0, 0) < at, 12, fault);
     fault = chosen(found(s, at, kind, 0, 0) < at, 4, fault);
-    chosen(word(s, at, 0) != add(2, mul(2, count)), 2, fault)
+    chosen(word(s, at, 0) != add(count, 1) << 1, 2, fault)
 }
 
 // Fault 2, 4 or 11 of the tiers.
 fn tiers_fault(s: &[u8], at: u64) -> u64 {
     let mut fault = chosen(are_disordered(s, at), 11, 0);
     fault = chosen(found(s, at, TIERS, 0, 0) < at, 4, fault);
-    let length = add(4, mul(4, word(s, at, 4)));
+    let length = add(4, word(s, at, 4) << 2);
     chosen(word(s, at, 0) != length, 2, fault)
 }
 
@@ -127,7 +126,7 @@ fn tiers_fault(s: &[u8], at: u64) -> u64 {
 fn is_rate_over(s: &[u8], at: u64, count: u64) -> bool {
     let mut is_over = false;
     for k in 0..count {
-        is_over = is_over | (2500 < word(s, at, add(4, mul(2, k))));
+        is_over = is_over | (2500 < word(s, at, add(k, 2) << 1));
     }
     is_over
 }

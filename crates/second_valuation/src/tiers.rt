@@ -4,7 +4,6 @@
 use crate::arith::add;
 use crate::arith::chosen;
 use crate::arith::least;
-use crate::arith::mul;
 use crate::arith::sub;
 use crate::bytes::word;
 use crate::cells::entry;
@@ -39,8 +38,8 @@ pub fn tier_count(s: &[u8], at: u64) -> u64 {
 
 // What tier k, from 0 on, has.
 pub fn tier_number(s: &[u8], at: u64, k: u64, what: u64) -> u64 {
-    let n = add(mul(2, k), what);
-    let own = word(s, at, add(6, mul(2, n)));
+    let n = add(k << 1, what);
+    let own = word(s, at, add(6, n << 1));
     chosen(at < s.len() as u64, own, entry(&HOUSE, n))
 }
 

@@ -8,7 +8,7 @@ abbrev Inv-loop : tie.InvT-loop
 Inv-loop sums cell value₀ i₀ value i = Unit {0}
 
 abbrev μ-loop : tie.MeasureT-loop
-μ-loop sums cell value₀ i₀ value i = 27 - i
+μ-loop sums cell value₀ i₀ value i = 36 - i
 
 pub cell-value-spec : {M : Type 1} → statement M
 cell-value-spec =
