@@ -16,7 +16,7 @@ use second_valuation::bytes::number;
 use second_valuation::refusals::refusal_of;
 use second_valuation::shares::SubBalance;
 
-// The answer of the opening, and what each call answers where the book is open.
+// Opens the book of an input and keeps it; nothing for an input that is cut short.
 pub fn print_book(s: &[u8], survivals: &[u64]) {
     let n = number(s, 0, 0, 8) as usize;
     if 8 <= s.len() {
@@ -27,6 +27,7 @@ pub fn print_book(s: &[u8], survivals: &[u64]) {
     }
 }
 
+// The answer of the opening under a filing, and what each call answers.
 fn print_opened(filing: &[u8], calls: &[u8], survivals: &[u64]) {
     let refusal = refusal_of(filing, 0, 0);
     print_answer(refusal.number, refusal.place);

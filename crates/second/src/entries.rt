@@ -44,7 +44,7 @@ fn next_number() -> u64 {
     }
 }
 
-// Reads an input into the first bytes of the room, and prints what the call answers.
+// Has an input read into the first bytes of the room, and the call answered.
 fn print_input(room: &mut [u8], survivals: &[u64], call: Call, length: u64) {
     let n = length as usize;
     if n <= room.len() {
@@ -52,6 +52,7 @@ fn print_input(room: &mut [u8], survivals: &[u64], call: Call, length: u64) {
     }
 }
 
+// Reads an input and prints what the call answers.
 fn print_read(input: &mut [u8], survivals: &[u64], call: Call) {
     let n = io::read_full(STDIN_FILENO, input);
     print_call(&input[..n], survivals, call);

@@ -31,11 +31,13 @@ pub fn print_last(n: u64) {
     print(b"\n");
 }
 
+// A space and a number.
 pub fn print_number(n: u64) {
     print(b" ");
     io::print_decimal(STDOUT_FILENO, n);
 }
 
+// A text as it is.
 pub fn print(text: &[u8]) {
     io::write_all(STDOUT_FILENO, text);
 }

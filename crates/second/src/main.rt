@@ -9,6 +9,7 @@ mod filings;
 mod lines;
 mod searches;
 
+// Prints what each entry's call answers.
 fn main() {
     let survivals = second_valuation::survival::survivals();
     entries::print_entries(&survivals);

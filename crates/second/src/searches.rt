@@ -16,7 +16,7 @@ const MOST_GAIN: u64 = 10000000000000000;
 
 const MOST_COST: u64 = 100000000000000;
 
-// The annual withdrawal, its survival and the number of edges tried; or why there is none.
+// The answer of a search; nothing for an input that is cut short.
 pub fn print_search(s: &[u8], survivals: &[u64]) {
     if 24 <= s.len() {
         let earned = number(s, 0, 0, 8);
@@ -30,6 +30,7 @@ pub fn print_search(s: &[u8], survivals: &[u64]) {
     }
 }
 
+// The annual withdrawal, its survival and the number of edges tried; or why there is none.
 fn print_found(s: &[u8], survivals: &[u64], earned: u64, lost: u64, cost: u64) {
     let refusal = refusal_of(s, 0, 0);
     if refusal.number != 0 {

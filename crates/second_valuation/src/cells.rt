@@ -1,9 +1,7 @@
 // The cells of Schedule CMR that the valuation reads: nine balances, ascending, each with its WAC
 // (coupon), its WARM (remaining months), its column and the months of its row.
 use crate::arith::LARGEST;
-use crate::arith::add;
 use crate::arith::chosen;
-use crate::arith::mul;
 use crate::arith::sub;
 use crate::bytes::letter;
 
@@ -20,70 +18,28 @@ const FIRST_MONTH: u64 = 4;
 
 const LAST_MONTH: u64 = 5;
 
-const NINE: [u64; 54] = [
-    601,
-    605,
-    608,
-    1,
-    1,
-    3,
-    602,
-    606,
-    609,
-    2,
-    1,
-    3,
-    603,
-    607,
-    610,
-    3,
-    1,
-    3,
-    615,
-    619,
-    622,
-    1,
-    4,
-    12,
-    616,
-    620,
-    623,
-    2,
-    4,
-    12,
-    617,
-    621,
-    624,
-    3,
-    4,
-    12,
-    631,
-    634,
-    636,
-    2,
-    13,
-    36,
-    632,
-    635,
-    637,
-    3,
-    13,
-    36,
-    641,
-    643,
-    644,
-    3,
-    37,
-    120,
+// The nine, a line each.
+const NINE: [[u64; 6]; 9] = [
+    [601, 605, 608, 1, 1, 3],
+    [602, 606, 609, 2, 1, 3],
+    [603, 607, 610, 3, 1, 3],
+    [615, 619, 622, 1, 4, 12],
+    [616, 620, 623, 2, 4, 12],
+    [617, 621, 624, 3, 4, 12],
+    [631, 634, 636, 2, 13, 36],
+    [632, 635, 637, 3, 13, 36],
+    [641, 643, 644, 3, 37, 120],
 ];
 
+// The cell of the total.
 pub const TOTAL: u64 = 645;
 
 const MOST_COUPON: u64 = 1500;
 
 // What is known of the k-th of the nine, from 0 on; 0 past the last.
 pub fn known(k: u64, what: u64) -> u64 {
-    entry(&NINE, add(mul(k, 6), what))
+    let known = NINE[k as usize % 9][what as usize % 6];
+    chosen(k < 9, known, 0)
 }
 
 // Whether a WARM is within the row of the k-th cell.

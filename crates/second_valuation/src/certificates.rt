@@ -49,17 +49,19 @@ pub fn sums_of(s: &[u8]) -> Sums {
 // The sums with certificate k, or its refusal.
 fn taken(s: &[u8], k: u64, sums: Sums) -> Sums {
     let at = add(24, k << 6);
+    let today = date(s, 0);
+    let issue = date(s, at);
+    let maturity = date(s, add(at, 24));
     let balance = number(s, at, 48, 8);
     let coupon = number(s, at, 56, 8);
-    let maturity = date(s, add(at, 24));
-    let months = months_between(date(s, 0), maturity);
-    let i = position(months_between(date(s, at), maturity), months) << 2;
-    let mut list = sums.list;
-    list = raised(list, ALL, balance);
-    list = raised(list, i, balance);
-    list = raised(list, i | 1, mul(balance, coupon));
-    list = raised(list, i | 2, mul(balance, months));
-    let fault = fault(s, at, months, entry(&list, i));
+    let months = months_between(today, maturity);
+    let i = position(months_between(issue, maturity), months) << 2;
+    let before = sums.list;
+    let list = added(before, i, balance, coupon, months);
+    let mut fault = chosen(MOST_BALANCE < entry(&list, i), 5, 0);
+    fault = chosen(120 < months, 15, fault);
+    fault = date_fault(today, issue, maturity, fault);
+    fault = chosen((MOST_BALANCE < balance) | (MOST_COUPON < coupon), 5, fault);
     Sums {
         number: fault,
         place: chosen(fault == 0, 0, k),
@@ -67,18 +69,12 @@ fn taken(s: &[u8], k: u64, sums: Sums) -> Sums {
     }
 }
 
-// The first fault of the certificate at `at`, with its remaining months and the balance that its
-// cell has with it; 0 where it has none.
-fn fault(s: &[u8], at: u64, months: u64, in_cell: u64) -> u64 {
-    let today = date(s, 0);
-    let issue = date(s, at);
-    let maturity = date(s, add(at, 24));
-    let mut fault = chosen(MOST_BALANCE < in_cell, 5, 0);
-    fault = chosen(120 < months, 15, fault);
-    fault = chosen((maturity <= today) | (today < issue), 14, fault);
-    fault = chosen((today == 0) | (issue == 0) | (maturity == 0), 13, fault);
-    fault = chosen(MOST_COUPON < number(s, at, 56, 8), 5, fault);
-    chosen(MOST_BALANCE < number(s, at, 48, 8), 5, fault)
+// Fault 13 of a certificate's dates that are no days, 14 where it is not issued by the valuation date
+// or does not mature after it; else one that is tested later.
+fn date_fault(today: u64, issue: u64, maturity: u64, later: u64) -> u64 {
+    let is_outstanding = (issue <= today) & (today < maturity);
+    let fault = chosen(is_outstanding, later, 14);
+    chosen((today == 0) | (issue == 0) | (maturity == 0), 13, fault)
 }
 
 // Where a certificate belongs among the nine cells: by its remaining months a row, by its original
@@ -89,6 +85,14 @@ fn position(original: u64, remaining: u64) -> u64 {
     let row = chosen(12 < remaining, longer, shorter);
     let column = chosen(12 < original, chosen(36 < original, 2, 1), 0);
     add(row, column)
+}
+
+// The list with a certificate added to the sums of the cell that stand from place i on.
+fn added(list: [u64; 37], i: u64, balance: u64, coupon: u64, months: u64) -> [u64; 37] {
+    let in_all = raised(list, ALL, balance);
+    let in_cell = raised(in_all, i, balance);
+    let with_coupon = raised(in_cell, i | 1, mul(balance, coupon));
+    raised(with_coupon, i | 2, mul(balance, months))
 }
 
 // The list with one of its numbers raised.

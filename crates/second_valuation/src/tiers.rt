@@ -6,7 +6,6 @@ use crate::arith::chosen;
 use crate::arith::least;
 use crate::arith::sub;
 use crate::bytes::word;
-use crate::cells::entry;
 
 // What a tier has, in this order.
 pub const EDGE: u64 = 0;
@@ -14,21 +13,14 @@ pub const EDGE: u64 = 0;
 pub const WITHDRAWAL: u64 = 1;
 
 // The house's tiers: the edge 0 stands for every ratio below 50.
-const HOUSE: [u64; 14] = [
-    0,
-    40,
-    50,
-    50,
-    80,
-    75,
-    100,
-    130,
-    115,
-    320,
-    130,
-    460,
-    150,
-    550,
+const HOUSE: [[u64; 2]; 7] = [
+    [0, 40],
+    [50, 50],
+    [80, 75],
+    [100, 130],
+    [115, 320],
+    [130, 460],
+    [150, 550],
 ];
 
 // The number of the tiers at `at`, which is the end where the house's count.
@@ -38,9 +30,9 @@ pub fn tier_count(s: &[u8], at: u64) -> u64 {
 
 // What tier k, from 0 on, has.
 pub fn tier_number(s: &[u8], at: u64, k: u64, what: u64) -> u64 {
-    let n = add(k << 1, what);
-    let own = word(s, at, add(6, n << 1));
-    chosen(at < s.len() as u64, own, entry(&HOUSE, n))
+    let own = word(s, at, add(6, add(k << 1, what) << 1));
+    let house = HOUSE[k as usize % 7][what as usize % 2];
+    chosen(at < s.len() as u64, own, house)
 }
 
 // Whether the record at `at` has no tier or more than 16, a first edge other than 0, or a tier out
