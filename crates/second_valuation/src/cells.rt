@@ -36,10 +36,9 @@ pub const TOTAL: u64 = 645;
 
 const MOST_COUPON: u64 = 1500;
 
-// What is known of the k-th of the nine, from 0 on; 0 past the last.
+// What is known of the k-th of the nine, from 0 on; past the last it begins anew.
 pub fn known(k: u64, what: u64) -> u64 {
-    let known = NINE[k as usize % 9][what as usize % 6];
-    chosen(k < 9, known, 0)
+    NINE[k as usize % 9][what as usize % 6]
 }
 
 // Whether a WARM is within the row of the k-th cell.

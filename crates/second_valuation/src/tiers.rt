@@ -6,22 +6,16 @@ use crate::arith::chosen;
 use crate::arith::least;
 use crate::arith::sub;
 use crate::bytes::word;
+use crate::cells::entry;
 
 // What a tier has, in this order.
 pub const EDGE: u64 = 0;
 
 pub const WITHDRAWAL: u64 = 1;
 
-// The house's tiers: the edge 0 stands for every ratio below 50.
-const HOUSE: [[u64; 2]; 7] = [
-    [0, 40],
-    [50, 50],
-    [80, 75],
-    [100, 130],
-    [115, 320],
-    [130, 460],
-    [150, 550],
-];
+// The house's tiers, each as edge × 1,000 + annual withdrawal: the edge 0 stands for every ratio below
+// 50.
+const HOUSE: [u64; 7] = [40, 50050, 80075, 100130, 115320, 130460, 150550];
 
 // The number of the tiers at `at`, which is the end where the house's count.
 pub fn tier_count(s: &[u8], at: u64) -> u64 {
@@ -31,7 +25,8 @@ pub fn tier_count(s: &[u8], at: u64) -> u64 {
 // What tier k, from 0 on, has.
 pub fn tier_number(s: &[u8], at: u64, k: u64, what: u64) -> u64 {
     let own = word(s, at, add(6, add(k << 1, what) << 1));
-    let house = HOUSE[k as usize % 7][what as usize % 2];
+    let tier = entry(&HOUSE, k);
+    let house = chosen(what == EDGE, tier / 1000, tier % 1000);
     chosen(at < s.len() as u64, own, house)
 }
 
