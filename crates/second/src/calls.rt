@@ -1,12 +1,13 @@
 // The calls by their numbers.
-use second_numbers::arith::least;
-use second_output::book::print_book;
-use second_output::certificates::print_certificates;
-use second_output::filings::print_listing;
-use second_output::filings::print_splitting;
-use second_output::filings::print_valuing;
-use second_output::lines::print_line;
-use second_output::searches::print_search;
+use crate::book::print_book;
+use crate::certificates::print_certificates;
+use crate::filings::NUMBERS;
+use crate::filings::PLACES;
+use crate::filings::print_list;
+use crate::filings::print_listing;
+use crate::lines::print_line;
+use crate::searches::print_search;
+use second_valuation::arith::least;
 
 // A call, the length of its list of numbers and that of its list of places.
 pub struct Call {
@@ -21,8 +22,8 @@ pub fn print_call(s: &[u8], survivals: &[u64], call: Call) {
     let number = call.number;
     match number {
         0 => {
-            print_valuing(s, survivals, least(call.numbers, 600));
-            print_splitting(s, least(call.places, 40));
+            print_list(s, survivals, least(call.numbers, 600), NUMBERS);
+            print_list(s, survivals, least(call.places, 40), PLACES);
         }
         1 => print_listing(s, survivals),
         2 => print_search(s, survivals),

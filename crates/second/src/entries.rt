@@ -2,10 +2,10 @@
 // numbers, that of its list of places and that of its input, 4 bytes each, and the input.
 use crate::calls::Call;
 use crate::calls::print_call;
+use crate::lines::print_line;
 use libc::STDIN_FILENO;
-use second_numbers::arith::LARGEST;
-use second_numbers::bytes::double;
-use second_output::lines::print_line;
+use second_valuation::arith::LARGEST;
+use second_valuation::bytes::number;
 
 // Prints what the call of each entry answers.
 pub fn print_entries(survivals: &[u64]) {
@@ -37,10 +37,14 @@ fn print_entry(survivals: &[u64], i: u64) -> bool {
 fn next_number() -> u64 {
     let mut bytes = [0u8; 4];
     let n = io::read_full(STDIN_FILENO, &mut bytes);
-    if n < 4 { LARGEST } else { double(&bytes, 0) }
+    if n < 4 {
+        LARGEST
+    } else {
+        number(&bytes, 0, 0, 4)
+    }
 }
 
-// Reads an input into the first bytes of the room, and prints what the call answers.
+// Has an input read into the first bytes of the room, and the call answered.
 fn print_input(room: &mut [u8], survivals: &[u64], call: Call, length: u64) {
     let n = length as usize;
     if n <= room.len() {
@@ -48,6 +52,7 @@ fn print_input(room: &mut [u8], survivals: &[u64], call: Call, length: u64) {
     }
 }
 
+// Reads an input and prints what the call answers.
 fn print_read(input: &mut [u8], survivals: &[u64], call: Call) {
     let n = io::read_full(STDIN_FILENO, input);
     print_call(&input[..n], survivals, call);

@@ -1,9 +1,16 @@
 // A second valuation, written on its own from the papers, to compare the library with: it reads the
 // entries that the test program reads, and prints the same bytes.
+mod book;
 mod calls;
+mod certificates;
 mod entries;
+mod figures;
+mod filings;
+mod lines;
+mod searches;
 
+// Prints what each entry's call answers.
 fn main() {
-    let survivals = second_numbers::survival::survivals();
+    let survivals = second_valuation::survival::survivals();
     entries::print_entries(&survivals);
 }

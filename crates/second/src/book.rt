@@ -1,0 +1,70 @@
+// What is printed of a book. The input has the length of a filing, 8 bytes, the filing, and the calls.
+use crate::figures::print_bounds;
+use crate::figures::print_part;
+use crate::figures::print_totals;
+use crate::lines::print_answer;
+use crate::lines::print_line;
+use second_valuation::arith::add;
+use second_valuation::arith::chosen;
+use second_valuation::book::ACTION;
+use second_valuation::book::PLACE;
+use second_valuation::book::field;
+use second_valuation::book::held;
+use second_valuation::book::held_places;
+use second_valuation::book::is_refused;
+use second_valuation::bytes::number;
+use second_valuation::refusals::refusal_of;
+use second_valuation::shares::SubBalance;
+
+// Opens the book of an input and keeps it; nothing for an input that is cut short.
+pub fn print_book(s: &[u8], survivals: &[u64]) {
+    let n = number(s, 0, 0, 8) as usize;
+    if 8 <= s.len() {
+        let rest = &s[8..];
+        if n <= rest.len() {
+            print_opened(&rest[..n], &rest[n..], survivals);
+        }
+    }
+}
+
+// The answer of the opening under a filing, and what each call answers.
+fn print_opened(filing: &[u8], calls: &[u8], survivals: &[u64]) {
+    let refusal = refusal_of(filing, 0, 0);
+    print_answer(refusal.number, refusal.place);
+    let count = chosen(refusal.number == 0, calls.len() as u64 / 48, 0);
+    for k in 0..count {
+        print_call(filing, calls, survivals, k);
+    }
+}
+
+// What call k answers: whether a change is refused, a place, or the totals.
+fn print_call(filing: &[u8], calls: &[u8], survivals: &[u64], k: u64) {
+    let place = field(calls, k, PLACE);
+    match field(calls, k, ACTION) {
+        0 | 1 => {
+            let is_refused = is_refused(calls, k);
+            let number = chosen(is_refused, 17, 0);
+            print_answer(number, chosen(is_refused, place, 0));
+        }
+        2 => {
+            let part = held(calls, place, k);
+            print_part(b"place", place, part);
+            print_bounds(filing, survivals, part);
+        }
+        _ => {
+            let parts = held_places(calls, k);
+            print_line(b"balance", balance_total(parts));
+            print_totals(filing, survivals, b"total ", parts);
+        }
+    }
+}
+
+// The sum of the balances of all places.
+fn balance_total(parts: [SubBalance; 36]) -> u64 {
+    let mut sum = 0;
+    for place in 0..36usize {
+        let part = parts[place];
+        sum = add(sum, part.balance);
+    }
+    sum
+}

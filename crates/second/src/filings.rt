@@ -1,0 +1,74 @@
+// What is printed of a filing: its values, its sub-balances and its listing.
+use crate::figures::print_bounds;
+use crate::figures::print_part;
+use crate::figures::print_totals;
+use crate::lines::print;
+use crate::lines::print_answer;
+use crate::lines::print_first;
+use crate::lines::print_last;
+use crate::lines::print_number;
+use crate::lines::print_pair;
+use second_valuation::arith::chosen;
+use second_valuation::arith::sub;
+use second_valuation::refusals::refusal_of;
+use second_valuation::shares::sub_balances;
+
+// How many numbers the values of a filing are, and how many places its sub-balances.
+pub const NUMBERS: u64 = 568;
+
+pub const PLACES: u64 = 36;
+
+// Values a filing, with a list of `length` numbers of which NUMBERS are needed, or splits it, with a
+// list of `length` places of which PLACES are needed; what is left of the list stands last.
+pub fn print_list(s: &[u8], survivals: &[u64], length: u64, needed: u64) {
+    let refusal = refusal_of(s, length, needed);
+    print_answer(refusal.number, refusal.place);
+    let written = chosen(refusal.number == 0, needed, 0);
+    match written {
+        NUMBERS => print_values(s, survivals),
+        PLACES => print_shares(s),
+        _ => {}
+    }
+    let rest = sub(length, written);
+    print_pair(b"rest", rest, rest);
+}
+
+// The listing of up to 65,536 bytes.
+pub fn print_listing(s: &[u8], survivals: &[u64]) {
+    let refusal = refusal_of(s, 0, 0);
+    if 65536 < s.len() {
+        print(b"too long\n");
+    } else if refusal.number == 0 {
+        let parts = sub_balances(s);
+        print_totals(s, survivals, b"", parts);
+    } else {
+        print_pair(b"refused", refusal.number, refusal.place);
+    }
+}
+
+// The balance and the values of each place whose balance is not zero, and the totals.
+fn print_values(s: &[u8], survivals: &[u64]) {
+    let parts = sub_balances(s);
+    for place in 0..36usize {
+        let part = parts[place];
+        if part.balance != 0 {
+            print_first(b"value", place as u64);
+            print_number(part.balance);
+            print_bounds(s, survivals, part);
+        }
+    }
+    print_totals(s, survivals, b"total ", parts);
+}
+
+// Each place's balance, coupon, months and penalty, and that its fourteen values are 0, where one of
+// the four is not.
+fn print_shares(s: &[u8]) {
+    let parts = sub_balances(s);
+    for place in 0..36usize {
+        let part = parts[place];
+        if part.balance | part.coupon | part.months | part.penalty != 0 {
+            print_part(b"share", place as u64, part);
+            print_last(14);
+        }
+    }
+}

@@ -1,0 +1,57 @@
+// How much of a balance stays on in a month that is not the last, from the gain of withdrawing and
+// its cost, n months before maturity. Coupon c in thousandths, penalty p and shifted retail rate r as
+// in the filing. What the gain takes off stands apart, so that no figure is negative.
+use crate::arith::add;
+use crate::arith::chosen;
+use crate::arith::least;
+use crate::arith::mul;
+use crate::arith::sub;
+use crate::cells::entry;
+use crate::records::TIERS;
+use crate::records::sheet;
+use crate::shares::SubBalance;
+use crate::tiers::EDGE;
+use crate::tiers::WITHDRAWAL;
+use crate::tiers::tier_count;
+use crate::tiers::tier_number;
+
+pub const WHOLE: u64 = 1000000000;
+
+// The survival q, in parts of 10^9, of a month with n months after it. The gain is
+// (120,000,000 - c × p) × r × n less 120,000 × c × p, the cost 12,000,000 × c × n; brokered money is
+// withdrawn where the gain is above the cost, and no money in the last month, where nothing is earned.
+pub fn month_survival(s: &[u8], survivals: &[u64], part: SubBalance, r: u64, n: u64) -> u64 {
+    let penalty = mul(part.coupon, part.penalty);
+    let earned = mul(sub(120000000, penalty), mul(r, n));
+    let lost = mul(120000, penalty);
+    let cost = mul(12000000, mul(part.coupon, n));
+    if part.brokered | (n == 0) {
+        chosen(add(cost, lost) < earned, 0, WHOLE)
+    } else {
+        entry(survivals, withdrawal(s, earned, lost, cost))
+    }
+}
+
+// The annual withdrawal of the tier that a gain, `earned` less `lost`, reaches.
+pub fn withdrawal(s: &[u8], earned: u64, lost: u64, cost: u64) -> u64 {
+    let at = sheet(s, TIERS);
+    tier_number(s, at, tier(s, at, earned, lost, cost), WITHDRAWAL)
+}
+
+// The number of edges at or above that tier; the house's lowest tier has no edge.
+pub fn edges_tried(s: &[u8], earned: u64, lost: u64, cost: u64) -> u64 {
+    let at = sheet(s, TIERS);
+    let tried = sub(tier_count(s, at), tier(s, at, earned, lost, cost));
+    chosen(at < s.len() as u64, tried, least(tried, 6))
+}
+
+// The highest of the tiers at `at`, from 0 on, whose edge the gain reaches; 0 where it reaches none.
+fn tier(s: &[u8], at: u64, earned: u64, lost: u64, cost: u64) -> u64 {
+    let mut tier = 0;
+    for k in 0..tier_count(s, at) {
+        let edge = mul(tier_number(s, at, k, EDGE), cost);
+        let is_reached = add(mul(100, lost), edge) <= mul(100, earned);
+        tier = chosen(is_reached, k, tier);
+    }
+    tier
+}
