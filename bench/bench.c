@@ -185,9 +185,10 @@ static void refused_inputs(void)
 
 static void amended_inputs(void)
 {
-    static const char *const name[3] = {"amendments: cell after cell", "amendments: cells in turn", "amendments: the last two alike"};
+    static const char *const name[5] = {"amendments: cell after cell", "amendments: cells in turn", "amendments: the last two alike",
+        "amendments: numbers that fall", "amendments: falling, spread"};
     static const size_t size[3] = {65536, 1048576, 16777216};
-    for (int shape = ONE_CELL; shape <= LAST_TWO_ALIKE; shape++)
+    for (int shape = ONE_CELL; shape <= FALLING_SPREAD; shape++)
         for (int i = 0; i < 3; i++) {
             struct input f = amendments(name[shape], size[i], (enum shape)shape);
             hostile_times(f, f.size, 5);

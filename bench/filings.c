@@ -103,11 +103,14 @@ struct input amendments(const char *name, size_t size, enum shape shape)
     struct input f = empty(name, size + 18);
     put_yields(&f, 100, 1);
     put_rates(&f, 300);
+    unsigned step = 65535 / (unsigned)(size / 18 / 44 + 1);
     for (unsigned i = 0; f.size + 36 <= size; i++)
-        if (shape == ONE_CELL)
-            put_amendment(&f, listed[i / 65535], i % 65535 + 1, 0, 0);
-        else
-            put_amendment(&f, listed[i % 44], i / 44 + 1, 0, 0);
+        switch (shape) {
+        case ONE_CELL: put_amendment(&f, listed[i / 65535], i % 65535 + 1, 0, 0); break;
+        case FALLING: put_amendment(&f, listed[i / 65535], 65535 - i % 65535, 0, 0); break;
+        case FALLING_SPREAD: put_amendment(&f, listed[i % 44], 65535 - i / 44 * step, 0, 0); break;
+        default: put_amendment(&f, listed[i % 44], i / 44 + 1, 0, 0);
+        }
     if (shape == LAST_TWO_ALIKE) {
         memcpy(f.bytes + f.size, f.bytes + f.size - 18, 18);
         f.size += 18;

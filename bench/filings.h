@@ -30,9 +30,10 @@ struct input hostile(const char *name, size_t size, int late, int fill);
 
 /*
  * Amendments up to `size` bytes, all of value 0, and sheets before them: each cell's 65,535 numbers before the next cell's (65,535 fill 1.1 MiB), the 44
- * cells in turn, or in turn with the last record twice, which is refused.
+ * cells in turn, or in turn with the last record twice, which is refused; and with numbers that fall, each cell's before the next cell's, or the 44 cells in
+ * turn with numbers spread over all 65,535.
  */
-enum shape { ONE_CELL, IN_TURN, LAST_TWO_ALIKE };
+enum shape { ONE_CELL, IN_TURN, LAST_TWO_ALIKE, FALLING, FALLING_SPREAD };
 struct input amendments(const char *name, size_t size, enum shape shape);
 
 /* A random filing, records in any order, some with a fault and some damaged, more than half of them accepted; and where the sequence starts. */
