@@ -28,7 +28,7 @@ use Rattle.filing.specs.Verdict.{sheetMissing}
 use Rattle.filled_cells.specs.declared.CellValue.{CellValue}
 use Rattle.certified.specs.Fit.{valueIn}
 use Rattle.certified.specs.Filed.{run, filedBodies}
-use Rattle.certified.proofs.RecordRunLaws.{offset, offset-last, offset-lt, search-none, search-hit}
+use Rattle.certified.proofs.RecordRunLaws.{offset, offset-last, offset-lt, search-hit}
 use Rattle.certified.proofs.CountLaws.{counting-none, counting-hit}
 use Rattle.certified.proofs.ListedLaws.{Listed, listed-rising}
 use Rattle.certified.proofs.FiledLaws.{noCell, filed-length, sized, cell-record, item-cell, item-yields, item-rates, cell-no-sheet, before-rates}
@@ -64,14 +64,6 @@ module _ (cells : List CellValue) (yields rates : ℕ → ℕ) (listed : Listed 
       let all = filed-length cells yields rates in
       rw (sym (offset-last bodies))
       (search-hit bodies (sized cells yields rates) (λ (at : ℕ). sameItem (recordItem made at) item) (length bodies) (omega arith) i (rw all h) e f)
-
-  item-none : (item : Item) → ((m : ℕ) → m < length cells + 2 → sameItem (recordItem made (offset bodies m)) item ≡ false)
-      → firstWith made item (length made) ≡ length made
-  unfolding firstWith
-  item-none item f =
-      let all = filed-length cells yields rates in
-      rw (sym (offset-last bodies))
-      (search-none bodies (sized cells yields rates) (λ (at : ℕ). sameItem (recordItem made at) item) (length bodies) (omega arith) (λ m l. f m (rw all at l)))
 
   before-end : (i : ℕ) → i < length cells + 2 → offset bodies i < length made
   before-end i h =

@@ -1,6 +1,6 @@
 -- The verdict on one record, and what holds of a record that has none of the faults but perhaps 16.
 -- Assumes nothing.
-use Prim.Native.Nat.{ℕ, suc, _+_, _*_, _≤_}
+use Prim.Native.Nat.{ℕ, suc, _+_, _≤_}
 use native.Mathlib.Omega.{arith}
 use mathlib.Core.Path.{_≡_, refl, ap, _∙_}
 use mathlib.Core.Bool.{Bool, true, false, _||_}
@@ -11,8 +11,7 @@ use lib.ListN.{length}
 use Rattle.answers.specs.Verdict.{Verdict, accepted, refused, refusedIf, firstRefusal, firstOf}
 use Rattle.answers.proofs.VerdictLaws.{first-passed, first-refused, first-none, condition-fails}
 use Rattle.fields.specs.Records.{recordLength, recordKind, recordValue, sheetNumber, nextRecord}
-use Rattle.records.specs.Kinds.{givesCell, amendmentKind, sheetOf, sheetKinds, sheetKind, sheetLength, tiersKind, dueLength}
-use Rattle.records.proofs.ItemLaws.{OfSheet}
+use Rattle.records.specs.Kinds.{givesCell, amendmentKind, sheetKind, tiersKind, dueLength}
 use Rattle.bodies.specs.Bodies.{valueLimit, overLimit}
 use Rattle.tier_faults.specs.TierFaults.{unsoundTiers}
 use Rattle.bodies.proofs.BodyLaws.{FitAmendment, value-within, numbers-within, amendment-within, amendment-fits}
@@ -86,18 +85,6 @@ module _ (s : List ℕ) (at : ℕ) where
   pub shaped-length : misshapen s at ≡ false → recordLength s at ≡ dueLength s at
   shaped-length h = eqb-true (recordLength s at) (dueLength s at) (not-false (eqb (recordLength s at) (dueLength s at)) h)
 
-  -- the length that a sheet of numbers is to have
-  sheet-due : (kind : ℕ) → OfSheet s at kind → (sheetKind kind .numbers ≡ 0 → ⊥) → dueLength s at ≡ 2 + 2 * sheetKind kind .numbers
-  unfolding sheetLength dueLength sheetOf sheetKinds sheetKind
-  sheet-due kind of some =
-      rw (of .kind-is)
-      (simp (
-        of .no-cell,
-        ne-eqb kind amendmentKind (of .no-amendment),
-        ne-eqb kind tiersKind (λ e. some (ap (λ (k : ℕ). sheetKind k .numbers) e)),
-        ne-eqb (sheetKind kind .numbers) 0 some,
-      ))
-
   -- a record that is not refused by them: no test passed
   pub faultless : plainVerdict s at .number ≡ 0 → Faultless s at
   unfolding plainVerdict shapeVerdict bodyVerdict firstOf
@@ -139,10 +126,3 @@ module _ (s : List ℕ) (at : ℕ) where
         amendment = λ e. amendment-fits s at (amendment-within s at (f .limited) e);
         tiers = tiers-load s at (f .loaded);
       }
-
-  -- a sound sheet of numbers ends within the bytes: its length, its kind and its numbers, 2 bytes each
-  pub sheet-within : (kind : ℕ) → OfSheet s at kind → (sheetKind kind .numbers ≡ 0 → ⊥) → Sound s at → at + 4 + 2 * sheetKind kind .numbers ≤ length s
-  unfolding nextRecord
-  sheet-within kind of some sound =
-      let due : dueLength s at ≡ 2 + 2 * sheetKind kind .numbers = sheet-due kind of some in
-      omega (arith, sound .complete, sound .shaped)
