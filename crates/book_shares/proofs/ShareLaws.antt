@@ -43,8 +43,8 @@ use Rattle.book_places.specs.declared.Book.{Book}
 use Rattle.place_limits.specs.PlaceLimits.{penaltyWithin, fitsPlace}
 use Rattle.book_places.specs.BookPlaces.{heldIn}
 use Rattle.books.specs.Books.{emptyBook, openedBook, valuedIn}
-use Rattle.books.specs.Changes.{Change, setPlace, unvalued, changedPlace, fitsChange, heldAfter, bookAfter, bookAfterAll}
-use Rattle.book_shares.specs.Shares.{shareChange, shareChanges, bookOfShares, ShowsTotals}
+use Rattle.books.specs.Changes.{Change, unvalued, changedPlace, fitsChange, heldAfter, bookAfter, bookAfterAll}
+use Rattle.book_shares.specs.Shares.{shareSet, shareChange, shareChanges, bookOfShares, ShowsTotals}
 use Rattle.books.specs.Promise.{balanceIn, lowerIn, upperIn, totalIn, Kept, BookPromise}
 use Rattle.books.specs.Inner.Standing.{Within, Standing}
 use Rattle.books.proofs.PlaceLaws.{fits-within}
@@ -67,44 +67,49 @@ none-or-limit : (t : Bool) (p : ℕ) → cond t p 0 ≤ penaltyLimit → cond t 
 none-or-limit true p l = l
 none-or-limit false p l = le-refl 0
 
+-- what a place holds that is set to its share, not valued
+abbrev share : Contents → ℕ → SubBalance
+share k place = unvalued (balanceAt (k .cells) place) (couponAt (k .cells) place) (monthsAt (k .cells) place) (penaltyAt (k .cells) place)
+
 -- a place takes its share
-module _ (k : Contents) (v : Valid k) (place : ℕ) (h : place < 36) (pos : 0 < balanceAt k place) where
-  penalty-fits : penaltyWithin place (penaltyAt k place) ≡ true
+module _ (k : Contents) (v : Valid k) (place : ℕ) (h : place < 36) (pos : 0 < balanceAt (k .cells) place) where
+  penalty-fits : penaltyWithin place (penaltyAt (k .cells) place) ≡ true
   unfolding penaltyWithin penaltyAt
   penalty-fits = le-leb _ _ (none-or-limit (withPenalty place) _ (penalty-le k v place h))
 
-  months-fit : withinRow (positionOf place .row) (monthsAt k place) ≡ true
+  months-fit : withinRow (positionOf place .row) (monthsAt (k .cells) place) ≡ true
   unfolding monthsAt positionOf
   months-fit =
-      true-of _ (v .months-in-row (place / 4) (omega arith) (lt-of-lt-of-le pos (balanceAt-le k (v .brokered-within) (v .penalized-within) place h)))
+      let w = v .of-cells in
+      true-of _ (w .months-in-row (place / 4) (omega arith) (lt-of-lt-of-le pos (balanceAt-le (k .cells) (w .brokered-within) (w .penalized-within) place h)))
 
-  coupon-fits : couponAt k place ≤ couponLimit
+  coupon-fits : couponAt (k .cells) place ≤ couponLimit
   unfolding couponAt positionOf
-  coupon-fits = v .coupon-limit (place / 4) (omega arith)
+  coupon-fits = v .of-cells .coupon-limit (place / 4) (omega arith)
 
-  share-fits : fitsPlace place (balanceAt k place) (couponAt k place) (monthsAt k place) (penaltyAt k place) ≡ true
+  share-fits : fitsPlace place (balanceAt (k .cells) place) (couponAt (k .cells) place) (monthsAt (k .cells) place) (penaltyAt (k .cells) place) ≡ true
   unfolding fitsPlace
   share-fits =
       rw (
         lt-ltb place 36 h,
-        le-leb 1 (balanceAt k place) pos,
-        le-leb (balanceAt k place) balanceLimit (balanceAt-limit k v place h),
-        le-leb (couponAt k place) couponLimit coupon-fits,
+        le-leb 1 (balanceAt (k .cells) place) pos,
+        le-leb (balanceAt (k .cells) place) balanceLimit (balanceAt-limit (k .cells) (v .of-cells) place h),
+        le-leb (couponAt (k .cells) place) couponLimit coupon-fits,
         months-fit,
         penalty-fits,
       )
 
 -- what a place holds has the balance of its share and its values
 abbrev Shows : Contents → ℕ → SubBalance → Type 0
-Shows k place held = (held .balance ≡ balanceAt k place) × ((ρ : Rounding) (scenario : ℕ) → valueHeld ρ k scenario place held ≡ valueAt ρ k scenario place)
+Shows k place held = (held .balance ≡ balanceAt (k .cells) place) × ((ρ : Rounding) (scenario : ℕ) → valueHeld ρ k scenario place held ≡ valueAt ρ k scenario place)
 
 -- nothing shows a share without balance
-none-shows : (k : Contents) (place : ℕ) → balanceAt k place ≡ 0 → Shows k place noPlace
+none-shows : (k : Contents) (place : ℕ) → balanceAt (k .cells) place ≡ 0 → Shows k place noPlace
 unfolding valueAt valueHeld valueBy placeAt
 none-shows k place e = (sym e, λ ρ scenario. rw e (quotient-zero ρ _ valueScale (lit< tt) ∙ sym (quotient-zero ρ _ valueScale (lit< tt))))
 
 -- a share that is set shows itself
-set-shows : (k : Contents) (b : Book) (place : ℕ) → Shows k place (valuedIn b place (unvalued (balanceAt k place) (couponAt k place) (monthsAt k place) (penaltyAt k place)))
+set-shows : (k : Contents) (b : Book) (place : ℕ) → Shows k place (valuedIn b place (share k place))
 unfolding valueAt valueHeld termsHeld depositAt placeAt valuedIn
 set-shows k b place = (refl, λ ρ scenario. refl)
 
@@ -115,7 +120,7 @@ record Shown (k : Contents) (b : Book) (n : ℕ) : Type 0 where
 
 module _ (k : Contents) (b : Book) (stands : Standing k b) (n : ℕ) (h : n < 36) (shown : Shown k b n) where
   -- no change where the share has no balance
-  shown-none : balanceAt k n ≡ 0 → Shown k b (suc n)
+  shown-none : balanceAt (k .cells) n ≡ 0 → Shown k b (suc n)
   shown-none e =
       record {
         first = λ i l. ⊎-elim (λ q. rw q (rw (shown .others n (le-refl n) h) (none-shows k n e))) (λ m. shown .first i m) (eq-or-lt-of-le (le-of-suc-le-suc l));
@@ -123,7 +128,7 @@ module _ (k : Contents) (b : Book) (stands : Standing k b) (n : ℕ) (h : n < 36
       }
 
   -- a share with one is set
-  shown-set : 0 < balanceAt k n → Shown k (bookAfter b (setPlace n (balanceAt k n) (couponAt k n) (monthsAt k n) (penaltyAt k n))) (suc n)
+  shown-set : 0 < balanceAt (k .cells) n → Shown k (bookAfter b (shareSet (k .cells) n)) (suc n)
   unfolding bookAfter fitsChange changedPlace heldAfter
   shown-set pos =
       rw (share-fits k (stands .under .valid) n h pos)
@@ -134,7 +139,7 @@ module _ (k : Contents) (b : Book) (stands : Standing k b) (n : ℕ) (h : n < 36
       })
     where
       held : SubBalance
-      held = valuedIn b n (unvalued (balanceAt k n) (couponAt k n) (monthsAt k n) (penaltyAt k n))
+      held = valuedIn b n (share k n)
 
       within : Within k n held
       within = fits-within n _ _ _ _ (share-fits k (stands .under .valid) n h pos) k b (stands .under)
@@ -146,19 +151,19 @@ module _ (s : List ℕ) (a : filingVerdict s ≡ accepted) where
 
   -- the book with the first n shares set
   abbrev book : ℕ → Book
-  book n = bookAfterAll (openedBook s) (shareChanges k n)
+  book n = bookAfterAll (openedBook s) (shareChanges (k .cells) n)
 
   kept : (n : ℕ) → Kept s (book n)
   unfolding BookPromise
-  kept n = book-promise s a (shareChanges k n)
+  kept n = book-promise s a (shareChanges (k .cells) n)
 
   shown : (n : ℕ) → n ≤ 36 → Shown k (book n) n
   unfolding shareChanges shareChange bookAfterAll openedBook emptyBook
   shown zero l = record { first = λ i h. absurd (not-suc-le-zero h); others = λ i h u. getD-replicate 36 i noPlace _ u }
-  shown (suc n) l = rw (after-more (openedBook s) (shareChanges k n) (shareChange k n)) (by (shown n (le-of-lt l)) (eqb (balanceAt k n) 0) refl)
+  shown (suc n) l = rw (after-more (openedBook s) (shareChanges (k .cells) n) (shareChange (k .cells) n)) (by (shown n (le-of-lt l)) (eqb (balanceAt (k .cells) n) 0) refl)
     where
-      by : Shown k (book n) n → (t : Bool) → eqb (balanceAt k n) 0 ≡ t
-          → Shown k (bookAfterAll (book n) (cond t [] (setPlace n (balanceAt k n) (couponAt k n) (monthsAt k n) (penaltyAt k n) ∷ []))) (suc n)
+      by : Shown k (book n) n → (t : Bool) → eqb (balanceAt (k .cells) n) 0 ≡ t
+          → Shown k (bookAfterAll (book n) (cond t [] (shareSet (k .cells) n ∷ []))) (suc n)
       by before true e = shown-none k (book n) (kept n .standing) n l before (eqb-true _ 0 e)
       by before false e = shown-set k (book n) (kept n .standing) n l before (pos-of-ne-zero (eqb-false _ 0 e))
 
@@ -201,8 +206,8 @@ module _ (s : List ℕ) (a : filingVerdict s ≡ accepted) where
   unfolding balanceIn
   balance-shown =
       kept 36 .balance-total
-      ∙ sumWhere-ext everywhere _ (balanceAt k) 36 (λ place hp. shown 36 (le-refl 36) .first place hp .0)
-      ∙ balanceAt-total k (kept 36 .standing .under .valid)
+      ∙ sumWhere-ext everywhere _ (balanceAt (k .cells)) 36 (λ place hp. shown 36 (le-refl 36) .first place hp .0)
+      ∙ balanceAt-total (k .cells) (kept 36 .standing .under .valid .of-cells)
 
 pub shows-totals : ShowsTotals
 unfolding ShowsTotals bookOfShares

@@ -8,7 +8,6 @@ use Rattle.lists.specs.Tables.{table, joined}
 use Rattle.schedule.specs.Cells.{totalCell}
 use Rattle.schedule.specs.Shift.{scenarioCount}
 use Rattle.answers.specs.Verdict.{accepted}
-use Rattle.contents.specs.declared.Contents.{Contents}
 use Rattle.decode.specs.Contents.{contentsOf}
 use Rattle.contents.specs.Contents.{cell}
 use Rattle.filing.specs.Verdict.{filingVerdict}
@@ -19,19 +18,21 @@ use Rattle.book_places.specs.declared.Book.{Book}
 use Rattle.books.specs.Books.{openedBook}
 use Rattle.books.specs.Changes.{Change, setPlace, bookAfterAll}
 
--- the share of a place as a change; none where it has no balance
-unfoldable pub shareChange : Contents → ℕ → List Change
-shareChange k place =
-    cond (eqb (balanceAt k place) 0) [] (setPlace place (balanceAt k place) (couponAt k place) (monthsAt k place) (penaltyAt k place) ∷ [])
+-- a place set to its share, by the cells of a filing; no change where the share has no balance
+abbrev pub shareSet : List ℕ → ℕ → Change
+shareSet cells place = setPlace place (balanceAt cells place) (couponAt cells place) (monthsAt cells place) (penaltyAt cells place)
+
+unfoldable pub shareChange : List ℕ → ℕ → List Change
+shareChange cells place = cond (eqb (balanceAt cells place) 0) [] (shareSet cells place ∷ [])
 
 -- those of the first n places, one place after the other
-unfoldable pub shareChanges : Contents → ℕ → List Change
-shareChanges k zero = []
-shareChanges k (suc n) = shareChanges k n ++ shareChange k n
+unfoldable pub shareChanges : List ℕ → ℕ → List Change
+shareChanges cells zero = []
+shareChanges cells (suc n) = shareChanges cells n ++ shareChange cells n
 
 -- the book of an accepted filing with its thirty-six shares set
 unfoldable pub bookOfShares : List ℕ → Book
-bookOfShares s = bookAfterAll (openedBook s) (shareChanges (contentsOf s) subBalanceCount)
+bookOfShares s = bookAfterAll (openedBook s) (shareChanges (contentsOf s .cells) subBalanceCount)
 
 -- it shows the totals that the valuing call gives for that filing, and its total balance
 unfoldable pub ShowsTotals : Type 0

@@ -1,3 +1,4 @@
 pub mod Conditions
 pub mod CellVerdicts
+pub mod ValidCells
 pub mod Inner

@@ -17,16 +17,38 @@ ghost use Rattle.conditions.specs.Conditions.{monthsOutside};
 ghost use Rattle.conditions.specs.CellVerdicts.{monthsVerdict, columnsVerdict, totalVerdict, cellsVerdict};
 ghost use Rattle.conditions.specs.Inner.Sums.{BalancesWithin, columnSums};
 
+// The answer on the cells of a filing, and the sums of their columns.
+pub struct CheckedCells {
+    pub answer: Answer,
+    pub sums: ColumnSums,
+}
+
+// The sums of columns 1 to 3, and of the rows above each of the nine positions in its column, in thousands of dollars.
+pub struct ColumnSums {
+    pub totals: [u64; 3],
+    pub above: [u64; 9],
+}
+
+// The sums of cells that are all 0.
+pub const NO_SUMS: ColumnSums = ColumnSums {
+    totals: [0; 3],
+    above: [0; 9],
+};
+
 // 7 to 9, on the cells of a filing.
-pub fn check_cells(cells: &[u64; CELLS]) -> Answer
+pub fn check_cells(cells: &[u64; CELLS]) -> CheckedCells
     requires { ⌜ BalancesWithin (now cells) ⌝ }
-    ensures { λ r. ⌜ verdictOf r ≡ cellsVerdict (now (cells .entry)) ⌝ }
+    ensures { λ r. ⌜ verdictOf (r .answer) ≡ cellsVerdict (now (cells .entry)) ⌝ }
+    ensures { λ r. ⌜ r .sums ≡ columnSums (now (cells .entry)) ⌝ }
 {
     let sums = column_sums(cells);
     let months = check_months(cells);
     let columns = check_columns(cells, &sums.totals);
     let total = check_total(cells, &sums.totals);
-    first_refusal(months, first_refusal(columns, total))
+    CheckedCells {
+        answer: first_refusal(months, first_refusal(columns, total)),
+        sums,
+    }
 }
 
 // 7, by ascending WARM cell.
@@ -81,10 +103,4 @@ fn check_total(cells: &[u64; CELLS], totals: &[u64; 3]) -> Answer
     } else {
         Answer::TotalDiffers(645)
     }
-}
-
-// The sums of columns 1 to 3, and of the rows above each of the nine positions in its column, in thousands of dollars.
-pub struct ColumnSums {
-    pub totals: [u64; 3],
-    pub above: [u64; 9],
 }

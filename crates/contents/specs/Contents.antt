@@ -1,9 +1,15 @@
 -- What a filing says, read by cell, by month and by column. Definitions only.
 use Prim.Native.Nat.{ℕ, _-_}
+use mathlib.Core.List.{List}
 use lib.ListN.{getD}
 use Rattle.schedule.specs.Shift.{pathRate}
 use Rattle.conditions.specs.Conditions.{cellIn}
 use Rattle.contents.specs.declared.Contents.{Contents}
+use Rattle.contents.specs.declared.FiledTiers.{FiledTiers}
+
+-- what a filing says, of its parts: its cells, CD yields, retail rates and tiers. Nowhere else are they put together
+abbrev pub contentsWith : List ℕ → List ℕ → List ℕ → FiledTiers → Contents
+contentsWith cells yields rates tiers = record { cells = cells; yields = yields; rates = rates; tiers = tiers }
 
 -- the value of a cell in what a filing says
 abbrev pub cell : Contents → ℕ → ℕ

@@ -17,3 +17,15 @@ pub struct FiledTiers {
     pub edges: [u16; 16],
     pub withdrawals: [u16; 16],
 }
+
+// What a filing without records says: every number is 0. No other contents are spelled: a filing's are these, filled in.
+pub const NO_CONTENTS: Contents = Contents {
+    cells: [0; CELLS],
+    yields: [0; 120],
+    rates: [0; 360],
+    tiers: FiledTiers {
+        count: 0,
+        edges: [0; 16],
+        withdrawals: [0; 16],
+    },
+};

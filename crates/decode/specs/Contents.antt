@@ -14,6 +14,7 @@ use Rattle.records.specs.Items.{firstWith}
 use Rattle.notes.specs.Counting.{countingBefore}
 use Rattle.contents.specs.declared.Contents.{Contents}
 use Rattle.contents.specs.declared.FiledTiers.{FiledTiers}
+use Rattle.contents.specs.Contents.{contentsWith}
 
 -- the offset of the record that counts for a cell (02:CR 6), or the input's length where there is none
 unfoldable pub cellOffset : List ℕ → ℕ → ℕ
@@ -68,9 +69,8 @@ tiersAt s at =
 -- the cells from 601 on, the yields of kind 2 by month from 1 on, the retail rates of kinds 3 and 5 column by column, the tiers of kind 4
 unfoldable pub contentsOf : List ℕ → Contents
 contentsOf s =
-    record {
-      cells = tableFrom firstCell cellCount (cellValue s);
-      yields = tableFrom 1 monthsLimit (sheetNumber s (sheetOffset s yieldsKind));
-      rates = table rateCount (rateNumber s);
-      tiers = tiersAt s (sheetOffset s tiersKind);
-    }
+    contentsWith
+    (tableFrom firstCell cellCount (cellValue s))
+    (tableFrom 1 monthsLimit (sheetNumber s (sheetOffset s yieldsKind)))
+    (table rateCount (rateNumber s))
+    (tiersAt s (sheetOffset s tiersKind))

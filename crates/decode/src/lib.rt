@@ -1,6 +1,7 @@
 // What a filing says, read from the noted offsets of its records.
 use contents::Contents;
 use contents::FiledTiers;
+use contents::NO_CONTENTS;
 use fields::amendment_state;
 use fields::amendment_value;
 use fields::holds_numbers;
@@ -26,9 +27,10 @@ ghost use Prim.Native.Nat.{_+_, _/_, _≤_, _<_};
 ghost use lib.Dec.{ltb};
 ghost use lib.ListN.{length, getD};
 ghost use Rattle.lists.specs.Tables.{table, tableFrom};
+ghost use Rattle.schedule.specs.Cells.{cellCount};
 ghost use Rattle.schedule.specs.Limits.{cellClass, heldLimit, monthsLimit, tierLimit};
 ghost use Rattle.fields.specs.Records.{recordCell, sheetNumber};
-ghost use Rattle.records.specs.Kinds.{flatRatesKind, ratePathKind};
+ghost use Rattle.records.specs.Kinds.{yieldsKind, flatRatesKind, ratePathKind};
 ghost use Rattle.notes.specs.Inner.Notes.{notedBefore};
 ghost use Rattle.record_verdicts.specs.RecordVerdicts.{firstFaulty};
 ghost use Rattle.decode.specs.Contents.{filedValue, amountAt, sheetOffset, rateCount, tierNumber, tiersAt, contentsOf};
@@ -39,31 +41,26 @@ pub fn contents_of(s: &[u8], sheets: &[usize; KINDS], counting: &[usize; CELLS])
     requires { ⌜ (now sheets ≡ notedBefore (now s) (length (now s)) .sheets) × (now counting ≡ notedBefore (now s) (length (now s)) .counting) ⌝ }
     ensures { λ r. ⌜ r ≡ contentsOf (now (s .entry)) ⌝ }
 {
-    let cells = cell_values(s, counting);
-    let mut yields = [0; 120];
-    fill_numbers(s, sheets[YIELDS_KIND], &mut yields);
-    let rates = rate_numbers(s, sheets[FLAT_RATES_KIND], sheets[RATE_PATH_KIND]);
+    let mut contents = NO_CONTENTS;
+    fill_cells(s, counting, &mut contents.cells);
+    fill_yields(s, sheets[YIELDS_KIND], &mut contents.yields);
+    fill_rates(s, sheets[FLAT_RATES_KIND], sheets[RATE_PATH_KIND], &mut contents.rates);
     let tiers = tiers_at(s, sheets[TIERS_KIND]);
-    Contents {
-        cells,
-        yields,
-        rates,
-        tiers,
-    }
+    contents.tiers = tiers;
+    contents
 }
 
-// The values of cells 601 to 661, from the records that count for them.
-fn cell_values(s: &[u8], offsets: &[usize; CELLS]) -> [u64; CELLS]
+// Fills in the values of cells 601 to 661, from the records that count for them.
+fn fill_cells(s: &[u8], offsets: &[usize; CELLS], cells: &mut [u64; CELLS])
     requires { ⌜ (firstFaulty (now s) ≡ length (now s)) × (now offsets ≡ notedBefore (now s) (length (now s)) .counting) ⌝ }
-    ensures { λ r. ⌜ r ≡ contentsOf (now (s .entry)) .cells ⌝ }
+    requires { ⌜ length (now cells) ≡ cellCount ⌝ }
+    ensures { λ _. ⌜ now (cells .exit) ≡ contentsOf (now (s .entry)) .cells ⌝ }
 {
-    let mut cells = [0; CELLS];
     let mut i = 0;
     while i < CELLS {
         cells[i] = amount_at(s, offsets[i]);
         i += 1;
     }
-    cells
 }
 
 // The value that the record at an offset gives its cell: a coupon that is not filed in thousandths counts tenfold.
@@ -97,6 +94,14 @@ fn filed_value(s: &[u8], at: usize) -> u64
     amendment_value(s, at)
 }
 
+// Fills in the CD yields of months 1 to 120, from the sheet at an offset.
+fn fill_yields(s: &[u8], at: usize, yields: &mut [u16; 120])
+    requires { ⌜ (at ≡ sheetOffset (now s) yieldsKind) × (length (now yields) ≡ monthsLimit) ⌝ }
+    ensures { λ _. ⌜ now (yields .exit) ≡ contentsOf (now (s .entry)) .yields ⌝ }
+{
+    fill_numbers(s, at, yields);
+}
+
 // Fills in the numbers of the sheet at an offset, from the first on.
 fn fill_numbers(s: &[u8], at: usize, numbers: &mut [u16])
     ensures { λ r. ⌜ now (numbers .exit) ≡ tableFrom 1 (length (now (numbers .entry))) (sheetNumber (now (s .entry)) at) ⌝ }
@@ -109,38 +114,28 @@ fn fill_numbers(s: &[u8], at: usize, numbers: &mut [u16])
     }
 }
 
-// The retail rates column by column, by the sheets of flat ones and of those by month.
-fn rate_numbers(s: &[u8], flat: usize, path: usize) -> [u16; 360]
-    requires { ⌜ (flat ≡ sheetOffset (now s) flatRatesKind) × (path ≡ sheetOffset (now s) ratePathKind) ⌝ }
-    ensures { λ r. ⌜ r ≡ contentsOf (now (s .entry)) .rates ⌝ }
+// Fills in the retail rates column by column, by the sheets of flat ones and of those by month.
+fn fill_rates(s: &[u8], flat: usize, path: usize, rates: &mut [u16; 360])
+    requires { ⌜ (flat ≡ sheetOffset (now s) flatRatesKind) × (path ≡ sheetOffset (now s) ratePathKind) × (length (now rates) ≡ rateCount) ⌝ }
+    ensures { λ _. ⌜ now (rates .exit) ≡ contentsOf (now (s .entry)) .rates ⌝ }
 {
     if path < s.len() {
-        path_rates(s, path)
+        fill_numbers(s, path, rates);
     } else {
-        flat_rates(s, flat)
+        fill_flat(s, flat, rates);
     }
 }
 
-// The retail rates of a sheet by month.
-fn path_rates(s: &[u8], path: usize) -> [u16; 360]
-    ensures { λ r. ⌜ r ≡ tableFrom 1 rateCount (sheetNumber (now (s .entry)) path) ⌝ }
-{
-    let mut rates = [0; 360];
-    fill_numbers(s, path, &mut rates);
-    rates
-}
-
-// The retail rates of a sheet of flat ones: each in the 120 months of its column.
-fn flat_rates(s: &[u8], flat: usize) -> [u16; 360]
-    ensures { λ r. ⌜ r ≡ table rateCount (λ i. sheetNumber (now (s .entry)) flat (i / monthsLimit + 1)) ⌝ }
+// Fills in the retail rates of a sheet of flat ones: each in the 120 months of its column.
+fn fill_flat(s: &[u8], flat: usize, rates: &mut [u16; 360])
+    ensures { λ _. ⌜ now (rates .exit) ≡ table rateCount (λ i. sheetNumber (now (s .entry)) flat (i / monthsLimit + 1)) ⌝ }
 {
     let first = sheet_number(s, flat, 1);
     let second = sheet_number(s, flat, 2);
     let third = sheet_number(s, flat, 3);
-    let mut rates = [first; 360];
-    fill_from(&mut rates, 120, second);
-    fill_from(&mut rates, 240, third);
-    rates
+    *rates = [first; 360];
+    fill_from(rates, 120, second);
+    fill_from(rates, 240, third);
 }
 
 // Fills in a rate from a place on.

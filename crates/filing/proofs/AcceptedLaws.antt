@@ -73,16 +73,18 @@ module _ (s : List ℕ) (a : Accepted s) where
       let within = cell-within s (passed .none-faulty) in
       let column = column-holds (k .cells) (passed .cells) in
       record {
-        balance-limit = balances-within s (passed .none-faulty);
-        coupon-limit = λ i h. within (positionAt i .coupon) 2 (coupon-cell i h);
-        months-limit = λ i h. within (positionAt i .months) 3 (months-cell i h);
-        months-in-row = months-hold (k .cells) (passed .cells);
-        penalty-limit = λ j l u. within (penaltyMonthsCell j) 5 (penalty-months-cell j l u);
-        brokered-within =
-            by-column (λ (j : ℕ). cell k (brokeredCell j) ≤ sum (columnBalances (k .cells) j)) (column 0 (lit< tt)) (column 1 (lit< tt)) (column 2 (lit< tt));
-        penalized-within =
-            by-column (λ (j : ℕ). cell k (penaltyBalanceCell j) ≤ sum (columnBalances (k .cells) j)) (column 3 (lit< tt)) (column 4 (lit< tt)) (column 5 (lit< tt));
-        total-is-sum = total-holds (k .cells) (passed .cells);
+        of-cells = record {
+          balance-limit = balances-within s (passed .none-faulty);
+          coupon-limit = λ i h. within (positionAt i .coupon) 2 (coupon-cell i h);
+          months-limit = λ i h. within (positionAt i .months) 3 (months-cell i h);
+          months-in-row = months-hold (k .cells) (passed .cells);
+          penalty-limit = λ j l u. within (penaltyMonthsCell j) 5 (penalty-months-cell j l u);
+          brokered-within =
+              by-column (λ (j : ℕ). cell k (brokeredCell j) ≤ sum (columnBalances (k .cells) j)) (column 0 (lit< tt)) (column 1 (lit< tt)) (column 2 (lit< tt));
+          penalized-within =
+              by-column (λ (j : ℕ). cell k (penaltyBalanceCell j) ≤ sum (columnBalances (k .cells) j)) (column 3 (lit< tt)) (column 4 (lit< tt)) (column 5 (lit< tt));
+          total-is-sum = total-holds (k .cells) (passed .cells);
+        };
         yield-limit = yield-within;
         rate-limit = rate-within;
         tier-count-limit = tier-count-within s (passed .none-faulty);

@@ -9,8 +9,9 @@ use Rattle.answers.specs.Verdict.{Verdict, firstRefusal}
 use Rattle.answers.specs.Answers.{numberOf, verdictOf}
 use Rattle.answers.proofs.VerdictLaws.{first-passed, first-refused}
 use Rattle.record_verdicts.specs.RecordVerdicts.{recordsVerdict}
-use Rattle.filing.specs.declared.Reading.{Reading}
+use Rattle.conditions.specs.Inner.Sums.{columnSums}
 use Rattle.decode.specs.Contents.{contentsOf}
+use Rattle.filing.specs.declared.Reading.{Reading}
 use Rattle.filing.specs.Verdict.{sheetVerdict, contentsVerdict, filingVerdict}
 use Rattle.filing.specs.Readings.{emptyContents, readContents}
 
@@ -39,10 +40,11 @@ module _ (s : List ℕ) where
   contents-accepted h = sym (simp (eq-eqb (filingVerdict s .number) 0 h))
 
   -- a refusal with the filing's verdict gives zeros
-  pub refused-reading : (r : Reading) (a : Answer) → (r .answer ≡ a) × (r .contents ≡ emptyContents) → verdictOf a ≡ filingVerdict s
+  pub refused-reading : (r : Reading) (a : Answer) → (r .answer ≡ a) × (r .contents ≡ emptyContents) × (r .sums ≡ columnSums (r .contents .cells))
+      → verdictOf a ≡ filingVerdict s
       → (numberOf a ≡ 0 → ⊥)
-      → (verdictOf (r .answer) ≡ filingVerdict s) × (r .contents ≡ readContents s)
+      → (verdictOf (r .answer) ≡ filingVerdict s) × ((r .contents ≡ readContents s) × (r .sums ≡ columnSums (r .contents .cells)))
   unfolding verdictOf readContents
   refused-reading r a e v h =
       let refused = ne-eqb (filingVerdict s .number) 0 (λ z. h (ap (λ (u : Verdict). u .number) v ∙ z)) in
-      (ap verdictOf (e .0) ∙ v, e .1 ∙ sym (simp refused))
+      (ap verdictOf (e .0) ∙ v, (e .1 ∙ sym (simp refused), e .2))

@@ -33,8 +33,8 @@ module _ (s : List ℕ) (flat : length s ≤ sheetOffset s ratePathKind) where
 
   pub flat-terms-at : Valid (contentsOf s) → (scenario place : ℕ) → place < 36
       → let k = contentsOf s in
-      termsHeld k scenario place (placeAt k place)
-      ≡ termsOf (filingTiers k) (depositAt place (placeAt k place))
+      termsHeld k scenario place (placeAt (k .cells) place)
+      ≡ termsOf (filingTiers k) (depositAt place (placeAt (k .cells) place))
       (λ (t : ℕ). shiftedRate scenario (sheetNumber s (sheetOffset s flatRatesKind) (positionOf place .column)))
   unfolding termsHeld rateAt positionOf
   flat-terms-at v scenario place h =

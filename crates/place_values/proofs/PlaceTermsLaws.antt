@@ -15,17 +15,17 @@ use Rattle.place_values.specs.PlaceTerms.{depositAt}
 
 module _ (k : Contents) (v : Valid k) (place : ℕ) (h : place < 36) where
   -- the penalty is its column's, or 0
-  pub penalty-le : penaltyAt k place ≤ penaltyLimit
+  pub penalty-le : penaltyAt (k .cells) place ≤ penaltyLimit
   unfolding penaltyAt positionOf
   penalty-le =
       let range = column-range (place / 4) (omega arith) in
-      either (λ (p : ℕ). p ≤ penaltyLimit) (withPenalty place) (v .penalty-limit (positionAt (place / 4) .column) (range .0) (range .1)) zero-le
+      either (λ (p : ℕ). p ≤ penaltyLimit) (withPenalty place) (v .of-cells .penalty-limit (positionAt (place / 4) .column) (range .0) (range .1)) zero-le
 
-  pub deposit-limits : DepositLimits (depositAt place (placeAt k place))
+  pub deposit-limits : DepositLimits (depositAt place (placeAt (k .cells) place))
   unfolding depositAt placeAt couponAt monthsAt positionOf
   deposit-limits =
       record {
-        coupon-le = v .coupon-limit (place / 4) (omega arith);
+        coupon-le = v .of-cells .coupon-limit (place / 4) (omega arith);
         penalty-le = penalty-le;
-        months-le = v .months-limit (place / 4) (omega arith);
+        months-le = v .of-cells .months-limit (place / 4) (omega arith);
       }

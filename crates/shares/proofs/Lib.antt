@@ -1,4 +1,3 @@
-pub mod CellLaws
 pub mod PartLaws
 pub mod PlaceLaws
 pub mod RowLaws

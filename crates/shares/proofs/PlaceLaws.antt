@@ -7,8 +7,7 @@ use native.Mathlib.Omega.{arith}
 use lib.Dec.{eqb}
 use lib.ListN.{getD, set}
 use Rattle.lists.proofs.FillLaws.{Filled, fill-more}
-use Rattle.contents.specs.declared.Contents.{Contents}
-use Rattle.contents.specs.Valid.{Valid}
+use Rattle.conditions.specs.ValidCells.{ValidCells}
 use Rattle.sub_balances.specs.PlaceOrder.{positionOf, withPenalty}
 use Rattle.shares.specs.SubBalances.{balanceAt, couponAt, monthsAt, penaltyAt}
 use Rattle.apportion.specs.declared.Row.{Row}
@@ -20,17 +19,17 @@ use Rattle.shares.specs.Inner.Rows.{rowAt, rowPlace}
 use Rattle.shares.proofs.RowLaws.{four-row}
 
 -- place 4 × i + r has the r-th of its row's four, its row's coupon and remaining months, and the penalty of its column where it is subject to one
-pub place-of : (k : Contents) → Valid k → (i : ℕ) → i < 9 → (row : Row) → row ≡ rowAt (k .cells) i → (four : List ℕ) → four ≡ rowShares row
-    → (r place : ℕ) → place ≡ 4 * i + r → r < 4 → rowPlace row (getD four r 0) (cond (eqb (r % 2) 0) (row .penalty) 0) ≡ placeAt k place
+pub place-of : (cells : List ℕ) → ValidCells cells → (i : ℕ) → i < 9 → (row : Row) → row ≡ rowAt cells i → (four : List ℕ) → four ≡ rowShares row
+    → (r place : ℕ) → place ≡ 4 * i + r → r < 4 → rowPlace row (getD four r 0) (cond (eqb (r % 2) 0) (row .penalty) 0) ≡ placeAt cells place
 unfolding placeAt balanceAt couponAt monthsAt penaltyAt withPenalty positionOf rowAt
-place-of k v i h row is four are r place e small =
+place-of cells v i h row is four are r place e small =
     let q : place / 4 ≡ i = omega arith in
     let s : place % 4 ≡ r = omega arith in
     let p : place % 2 ≡ r % 2 = omega arith in
-    let shares = are ∙ ap rowShares is ∙ four-row k v i h in
+    let shares = are ∙ ap rowShares is ∙ four-row cells v i h in
     rw (q, s, p, shares, is)
 
 -- one place more is filled
-pub fill-place : (k : Contents) (i more : ℕ) (l : List SubBalance) (p : SubBalance) → more ≡ i + 1 → i < 36 → p ≡ placeAt k i
-    → Filled (placeAt k) noPlace 36 i l → Filled (placeAt k) noPlace 36 more (set l i p)
-fill-place k i more l p e h is filled = rw e (fill-more (placeAt k) noPlace 36 i l p h is filled)
+pub fill-place : (cells : List ℕ) (i more : ℕ) (l : List SubBalance) (p : SubBalance) → more ≡ i + 1 → i < 36 → p ≡ placeAt cells i
+    → Filled (placeAt cells) noPlace 36 i l → Filled (placeAt cells) noPlace 36 more (set l i p)
+fill-place cells i more l p e h is filled = rw e (fill-more (placeAt cells) noPlace 36 i l p h is filled)

@@ -11,10 +11,8 @@ use Rattle.lists.proofs.EachLaws.{each-lt}
 use Rattle.lists.proofs.SumLaws.{sum-take-suc, sum-take-le}
 use Rattle.schedule.specs.declared.Position.{Position}
 use Rattle.schedule.specs.Cells.{position, positions, positionAt, inColumn, brokeredCell}
-use Rattle.contents.specs.declared.Contents.{Contents}
-use Rattle.contents.specs.Contents.{cell}
-use Rattle.conditions.specs.Conditions.{columnBalances}
-use Rattle.contents.specs.Valid.{Valid}
+use Rattle.conditions.specs.Conditions.{cellIn, columnBalances}
+use Rattle.conditions.specs.ValidCells.{ValidCells}
 use Rattle.conditions.specs.Inner.Sums.{columnSum}
 use Rattle.conditions.proofs.SumLaws.{column-range, column-sum, column-limit}
 use Rattle.apportion.specs.declared.Row.{Row}
@@ -27,51 +25,51 @@ use Rattle.shares.proofs.PartLaws.{parts-sum, parts-above, parts-throug
 use Rattle.shares.proofs.SubBalanceLaws.{brokered-le, brokered-length, row-balance}
 
 -- the sum over the positions before one is that of the rows above it
-sum-above : (k : Contents) (i : ℕ) → i < 9
-    → columnSum (k .cells) (positionAt i .column) i ≡ sum (take (positionAt i .row - 1) (columnBalances (k .cells) (positionAt i .column)))
+sum-above : (cells : List ℕ) (i : ℕ) → i < 9
+    → columnSum cells (positionAt i .column) i ≡ sum (take (positionAt i .row - 1) (columnBalances cells (positionAt i .column)))
 unfolding columnSum sumWhere sum columnBalances positionAt positions position inColumn those
-sum-above k =
-    each-lt 9 (λ i. columnSum (k .cells) (positionAt i .column) i ≡ sum (take (positionAt i .row - 1) (columnBalances (k .cells) (positionAt i .column))))
+sum-above cells =
+    each-lt 9 (λ i. columnSum cells (positionAt i .column) i ≡ sum (take (positionAt i .row - 1) (columnBalances cells (positionAt i .column))))
     (omega arith, (omega arith, (omega arith, (omega arith, (omega arith, (omega arith, (omega arith, (omega arith, (omega arith, tt)))))))))
 
--- a position of valid contents, its row, and its column's balances with their brokered shares
-module _ (k : Contents) (v : Valid k) (i : ℕ) (h : i < 9) where
+-- a position of valid cells, its row, and its column's balances with their brokered shares
+module _ (cells : List ℕ) (v : ValidCells cells) (i : ℕ) (h : i < 9) where
   abbrev p : Position
   p = positionAt i
 
   abbrev row : Row
-  row = rowAt (k .cells) i
+  row = rowAt cells i
 
   abbrev bs : List ℕ
-  bs = columnBalances (k .cells) (p .column)
+  bs = columnBalances cells (p .column)
 
   abbrev ks : List ℕ
-  ks = brokeredShares k (p .column)
+  ks = brokeredShares cells (p .column)
 
   range : (1 ≤ p .column) × (p .column ≤ 3)
   range = column-range i h
 
-  within : cell k (brokeredCell (p .column)) ≤ sum bs
+  within : cellIn cells (brokeredCell (p .column)) ≤ sum bs
   within = v .brokered-within (p .column) (range .0) (range .1)
 
   same : length ks ≡ length bs
-  same = brokered-length k (p .column) within
+  same = brokered-length cells (p .column) within
 
   below : (m : ℕ) → getD ks m 0 ≤ getD bs m 0
-  below = brokered-le k (p .column) within
+  below = brokered-le cells (p .column) within
 
   -- the figures of the row, from the column's balances
   total-is : row .total ≡ sum bs
   unfolding rowAt
-  total-is = column-sum (k .cells) (p .column) (range .0) (range .1)
+  total-is = column-sum cells (p .column) (range .0) (range .1)
 
   above-is : row .above ≡ sum (take (p .row - 1) bs)
   unfolding rowAt
-  above-is = sum-above k i h
+  above-is = sum-above cells i h
 
   balance-is : row .balance ≡ getD bs (p .row - 1) 0
   unfolding rowAt
-  balance-is = sym (row-balance k i h)
+  balance-is = sym (row-balance cells i h)
 
   -- the row is within its column
   pub row-within : RowWithin row
@@ -79,30 +77,30 @@ module _ (k : Contents) (v : Valid k) (i : ℕ) (h : i < 9) where
   row-within =
       record {
         in-column = omega (arith, total-is, above-is, balance-is, sum-take-suc bs (p .row - 1), sum-take-le bs (p .row - 1 + 1));
-        column-limit = column-limit (k .cells) (v .balance-limit) (p .column) (range .0) (range .1);
+        column-limit = column-limit cells (v .balance-limit) (p .column) (range .0) (range .1);
         brokered-within = rw total-is within;
         penalized-within = rw total-is (v .penalized-within (p .column) (range .0) (range .1));
       }
 
   -- what the lists of the column's shares have at the row
-  brokeredIn-share : brokeredIn k p ≡ shareBehind (row .brokered) (row .total) (row .above) (row .balance)
+  brokeredIn-share : brokeredIn cells p ≡ shareBehind (row .brokered) (row .total) (row .above) (row .balance)
   unfolding brokeredIn brokeredShares rowAt
   brokeredIn-share = rw (apportion-getD, total-is, above-is, balance-is)
 
-  retailIn-is : retailIn k p ≡ getD bs (p .row - 1) 0 - getD ks (p .row - 1) 0
+  retailIn-is : retailIn cells p ≡ getD bs (p .row - 1) 0 - getD ks (p .row - 1) 0
   unfolding retailIn brokeredIn
-  retailIn-is = rw (row-balance k i h)
+  retailIn-is = rw (row-balance cells i h)
 
-  retailPenalized-share : retailPenalized k p ≡ shareBehind (row .penalized) (row .total) (row .above) (retailIn k p)
+  retailPenalized-share : retailPenalized cells p ≡ shareBehind (row .penalized) (row .total) (row .above) (retailIn cells p)
   unfolding retailPenalized penaltyShares rowAt
   retailPenalized-share = rw (apportion-getD, parts-sum bs ks same below, parts-above bs ks same below, retail-part bs ks same, retailIn-is, total-is, above-is)
 
-  brokeredPenalized-share : brokeredPenalized k p ≡ shareBehind (row .penalized) (row .total) (row .above + retailIn k p) (brokeredIn k p)
+  brokeredPenalized-share : brokeredPenalized cells p ≡ shareBehind (row .penalized) (row .total) (row .above + retailIn cells p) (brokeredIn cells p)
   unfolding brokeredPenalized penaltyShares brokeredIn rowAt
   brokeredPenalized-share =
       rw (apportion-getD, parts-sum bs ks same below, parts-through-retail bs ks same below, brokered-part bs ks same, retailIn-is, total-is, above-is)
 
   -- the position's four sub-balances are those of its row
-  pub four-row : rowShares row ≡ fourOf k p
+  pub four-row : rowShares row ≡ fourOf cells p
   unfolding fourOf rowShares accountShares retailIn rowAt
   four-row = sym (rw (retailPenalized-share, brokeredPenalized-share, brokeredIn-share))

@@ -1,3 +1,2 @@
 -- Definitions for the contracts of inner functions. What the shares are does not rest on them.
-pub mod Cells
 pub mod Rows

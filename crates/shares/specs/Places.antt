@@ -2,23 +2,22 @@
 use Prim.Native.Nat.{ℕ}
 use mathlib.Core.List.{List}
 use Rattle.lists.specs.Tables.{table}
-use Rattle.contents.specs.declared.Contents.{Contents}
 use Rattle.sub_balances.specs.declared.SubBalance.{SubBalance}
 use Rattle.sub_balances.specs.Places.{noValues}
 use Rattle.sub_balances.specs.PlaceOrder.{subBalanceCount}
 use Rattle.shares.specs.SubBalances.{balanceAt, couponAt, monthsAt, penaltyAt}
 
 -- what a place holds: its balance, its cell's coupon and its cell's remaining months, its penalty, and no values
-unfoldable pub placeAt : Contents → ℕ → SubBalance
-placeAt k place =
+unfoldable pub placeAt : List ℕ → ℕ → SubBalance
+placeAt cells place =
     record {
-      balance = balanceAt k place;
-      coupon = couponAt k place;
-      «remaining_months» = monthsAt k place;
-      penalty = penaltyAt k place;
+      balance = balanceAt cells place;
+      coupon = couponAt cells place;
+      «remaining_months» = monthsAt cells place;
+      penalty = penaltyAt cells place;
       values = noValues;
     }
 
 -- the thirty-six places, nine cells ascending and four for each
-unfoldable pub placesOf : Contents → List SubBalance
-placesOf k = table subBalanceCount (placeAt k)
+unfoldable pub placesOf : List ℕ → List SubBalance
+placesOf cells = table subBalanceCount (placeAt cells)

@@ -3,25 +3,22 @@ use apportion::Row;
 use apportion::row_shares;
 use conditions::ColumnSums;
 use conditions::cells::cell_value;
-use conditions::sums::column_sums;
 use schedule::CELLS;
 use schedule::positions::position;
 use sub_balances::NO_PLACE;
 use sub_balances::SubBalance;
 ghost use mathlib.Core.Path.{_≡_};
 ghost use Prim.Native.Nat.{_<_};
-ghost use Rattle.contents.specs.Valid.{Valid};
+ghost use Rattle.conditions.specs.ValidCells.{ValidCells};
 ghost use Rattle.conditions.specs.Inner.Sums.{columnSums};
-ghost use Rattle.shares.specs.Inner.Cells.{cellsAlone};
 ghost use Rattle.shares.specs.Inner.Rows.{rowAt, rowPlace};
 ghost use Rattle.shares.specs.Places.{placesOf};
 
-// The thirty-six places of a filing, whose cells are lent: nine positions ascending, four places each.
-pub fn places_of(cells: &[u64; CELLS]) -> [SubBalance; 36]
-    requires { ⌜ Valid (cellsAlone (now cells)) ⌝ }
-    ensures { λ r. ⌜ r ≡ placesOf (cellsAlone (now (cells .entry))) ⌝ }
+// The thirty-six places of a filing, by its cells and the sums of their columns: nine positions ascending, four places each.
+pub fn places_of(cells: &[u64; CELLS], sums: ColumnSums) -> [SubBalance; 36]
+    requires { ⌜ ValidCells (now cells) × (sums ≡ columnSums (now cells)) ⌝ }
+    ensures { λ r. ⌜ r ≡ placesOf (now (cells .entry)) ⌝ }
 {
-    let sums = column_sums(cells);
     let mut places = [NO_PLACE; 36];
     let mut i = 0;
     while i < 9 {

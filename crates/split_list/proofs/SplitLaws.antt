@@ -28,9 +28,9 @@ written-within s size true e = omega (arith, accepts-size s size e)
 written-within s size false e = omega arith
 
 written-after : (s : List ℕ) (l : List SubBalance) (b : Bool)
-    → take (cond b 36 0) (cond b (placesOf (contentsOf s)) (replicate 36 noPlace)) ++ drop (cond b 36 0) l ≡ cond b (placesOf (contentsOf s) ++ drop 36 l) l
+    → take (cond b 36 0) (cond b (placesOf (contentsOf s .cells)) (replicate 36 noPlace)) ++ drop (cond b 36 0) l ≡ cond b (placesOf (contentsOf s .cells) ++ drop 36 l) l
 unfolding placesOf
-written-after s l true = rw (take-all 36 (placesOf (contentsOf s)) (omega (arith, table-length 0 36 (placeAt (contentsOf s)))))
+written-after s l true = rw (take-all 36 (placesOf (contentsOf s .cells)) (omega (arith, table-length 0 36 (placeAt (contentsOf s .cells)))))
 written-after s l false = refl
 
 module _ (s : List ℕ) (l : List SubBalance) (r : Outcome) (e : OutcomeOf s (length l) r) where

@@ -14,7 +14,7 @@ use Rattle.split_outcomes.specs.Outcomes.{splitVerdict, splitAccepts}
 
 -- the list after the call: as it was on a refusal, else the thirty-six places and then the rest as it was
 unfoldable pub placesAfter : List ℕ → List SubBalance → List SubBalance
-placesAfter s l = cond (splitAccepts s (length l)) (placesOf (contentsOf s) ++ drop subBalanceCount l) l
+placesAfter s l = cond (splitAccepts s (length l)) (placesOf (contentsOf s .cells) ++ drop subBalanceCount l) l
 
 -- what the call answers on a filing and a list, and what it leaves in the list
 pub record SplitOf (s : List ℕ) (before : List SubBalance) (answer : Answer) (after : List SubBalance) : Type 0 where

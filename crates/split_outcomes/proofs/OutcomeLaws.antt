@@ -39,7 +39,7 @@ module _ (s : List ℕ) (size : ℕ) (r : Outcome) (v : verdictOf (r .answer) �
       record { verdict = v; places = p ∙ sym (simp e); count = c ∙ sym (simp e) }
 
   -- an acceptance writes the thirty-six places
-  pub outcome-accepted : numberOf (r .answer) ≡ 0 → r .places ≡ placesOf (contentsOf s) → r .count ≡ 36 → OutcomeOf s size r
+  pub outcome-accepted : numberOf (r .answer) ≡ 0 → r .places ≡ placesOf (contentsOf s .cells) → r .count ≡ 36 → OutcomeOf s size r
   unfolding splitAccepts
   outcome-accepted h p c =
       let e = eq-eqb (splitVerdict s size .number) 0 (sym number-is ∙ h) in

@@ -25,5 +25,5 @@ splitAccepts s size = eqb (splitVerdict s size .number) 0
 -- what is made of a filing and a list of `size` places: the answer, the places to be written, and how many of them are
 pub record OutcomeOf (s : List ℕ) (size : ℕ) (r : Outcome) : Type 0 where
   pub verdict : verdictOf (r .answer) ≡ splitVerdict s size
-  pub places : r .places ≡ cond (splitAccepts s size) (placesOf (contentsOf s)) (replicate subBalanceCount noPlace)
+  pub places : r .places ≡ cond (splitAccepts s size) (placesOf (contentsOf s .cells)) (replicate subBalanceCount noPlace)
   pub count : r .count ≡ cond (splitAccepts s size) subBalanceCount 0

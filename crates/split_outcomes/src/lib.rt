@@ -29,7 +29,8 @@ pub fn outcome_of(filing: &[u8], size: usize) -> Outcome
     if number(answer) != 0 {
         return refusal(answer);
     }
-    let places = places_of(&reading.contents.cells);
+    let sums = reading.sums;
+    let places = places_of(&reading.contents.cells, sums);
     Outcome {
         answer,
         places,

@@ -53,7 +53,7 @@ module _ (k : Contents) where
         rw e (List·getD-append rows rest 0 (15 * place + r) (omega (arith, rows-length)) ∙ joined-getD 15 36 (placeNumbers k) row-length place r 0 hp hr)
 
     -- a place's balance
-    pub balance-read : (place : ℕ) → place < 36 → getD (rows ++ rest) (15 * place) 0 ≡ balanceAt k place
+    pub balance-read : (place : ℕ) → place < 36 → getD (rows ++ rest) (15 * place) 0 ≡ balanceAt (k .cells) place
     unfolding placeNumbers
     balance-read place h = row-read (15 * place) place 0 (omega arith) h (omega arith)
 

@@ -26,7 +26,7 @@ use Rattle.valuation.proofs.ValueLaws.{valueAt-encloses, valueAt-width,
 use Rattle.valuation.proofs.NumberLaws.{totals, numbers-split, balance-read, lower-read, upper-read, total-read}
 
 -- one of a position's four places
-four-place : (k : Contents) (i r : ℕ) → r < 4 → balanceAt k (4 * i + r) ≡ getD (fourOf k (positionAt i)) r 0
+four-place : (k : Contents) (i r : ℕ) → r < 4 → balanceAt (k .cells) (4 * i + r) ≡ getD (fourOf (k .cells) (positionAt i)) r 0
 unfolding balanceAt positionOf
 four-place k i r h =
     let row : (4 * i + r) / 4 ≡ i = omega arith in
@@ -34,18 +34,18 @@ four-place k i r h =
     rw (row, kind)
 
 four-is : (k : Contents) (p : Position)
-    → sum (fourOf k p) ≡ getD (fourOf k p) 0 0 + (getD (fourOf k p) 1 0 + (getD (fourOf k p) 2 0 + (getD (fourOf k p) 3 0 + 0)))
+    → sum (fourOf (k .cells) p) ≡ getD (fourOf (k .cells) p) 0 0 + (getD (fourOf (k .cells) p) 1 0 + (getD (fourOf (k .cells) p) 2 0 + (getD (fourOf (k .cells) p) 3 0 + 0)))
 unfolding sum fourOf
 four-is k p = refl
 
 -- a position's four places together
 four-places : (k : Contents) (i : ℕ)
-    → balanceAt k (4 * i) + balanceAt k (4 * i + 1) + balanceAt k (4 * i + 2) + balanceAt k (4 * i + 3) ≡ sum (fourOf k (positionAt i))
+    → balanceAt (k .cells) (4 * i) + balanceAt (k .cells) (4 * i + 1) + balanceAt (k .cells) (4 * i + 2) + balanceAt (k .cells) (4 * i + 3) ≡ sum (fourOf (k .cells) (positionAt i))
 four-places k i =
     let first : 4 * i ≡ 4 * i + 0 = omega arith in
     omega (
       arith,
-      ap (balanceAt k) first,
+      ap (balanceAt (k .cells)) first,
       four-place k i 0 (lit< tt),
       four-place k i 1 (lit< tt),
       four-place k i 2 (lit< tt),
@@ -55,7 +55,7 @@ four-places k i =
 
 -- a list that begins with the 568 numbers
 module _ (k : Contents) (rest : List ℕ) where
-  balance-in : (place : ℕ) → place < 36 → balanceIn (numbers k ++ rest) place ≡ balanceAt k place
+  balance-in : (place : ℕ) → place < 36 → balanceIn (numbers k ++ rest) place ≡ balanceAt (k .cells) place
   unfolding balanceIn
   balance-in place h = rw (numbers-split k rest) (balance-read k (totals k ++ rest) place h)
 
@@ -101,7 +101,7 @@ module _ (k : Contents) (rest : List ℕ) where
         (rw (sumWhere-ext everywhere _ (valueAt down k scenario) subBalanceCount (λ place hp. lower-in scenario place h hp)) (all-width k v scenario))
 
     shares-in : sumWhere everywhere (balanceIn (numbers k ++ rest)) subBalanceCount ≡ cell k totalCell
-    shares-in = sumWhere-ext everywhere _ (balanceAt k) subBalanceCount balance-in ∙ balanceAt-total k v
+    shares-in = sumWhere-ext everywhere _ (balanceAt (k .cells)) subBalanceCount balance-in ∙ balanceAt-total (k .cells) (v .of-cells)
 
     four-in : (i : ℕ) → i < 9
         → balanceIn (numbers k ++ rest) (4 * i) + balanceIn (numbers k ++ rest) (4 * i + 1) + balanceIn (numbers k ++ rest) (4 * i + 2) + balanceIn
@@ -109,7 +109,7 @@ module _ (k : Contents) (rest : List ℕ) where
         ≡ cell k (positionAt i .balance)
     four-in i h =
         rw (balance-in (4 * i) (omega arith), balance-in (4 * i + 1) (omega arith), balance-in (4 * i + 2) (omega arith), balance-in (4 * i + 3) (omega arith))
-        (four-places k i ∙ four-sum k (v .brokered-within) (v .penalized-within) i h)
+        (four-places k i ∙ four-sum (k .cells) (v .of-cells .brokered-within) (v .of-cells .penalized-within) i h)
 
 -- what the list after an accepted filing holds
 pub enclosed : (s rest : List ℕ) → Valid (contentsOf s) → Enclosed s (numbers (contentsOf s) ++ rest)

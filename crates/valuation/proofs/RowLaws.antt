@@ -52,40 +52,40 @@ longest-most ps (suc n) h = max-le (longest-most ps n (λ i l. h i (le-trans l (
 
 module _ (k : Contents) where
   -- what stands at a place of the thirty-six
-  pub place-is : (place : ℕ) → place < 36 → placeIn (placesOf k) place ≡ placeAt k place
+  pub place-is : (place : ℕ) → place < 36 → placeIn (placesOf (k .cells)) place ≡ placeAt (k .cells) place
   unfolding placesOf
-  place-is place h = table-getD 36 (placeAt k) place _ h
+  place-is place h = table-getD 36 (placeAt (k .cells)) place _ h
 
-  term-of-place : (place : ℕ) → 0 < balanceAt k place → monthsAt k place ≤ termOf (placeAt k place)
+  term-of-place : (place : ℕ) → 0 < balanceAt (k .cells) place → monthsAt (k .cells) place ≤ termOf (placeAt (k .cells) place)
   unfolding termOf placeAt
-  term-of-place place pos = rw (ne-eqb (balanceAt k place) 0 (ne-of-gt pos)) (le-refl (monthsAt k place))
+  term-of-place place pos = rw (ne-eqb (balanceAt (k .cells) place) 0 (ne-of-gt pos)) (le-refl (monthsAt (k .cells) place))
 
   -- the months of a place with a balance are at most the longest term
-  months-le-longest : (place : ℕ) → place < 36 → 0 < balanceAt k place → monthsAt k place ≤ longestTerm (placesOf k)
+  months-le-longest : (place : ℕ) → place < 36 → 0 < balanceAt (k .cells) place → monthsAt (k .cells) place ≤ longestTerm (placesOf (k .cells))
   unfolding longestTerm
-  months-le-longest place h pos = le-trans held (longest-le (placesOf k) 36 place h)
+  months-le-longest place h pos = le-trans held (longest-le (placesOf (k .cells)) 36 place h)
     where
-      held : monthsAt k place ≤ termOf (placeIn (placesOf k) place)
+      held : monthsAt (k .cells) place ≤ termOf (placeIn (placesOf (k .cells)) place)
       held = rw (place-is place h) (term-of-place place pos)
 
   module _ (v : Valid k) where
     -- nor is the longest term above the limit of months
-    term-le : (place : ℕ) → place < 36 → termOf (placeAt k place) ≤ monthsLimit
+    term-le : (place : ℕ) → place < 36 → termOf (placeAt (k .cells) place) ≤ monthsLimit
     unfolding termOf placeAt depositAt
-    term-le place h = cond-le (eqb (balanceAt k place) 0) (deposit-limits k v place h .months-le)
+    term-le place h = cond-le (eqb (balanceAt (k .cells) place) 0) (deposit-limits k v place h .months-le)
       where
         cond-le : (b : Bool) {n : ℕ} → n ≤ monthsLimit → cond b 0 n ≤ monthsLimit
         cond-le true l = zero-le
         cond-le false l = l
 
-    pub longest-limit : longestTerm (placesOf k) ≤ monthsLimit
+    pub longest-limit : longestTerm (placesOf (k .cells)) ≤ monthsLimit
     unfolding longestTerm
-    longest-limit = longest-most (placesOf k) 36 (λ place h. rw (place-is place h) (term-le place h))
+    longest-limit = longest-most (placesOf (k .cells)) 36 (λ place h. rw (place-is place h) (term-le place h))
 
     -- no number of a row is above the limit of a value
     valueAt-le : (ρ : Rounding) (scenario place : ℕ) → place < 36 → valueAt ρ k scenario place ≤ valueLimit
     unfolding valueAt placeAt
-    valueAt-le ρ scenario place h = held-le k place (placeAt k place) (deposit-limits k v place h) (balanceAt-limit k v place h) ρ scenario
+    valueAt-le ρ scenario place h = held-le k place (placeAt (k .cells) place) (deposit-limits k v place h) (balanceAt-limit (k .cells) (v .of-cells) place h) ρ scenario
 
     bounds-le : (place scenario : ℕ) → place < 36 → (i : ℕ) → getD (valuesOf k place scenario) i 0 ≤ valueLimit
     unfolding valuesOf
@@ -95,7 +95,7 @@ module _ (k : Contents) where
 
     pub row-le : (place : ℕ) → place < 36 → (i : ℕ) → getD (placeNumbers k place) i 0 ≤ valueLimit
     unfolding placeNumbers
-    row-le place h zero = omega (arith, balanceAt-limit k v place h)
+    row-le place h zero = omega (arith, balanceAt-limit (k .cells) (v .of-cells) place h)
     row-le place h (suc i) = joined-le 0 7 (valuesOf k place) valueLimit (λ scenario j l u. bounds-le place scenario h j) i
 
 -- what the code has in hand when it comes to the rows: the filing's tiers, its places, and tables of its lower and upper factors
@@ -103,35 +103,35 @@ pub record Prepared (k : Contents) (tiers : WithdrawalTiers) (places : List SubB
   pub valid : Valid k
   pub tiers-are : tierTable tiers ≡ filingTiers k
   pub usable : Usable tiers
-  pub places-are : places ≡ placesOf k
-  pub lower-holds : HoldsFactors down (longestTerm (placesOf k)) (factorsBy down (k .yields) (longestTerm (placesOf k))) lower
-  pub upper-holds : HoldsFactors up (longestTerm (placesOf k)) (factorsBy up (k .yields) (longestTerm (placesOf k))) upper
+  pub places-are : places ≡ placesOf (k .cells)
+  pub lower-holds : HoldsFactors down (longestTerm (placesOf (k .cells))) (factorsBy down (k .yields) (longestTerm (placesOf (k .cells)))) lower
+  pub upper-holds : HoldsFactors up (longestTerm (placesOf (k .cells))) (factorsBy up (k .yields) (longestTerm (placesOf (k .cells)))) upper
 
 module _ (k : Contents) (tiers : WithdrawalTiers) (places : List SubBalance) (lower upper : List ℕ) (p : Prepared k tiers places lower upper) (place : ℕ) (h : place < 36) where
-  held-is : placeIn places place ≡ placeAt k place
+  held-is : placeIn places place ≡ placeAt (k .cells) place
   held-is = rw (p .places-are) (place-is k place h)
 
   -- what a place holds is within its limits
   pub held-limits : (placeIn places place .balance ≤ balanceLimit) × DepositLimits (depositAt place (placeIn places place))
   unfolding placeAt
-  held-limits = rw held-is (balanceAt-limit k (p .valid) place h, deposit-limits k (p .valid) place h)
+  held-limits = rw held-is (balanceAt-limit (k .cells) (p .valid .of-cells) place h, deposit-limits k (p .valid) place h)
 
   -- the tables reach as far as its months do if it has a balance
-  reach : 0 < placeIn places place .balance → depositAt place (placeIn places place) .months ≤ longestTerm (placesOf k)
+  reach : 0 < placeIn places place .balance → depositAt place (placeIn places place) .months ≤ longestTerm (placesOf (k .cells))
   unfolding depositAt placeAt
   reach = rw held-is (months-le-longest k place h)
 
   holds : 0 < placeIn places place .balance
-      → HoldsFactors down (depositAt place (placeIn places place) .months) (factorsBy down (k .yields) (longestTerm (placesOf k))) lower
-      × HoldsFactors up (depositAt place (placeIn places place) .months) (factorsBy up (k .yields) (longestTerm (placesOf k))) upper
+      → HoldsFactors down (depositAt place (placeIn places place) .months) (factorsBy down (k .yields) (longestTerm (placesOf (k .cells)))) lower
+      × HoldsFactors up (depositAt place (placeIn places place) .months) (factorsBy up (k .yields) (longestTerm (placesOf (k .cells)))) upper
   holds pos = (λ i l. p .lower-holds i (omega (arith, l, reach pos)), λ i l. p .upper-holds i (omega (arith, l, reach pos)))
 
   pub tables : 0 < placeIn places place .balance
       → Discounting down (depositAt place (placeIn places place) .months) lower × Discounting up (depositAt place (placeIn places place) .months) upper
   tables pos = (
-    lower-discounting (factorsBy down (k .yields) (longestTerm (placesOf k))) lower _ (holds pos .0) (factors-at-most-par down (k .yields) (longestTerm (placesOf k))),
-    upper-discounting (factorsBy up (k .yields) (longestTerm (placesOf k))) upper _ (holds pos .1) (factors-at-most-par up (k .yields) (longestTerm (placesOf k)))
-        (λ i l. upper-factor-pos (k .yields) (longestTerm (placesOf k)) i (longest-limit k (p .valid)) (omega (arith, l, reach pos))),
+    lower-discounting (factorsBy down (k .yields) (longestTerm (placesOf (k .cells)))) lower _ (holds pos .0) (factors-at-most-par down (k .yields) (longestTerm (placesOf (k .cells)))),
+    upper-discounting (factorsBy up (k .yields) (longestTerm (placesOf (k .cells)))) upper _ (holds pos .1) (factors-at-most-par up (k .yields) (longestTerm (placesOf (k .cells))))
+        (λ i l. upper-factor-pos (k .yields) (longestTerm (placesOf (k .cells))) i (longest-limit k (p .valid)) (omega (arith, l, reach pos))),
   )
 
   -- the row of a place has its fifteen numbers
@@ -141,10 +141,10 @@ module _ (k : Contents) (tiers : WithdrawalTiers) (places : List SubBalance) (lo
   unfolding rowOf placeNumbers valuesOf valueAt placeAt valuesHeld boundsHeld
   row-is =
       rw (
-        held-by place (placeIn places place) (k .rates) (tierTable tiers) (factorsBy down (k .yields) (longestTerm (placesOf k)))
-            (factorsBy up (k .yields) (longestTerm (placesOf k))) lower upper holds,
+        held-by place (placeIn places place) (k .rates) (tierTable tiers) (factorsBy down (k .yields) (longestTerm (placesOf (k .cells))))
+            (factorsBy up (k .yields) (longestTerm (placesOf (k .cells)))) lower upper holds,
         p .tiers-are,
         held-is,
       )
-      (ap (λ (l : List ℕ). balanceAt k place ∷ l)
-      (held-are k place (placeAt k place) (deposit-limits k (p .valid) place h) (longestTerm (placesOf k)) (months-le-longest k place h)))
+      (ap (λ (l : List ℕ). balanceAt (k .cells) place ∷ l)
+      (held-are k place (placeAt (k .cells) place) (deposit-limits k (p .valid) place h) (longestTerm (placesOf (k .cells))) (months-le-longest k place h)))

@@ -26,7 +26,7 @@ use Rattle.place_values.proofs.HeldLaws.{held-encloses, held-width}
 pub valueAt-encloses : (k : Contents) (scenario place : ℕ)
     → Encloses (valueAt down k scenario place) (exactValueAt k scenario place) (valueAt up k scenario place)
 unfolding valueAt exactValueAt
-valueAt-encloses k scenario place = held-encloses k place (placeAt k place) scenario
+valueAt-encloses k scenario place = held-encloses k place (placeAt (k .cells) place) scenario
 
 -- and for the total over any places
 pub totalBy-encloses : (test : ℕ → Bool) (k : Contents) (scenario : ℕ)
@@ -37,9 +37,9 @@ totalBy-encloses test k scenario =
 
 -- 250 × (upper - lower) ≤ balance + 500
 pub valueAt-width : (k : Contents) → Valid k → (scenario place : ℕ) → place < 36
-    → 250 * valueAt up k scenario place ≤ 250 * valueAt down k scenario place + (balanceAt k place + 500)
+    → 250 * valueAt up k scenario place ≤ 250 * valueAt down k scenario place + (balanceAt (k .cells) place + 500)
 unfolding valueAt placeAt
-valueAt-width k v scenario place h = held-width k place (placeAt k place) (deposit-limits k v place h) scenario
+valueAt-width k v scenario place h = held-width k place (placeAt (k .cells) place) (deposit-limits k v place h) scenario
 
 -- over all places: 250 × (sum of upper - sum of lower) ≤ total + 18,000
 pub all-width : (k : Contents) → Valid k → (scenario : ℕ)
@@ -48,8 +48,8 @@ unfolding totalBy
 all-width k v scenario =
     omega (
       arith,
-      widths-add (valueAt down k scenario) (valueAt up k scenario) (balanceAt k) subBalanceCount (valueAt-width k v scenario),
-      balanceAt-total k v,
+      widths-add (valueAt down k scenario) (valueAt up k scenario) (balanceAt (k .cells)) subBalanceCount (valueAt-width k v scenario),
+      balanceAt-total (k .cells) (v .of-cells),
     )
 
 -- the short and the long total together are the total over all places

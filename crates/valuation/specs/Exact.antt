@@ -10,7 +10,7 @@ use Rattle.place_values.specs.HeldValues.{exactHeld}
 
 -- the exact value of the sub-balance at a place, 0 to 35, in a scenario, 0 to 6
 unfoldable pub exactValueAt : Contents → ℕ → ℕ → Fraction
-exactValueAt k scenario place = exactHeld k scenario place (placeAt k place)
+exactValueAt k scenario place = exactHeld k scenario place (placeAt (k .cells) place)
 
 -- the exact total over the places that pass a test
 unfoldable pub exactTotal : (ℕ → Bool) → Contents → ℕ → Fraction

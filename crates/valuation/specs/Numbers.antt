@@ -18,7 +18,7 @@ valuesOf k place scenario = valueAt down k scenario place ∷ valueAt up k scena
 
 -- the 15 numbers of a place: its balance, then lower and upper for each scenario
 unfoldable pub placeNumbers : Contents → ℕ → List ℕ
-placeNumbers k place = balanceAt k place ∷ joined (table scenarioCount (valuesOf k place))
+placeNumbers k place = balanceAt (k .cells) place ∷ joined (table scenarioCount (valuesOf k place))
 
 -- the four totals of a scenario: short lower, short upper, long lower, long upper
 unfoldable pub scenarioTotals : Contents → ℕ → List ℕ

@@ -10,7 +10,7 @@ use Rattle.place_values.specs.HeldValues.{valueHeld}
 
 -- the value of the sub-balance at a place, 0 to 35, in a scenario, 0 to 6
 unfoldable pub valueAt : Rounding → Contents → ℕ → ℕ → ℕ
-valueAt ρ k scenario place = valueHeld ρ k scenario place (placeAt k place)
+valueAt ρ k scenario place = valueHeld ρ k scenario place (placeAt (k .cells) place)
 
 -- the total over the places that pass a test
 unfoldable pub totalBy : Rounding → (ℕ → Bool) → Contents → ℕ → ℕ

@@ -1,5 +1,6 @@
 // The 568 numbers of what an accepted filing says, written into a list. Its cells, yields and rates are lent: in the contracts k is the filing's contents,
 // with these arrays and the tiers passed.
+use conditions::ColumnSums;
 use contents::FiledTiers;
 use discounts::discount_tables;
 use lists::write;
@@ -14,7 +15,9 @@ ghost use mathlib.Core.List.{_++_};
 ghost use Prim.Native.Nat.{_≤_};
 ghost use lib.ListN.{length, drop};
 ghost use Rattle.lists.specs.Tables.{table, joined};
+ghost use Rattle.conditions.specs.Inner.Sums.{columnSums};
 ghost use Rattle.contents.specs.declared.Contents.{Contents};
+ghost use Rattle.contents.specs.Contents.{contentsWith};
 ghost use Rattle.contents.specs.Valid.{Valid};
 ghost use Rattle.sub_balances.specs.PlaceOrder.{subBalanceCount};
 ghost use Rattle.valuation.specs.Numbers.{placeNumbers, numbers, numberCount};
@@ -22,17 +25,18 @@ ghost use Rattle.valuation.specs.Numbers.{placeNumbers, numbers, numberC
 // The rows of the places, and then the totals, which are taken from the rows. The rest of the list is left as it was.
 pub(crate) fn write_numbers<'a>(
     cells: &'a [u64; CELLS],
+    sums: ColumnSums,
     yields: &'a [u16; 120],
     rates: &'a [u16; 360],
     tiers: FiledTiers,
     list: &mut [u64],
 )
     ghost { Contents }
-    requires { λ k. ⌜ k ≡ record { cells = now cells; yields = now yields; rates = now rates; tiers = tiers } ⌝ }
-    requires { λ k. ⌜ Valid k × (numberCount ≤ length (now list)) ⌝ }
+    requires { λ k. ⌜ k ≡ contentsWith (now cells) (now yields) (now rates) tiers ⌝ }
+    requires { λ k. ⌜ Valid k × (sums ≡ columnSums (k .cells)) × (numberCount ≤ length (now list)) ⌝ }
     ensures { λ k _. ⌜ now (list .exit) ≡ numbers k ++ drop numberCount (now (list .entry)) ⌝ }
 {
-    write_rows(cells, yields, rates, tiers, list);
+    write_rows(cells, sums, yields, rates, tiers, list);
     let totals = totals_of(list);
     write(list, 540, &totals);
 }
@@ -40,18 +44,19 @@ pub(crate) fn write_numbers<'a>(
 // The fifteen numbers of each place, one place after the other.
 fn write_rows(
     cells: &[u64; CELLS],
+    sums: ColumnSums,
     yields: &[u16; 120],
     rates: &[u16; 360],
     filed: FiledTiers,
     list: &mut [u64],
 )
     ghost { Contents }
-    requires { λ k. ⌜ k ≡ record { cells = now cells; yields = now yields; rates = now rates; tiers = filed } ⌝ }
-    requires { λ k. ⌜ Valid k × (540 ≤ length (now list)) ⌝ }
+    requires { λ k. ⌜ k ≡ contentsWith (now cells) (now yields) (now rates) filed ⌝ }
+    requires { λ k. ⌜ Valid k × (sums ≡ columnSums (k .cells)) × (540 ≤ length (now list)) ⌝ }
     ensures { λ k _. ⌜ now (list .exit) ≡ joined (table subBalanceCount (placeNumbers k)) ++ drop 540 (now (list .entry)) ⌝ }
 {
     let tiers = tiers_of(filed);
-    let places = places_of(cells);
+    let places = places_of(cells, sums);
     let longest = longest_term(places);
     let mut lower = [0u64; 840];
     let mut upper = [0u64; 840];

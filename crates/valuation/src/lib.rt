@@ -20,9 +20,11 @@ pub fn value(filing: &[u8], numbers: &mut [u64]) -> Answer
     if number(answer) != 0 {
         return answer;
     }
+    let sums = reading.sums;
     let tiers = reading.contents.tiers;
     write_numbers(
         &reading.contents.cells,
+        sums,
         &reading.contents.yields,
         &reading.contents.rates,
         tiers,

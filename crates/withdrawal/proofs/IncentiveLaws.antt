@@ -1,5 +1,5 @@
 -- The incentive that the code holds: its gain and cost are the definition's, and within the limits its figures are small. Assumes nothing.
-use Prim.Native.Nat.{ℕ, _*_, _-_, _≤_}
+use Prim.Native.Nat.{ℕ, _*_, _≤_}
 use mathlib.Core.Path.{_≡_, refl}
 use native.Mathlib.Nat.{mul-le-mul, mul-le-mul-left, sub-le}
 use native.Mathlib.Omega.{arith}

@@ -28,8 +28,11 @@ returns : tie.Need-returns
 returns c =
     let total = c .before .before in
     let columns = total .before .before .before in
-    cells-in-turn _ (c .first-refusal2 .ensures) (c .before .first-refusal .ensures) (columns .before .before .before .check-months .ensures) (columns .check-columns .ensures)
-    (total .check-total .ensures)
+    let months = columns .before .before .before in (
+      cells-in-turn _ (c .first-refusal2 .ensures) (c .before .first-refusal .ensures) (months .check-months .ensures) (columns .check-columns .ensures)
+          (total .check-total .ensures),
+      months .before .column-sums .ensures,
+    )
 
 pub check-cells-spec : {M : Type 1} → statement M
 check-cells-spec =

@@ -2,11 +2,11 @@
 -- Assumes nothing.
 use Prim.Native.Nat.{ℕ, _<_}
 use mathlib.Core.List.{List}
-use mathlib.Core.Path.{_≡_, ap, _∙_}
+use mathlib.Core.Path.{_≡_, refl, ap, _∙_}
 use lib.Dec.{lit<}
 use lib.ListN.{getD}
 use borrow.Author.Needs.{needs}
-use Rattle.records.specs.Kinds.{kindCount, flatRatesKind, tiersKind, ratePathKind}
+use Rattle.records.specs.Kinds.{kindCount, yieldsKind, flatRatesKind, tiersKind, ratePathKind}
 use Rattle.decode.specs.Contents.{sheetOffset, contentsOf}
 use Rattle.decode.proofs.ContentsLaws.{sheet-noted}
 use Rattle.decode.proofs.contents_of.Statement.{statement}
@@ -16,28 +16,25 @@ use Rattle.decode.proofs.contents_of.Tie as tie
 sheet-is : (c : tie.Start) (kind : ℕ) → kind < kindCount → getD (c .args .sheets .now) kind 0 ≡ sheetOffset (c .args .s .now) kind
 sheet-is c kind h = ap (λ (l : List ℕ). getD l kind 0) (c .pre .1 .0) ∙ sheet-noted _ kind h
 
-cell-values-requires : tie.Need-cell-values-requires
-cell-values-requires c κs = (c .before .pre .0, c .before .pre .1 .1)
+fill-cells-requires : tie.Need-fill-cells-requires
+fill-cells-requires c κs = search needs
 
-element-copy-out-fill-numbers : tie.Need-element-copy-out-fill-numbers
-element-copy-out-fill-numbers c = search needs
+element-copy-out-fill-yields : tie.Need-element-copy-out-fill-yields
+element-copy-out-fill-yields c = search needs
 
-slice-aggregate-fill-numbers : tie.Need-slice-aggregate-fill-numbers
-slice-aggregate-fill-numbers c = search needs
+fill-yields-requires : tie.Need-fill-yields-requires
+fill-yields-requires c κs = (sheet-is (c .before .before .before .before .before) yieldsKind (lit< tt), refl)
 
-fill-numbers-requires : tie.Need-fill-numbers-requires
-fill-numbers-requires c κs = search needs
+element-copy-out-fill-rates : tie.Need-element-copy-out-fill-rates
+element-copy-out-fill-rates c = search needs
 
-element-copy-out-rate-numbers : tie.Need-element-copy-out-rate-numbers
-element-copy-out-rate-numbers c = search needs
+element-copy-out-fill-rates-2 : tie.Need-element-copy-out-fill-rates-2
+element-copy-out-fill-rates-2 c = search needs
 
-element-copy-out-rate-numbers-2 : tie.Need-element-copy-out-rate-numbers-2
-element-copy-out-rate-numbers-2 c = search needs
-
-rate-numbers-requires : tie.Need-rate-numbers-requires
-rate-numbers-requires c κs =
-    let start = c .before .before .before .before .before .before .before .before in
-    (sheet-is start flatRatesKind (lit< tt), sheet-is start ratePathKind (lit< tt))
+fill-rates-requires : tie.Need-fill-rates-requires
+fill-rates-requires c κs =
+    let start = c .before .before .before .before .before .before .before .before .before in
+    (sheet-is start flatRatesKind (lit< tt), sheet-is start ratePathKind (lit< tt), refl)
 
 element-copy-out-tiers-at : tie.Need-element-copy-out-tiers-at
 element-copy-out-tiers-at c = search needs
@@ -51,13 +48,12 @@ returns c =
     let rates = c .before .before in
     let yields = rates .before .before .before .before in
     let cells = yields .before .before .before in
-    let start = cells .before .before in
+    let start = cells .before .before .before in
     rw (
-      cells .cell-values .ensures,
-      yields .fill-numbers .ensures,
-      rates .rate-numbers .ensures,
+      cells .fill-cells .ensures,
+      yields .fill-yields .ensures,
+      rates .fill-rates .ensures,
       c .tiers-at .ensures,
-      sheet-is start 2 (lit< tt),
       sheet-is start tiersKind (lit< tt),
     )
 
@@ -65,13 +61,12 @@ pub contents-of-spec : {M : Type 1} → statement M
 contents-of-spec =
     tie.close
     (tie.spec
-    cell-values-requires
-    element-copy-out-fill-numbers
-    slice-aggregate-fill-numbers
-    fill-numbers-requires
-    element-copy-out-rate-numbers
-    element-copy-out-rate-numbers-2
-    rate-numbers-requires
+    fill-cells-requires
+    element-copy-out-fill-yields
+    fill-yields-requires
+    element-copy-out-fill-rates
+    element-copy-out-fill-rates-2
+    fill-rates-requires
     element-copy-out-tiers-at
     tiers-at-requires
     returns)

@@ -35,11 +35,11 @@ refusal-requires c κs = search needs
 abbrev bytes : tie.After-check-cells → List ℕ
 bytes c = c .before .before .before .before .before .args .filing .now
 
-decided : (c : tie.After-check-cells) → verdictOf (c .check-cells .result) ≡ filingVerdict (bytes c)
+decided : (c : tie.After-check-cells) → verdictOf (c .check-cells .result .answer) ≡ filingVerdict (bytes c)
 decided c =
     let read = c .before .before .before in
     let start = read .before .before in
-    c .check-cells .ensures ∙ ap contentsVerdict (read .contents-of .ensures) ∙ contents-decide _ (start .pre .0 .0) (start .pre .0 .1)
+    c .check-cells .ensures .0 ∙ ap contentsVerdict (read .contents-of .ensures) ∙ contents-decide _ (start .pre .0 .0) (start .pre .0 .1)
 
 returns : tie.Need-returns
 returns c =
@@ -49,9 +49,16 @@ returns c =
 returns-2 : tie.Need-returns-2
 unfolding verdictOf
 returns-2 c =
-    let v = decided (c .before .before) in
-    let zero = sym (c .before .number .ensures) ∙ c .if1 .left in
-    (v, c .before .before .before .before .before .contents-of .ensures ∙ contents-accepted _ (sym (ap (λ (u : Verdict). u .number) v) ∙ zero))
+    let tested = c .before .before in
+    let checked = tested .before in
+    let v = decided checked in
+    let zero = sym (tested .number .ensures) ∙ c .before .if1 .left in (
+      v,
+      (
+        checked .before .before .before .contents-of .ensures ∙ contents-accepted _ (sym (ap (λ (u : Verdict). u .number) v) ∙ zero),
+        checked .check-cells .ensures .1,
+      ),
+    )
 
 pub read-contents-spec : {M : Type 1} → statement M
 read-contents-spec =

@@ -3,9 +3,9 @@ use borrow.Author.Needs.{needs}
 use mathlib.Core.Path.{refl, sym, ap, _∙_}
 use native.Mathlib.Omega.{arith}
 use Rattle.answers.specs.Answers.{numberOf, verdictOf}
+use Rattle.contents.specs.declared.Contents.{Contents}
 use Rattle.filing.proofs.ReadingLaws.{reading-accepted}
 use Rattle.shares.specs.Places.{placesOf}
-use Rattle.shares.proofs.CellLaws.{cells-valid, cells-places}
 use Rattle.split_outcomes.proofs.OutcomeLaws.{split-short, split-filing, outcome-refused, outcome-accepted}
 use Rattle.split_outcomes.proofs.outcome_of.Statement.{statement}
 use Rattle.split_outcomes.proofs.outcome_of.Tie as tie
@@ -41,20 +41,20 @@ returns-2 c =
 
 places-of-requires : tie.Need-places-of-requires
 places-of-requires c κs =
-    let read = c .before .before .before .before .read in
-    let zero = sym (c .before .before .before .number .ensures) ∙ c .before .before .if2 .left in
-    cells-valid (read .result .contents) (reading-accepted _ (read .result .answer) (read .result .contents) (read .ensures .0) (read .ensures .1) zero .1)
+    let read = c .before .before .before .before .before .read in
+    let zero = sym (c .before .before .before .before .number .ensures) ∙ c .before .before .before .if2 .left in
+    (reading-accepted _ (read .result .answer) (read .result .contents) (read .ensures .0) (read .ensures .1 .0) zero .1 .of-cells, read .ensures .1 .1)
 
 returns-3 : tie.Need-returns-3
 returns-3 c =
-    let a = c .before .before .before .before .before .before .before .before .args in
-    let read = c .before .before .before .before .before .read in
-    let zero = sym (c .before .before .before .before .number .ensures) ∙ c .before .before .before .if2 .left in
+    let a = c .before .before .before .before .before .before .before .before .before .args in
+    let read = c .before .before .before .before .before .before .read in
+    let zero = sym (c .before .before .before .before .before .number .ensures) ∙ c .before .before .before .before .if2 .left in
     let k = read .result .contents in
-    let is = reading-accepted (a .filing .now) (read .result .answer) k (read .ensures .0) (read .ensures .1) zero .0 in
+    let is = reading-accepted (a .filing .now) (read .result .answer) k (read .ensures .0) (read .ensures .1 .0) zero .0 in
     outcome-accepted (a .filing .now) (a .size) _
-    (read .ensures .0 ∙ split-filing (a .filing .now) (a .size) (c .before .before .before .before .before .before .if1 .left)) zero
-    (c .places-of .ensures ∙ cells-places k ∙ ap placesOf is) refl
+    (read .ensures .0 ∙ split-filing (a .filing .now) (a .size) (c .before .before .before .before .before .before .before .if1 .left)) zero
+    (c .places-of .ensures ∙ ap (λ (k : Contents). placesOf (k .cells)) is) refl
 
 pub outcome-of-spec : {M : Type 1} → statement M
 outcome-of-spec =

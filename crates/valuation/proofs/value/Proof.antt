@@ -22,10 +22,10 @@ returns-2 c =
 
 write-numbers-requires : tie.Need-write-numbers-requires
 write-numbers-requires c κs =
-    let accepted = c .before .before .before .before .before .before in
+    let accepted = c .before .before .before .before .before .before .before in
     let reading = accepted .before .before in
     let zero = sym (accepted .before .number .ensures) ∙ accepted .if2 .left in
-    (reading-accepted _ _ _ (reading .read .ensures .0) (reading .read .ensures .1) zero .1, reading .before .if1 .left)
+    (reading-accepted _ _ _ (reading .read .ensures .0) (reading .read .ensures .1 .0) zero .1, reading .read .ensures .1 .1, reading .before .if1 .left)
 
 same-length : tie.Need-same-length
 same-length c = search needs
@@ -33,10 +33,10 @@ same-length c = search needs
 returns-3 : tie.Need-returns-3
 returns-3 c =
     let written = c .before .before in
-    let accepted = written .before .before .before .before .before .before .before in
+    let accepted = written .before .before .before .before .before .before .before .before in
     let reading = accepted .before .before in
     valued-filing _ _ (reading .before .if1 .left) _ (reading .read .ensures .0) (sym (accepted .before .number .ensures) ∙ accepted .if2 .left)
-    _ (reading .read .ensures .1) _ (written .write-numbers .ensures)
+    _ (reading .read .ensures .1 .0) _ (written .write-numbers .ensures)
 
 pub value-spec : {M : Type 1} → statement M
 value-spec =

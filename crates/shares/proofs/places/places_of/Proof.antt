@@ -6,34 +6,30 @@ use native.Mathlib.Omega.{arith}
 use lib.Dec.{lit<}
 use borrow.Author.Needs.{needs}
 use Rattle.lists.proofs.FillLaws.{Filled, fill-none, fill-all}
-use Rattle.contents.specs.Valid.{Valid}
+use Rattle.conditions.specs.ValidCells.{ValidCells}
 use Rattle.sub_balances.specs.Places.{noPlace}
 use Rattle.shares.specs.Places.{placeAt, placesOf}
 use Rattle.apportion.specs.Inner.Rows.{RowWithin}
-use Rattle.shares.specs.Inner.Cells.{cellsAlone}
 use Rattle.shares.proofs.RowLaws.{row-within}
 use Rattle.shares.proofs.PlaceLaws.{place-of, fill-place}
 use Rattle.shares.proofs.places.places_of.Statement.{statement}
 use Rattle.shares.proofs.places.places_of.Tie as tie
 
 abbrev Inv-loop : tie.InvT-loop
-Inv-loop cells sums places₀ i₀ places i = (i ≤ 9) × Filled (placeAt (cellsAlone cells)) noPlace 36 (4 * i) places
+Inv-loop cells sums places₀ i₀ places i = (i ≤ 9) × Filled (placeAt cells) noPlace 36 (4 * i) places
 
 abbrev μ-loop : tie.MeasureT-loop
 μ-loop cells sums places₀ i₀ places i = 9 - i
-
-column-sums-requires : tie.Need-column-sums-requires Inv-loop μ-loop
-column-sums-requires c κs = c .pre .balance-limit
 
 loop-holds : tie.Need-loop-holds Inv-loop μ-loop
 loop-holds c = (omega arith, fill-none (placeAt _) noPlace noPlace 36)
 
 -- what holds at the loop's head: the cells are valid
-valid : (c : tie.At-loop Inv-loop μ-loop) → Valid (cellsAlone (c .before .before .args .cells .now))
-valid c = c .before .before .pre
+valid : (c : tie.At-loop Inv-loop μ-loop) → ValidCells (c .before .args .cells .now)
+valid c = c .before .pre .0
 
 row-at-requires : tie.Need-row-at-requires Inv-loop μ-loop
-row-at-requires c κs = (c .before .before .column-sums .ensures, c .loop-test .taken)
+row-at-requires c κs = (c .before .before .pre .1, c .loop-test .taken)
 
 row-shares-requires : tie.Need-row-shares-requires Inv-loop μ-loop
 row-shares-requires c κs =
@@ -110,15 +106,15 @@ loop-again : tie.Need-loop-again Inv-loop μ-loop
 loop-again c =
     let shares = c .before .before .before .before in
     let test = shares .before .before in
-    let k = cellsAlone (test .before .before .before .args .cells .now) in
+    let cells = test .before .before .args .cells .now in
     let loop = test .before .loop in
     let i = loop .i in
-    let place = place-of k (valid (test .before)) i (test .loop-test .taken) _ (shares .before .row-at .ensures) _ (shares .row-shares .ensures) in (
+    let place = place-of cells (valid (test .before)) i (test .loop-test .taken) _ (shares .before .row-at .ensures) _ (shares .row-shares .ensures) in (
       omega arith,
-      fill-place k (4 * i + 3) (4 * (i + 1)) _ _ (omega arith) (omega arith) (c .place-in4 .ensures ∙ place 3 (4 * i + 3) refl (lit< tt))
-          (fill-place k (4 * i + 2) (4 * i + 3) _ _ (omega arith) (omega arith) (c .before .place-in3 .ensures ∙ place 2 (4 * i + 2) refl (lit< tt))
-          (fill-place k (4 * i + 1) (4 * i + 2) _ _ (omega arith) (omega arith) (c .before .before .place-in2 .ensures ∙ place 1 (4 * i + 1) refl (lit< tt))
-          (fill-place k (4 * i) (4 * i + 1) _ _ refl (omega arith) (c .before .before .before .place-in .ensures ∙ place 0 (4 * i) (omega arith) (lit< tt)) (loop .inv .1)))),
+      fill-place cells (4 * i + 3) (4 * (i + 1)) _ _ (omega arith) (omega arith) (c .place-in4 .ensures ∙ place 3 (4 * i + 3) refl (lit< tt))
+          (fill-place cells (4 * i + 2) (4 * i + 3) _ _ (omega arith) (omega arith) (c .before .place-in3 .ensures ∙ place 2 (4 * i + 2) refl (lit< tt))
+          (fill-place cells (4 * i + 1) (4 * i + 2) _ _ (omega arith) (omega arith) (c .before .before .place-in2 .ensures ∙ place 1 (4 * i + 1) refl (lit< tt))
+          (fill-place cells (4 * i) (4 * i + 1) _ _ refl (omega arith) (c .before .before .before .place-in .ensures ∙ place 0 (4 * i) (omega arith) (lit< tt)) (loop .inv .1)))),
     )
 
 returns : tie.Need-returns Inv-loop μ-loop
@@ -133,7 +129,6 @@ places-of-spec =
     (tie.spec
     Inv-loop
     μ-loop
-    column-sums-requires
     loop-holds
     row-at-requires
     row-shares-requires

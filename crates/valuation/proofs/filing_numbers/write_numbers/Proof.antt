@@ -12,7 +12,7 @@ totals-of-requires : tie.Need-totals-of-requires
 totals-of-requires c κs =
     let rows = c .before .before .before in
     let start = rows .before .before .before in
-    rows-within _ (start .args .list .now) _ (start .pre .1) (rows .write-rows .ensures) (start .pre .0)
+    rows-within _ (start .args .list .now) _ (start .pre .2) (rows .write-rows .ensures) (start .pre .0)
 
 slice-aggregate-write : tie.Need-slice-aggregate-write
 slice-aggregate-write c = search needs
@@ -28,7 +28,7 @@ returns c =
     let totals = c .before .before .before .before .before in
     let rows = totals .before .before .before .before in
     let start = rows .before .before .before in
-    c .before .before .write .ensures ∙ numbers-written _ (start .args .list .now) _ (start .pre .1) (rows .write-rows .ensures) (totals .totals-of .result) (totals .totals-of .ensures)
+    c .before .before .write .ensures ∙ numbers-written _ (start .args .list .now) _ (start .pre .2) (rows .write-rows .ensures) (totals .totals-of .result) (totals .totals-of .ensures)
 
 pub write-numbers-spec : {M : Type 1} → statement M
 write-numbers-spec =

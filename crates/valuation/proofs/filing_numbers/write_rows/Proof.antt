@@ -1,6 +1,6 @@
 -- `valuation::filing_numbers::write_rows` meets its contract: the rows of the places passed are written. Assumes nothing.
-use Prim.Native.Nat.{ℕ, _+_, _*_, _-_, _≤_, _<_}
-use mathlib.Core.List.{List, []}
+use Prim.Native.Nat.{_+_, _*_, _-_, _≤_, _<_}
+use mathlib.Core.List.{[]}
 use mathlib.Core.Path.{_≡_, refl, ap, _∙_}
 use native.Mathlib.Omega.{arith}
 use lib.ListN.{length}
@@ -8,9 +8,9 @@ use Rattle.lists.specs.Tables.{tableFrom, table, joined}
 use Rattle.lists.proofs.RunLaws.{Overwritten, overwritten-none, overwritten-row}
 use Rattle.contents.specs.declared.Contents.{Contents}
 use Rattle.contents.specs.declared.FiledTiers.{FiledTiers}
+use Rattle.contents.specs.Contents.{contentsWith}
 use Rattle.valuation.specs.Numbers.{placeNumbers}
 use Rattle.shares.specs.Places.{placesOf}
-use Rattle.shares.proofs.CellLaws.{cells-valid, cells-places}
 use Rattle.place_values.specs.Inner.LongestTerm.{longestTerm}
 use Rattle.place_values.proofs.FilingTierLaws.{filed-limits}
 use Rattle.valuation.proofs.NumberLaws.{row-length}
@@ -19,23 +19,19 @@ use Rattle.valuation.proofs.RowLaws.{Prepared, longest-limit, held-limi
 use Rattle.valuation.proofs.filing_numbers.write_rows.Statement.{statement}
 use Rattle.valuation.proofs.filing_numbers.write_rows.Tie as tie
 
--- what a filing says, of the arrays and the tiers that are passed
-abbrev said : List ℕ → List ℕ → List ℕ → FiledTiers → Contents
-said cells yields rates filed = record { cells = cells; yields = yields; rates = rates; tiers = filed }
-
 -- the filing's own tiers are no variable of the loop: the rows are those of every filing with these arrays that the code is prepared for
 abbrev Inv-loop : tie.InvT-loop
 Inv-loop cells yields rates list₀ tiers places longest lower upper months₀ place₀ list months place =
     (place ≤ 36)
     × (540 ≤ length list₀)
-    × ((filed : FiledTiers) → Prepared (said cells yields rates filed) tiers places lower upper
-    → Overwritten (joined (table place (placeNumbers (said cells yields rates filed)))) (15 * place) list₀ list)
+    × ((filed : FiledTiers) → Prepared (contentsWith cells yields rates filed) tiers places lower upper
+    → Overwritten (joined (table place (placeNumbers (contentsWith cells yields rates filed)))) (15 * place) list₀ list)
 
 abbrev μ-loop : tie.MeasureT-loop
 μ-loop cells yields rates list₀ tiers places longest lower upper months₀ place₀ list months place = 36 - place
 
 abbrev contents : tie.Start Inv-loop μ-loop → Contents
-contents c = said (c .args .cells .now) (c .args .yields .now) (c .args .rates .now) (c .args .filed)
+contents c = contentsWith (c .args .cells .now) (c .args .yields .now) (c .args .rates .now) (c .args .filed)
 
 tiers-of-requires : tie.Need-tiers-of-requires Inv-loop μ-loop
 tiers-of-requires c κs = filed-limits (contents (c .before)) (c .before .pre .0)
@@ -43,17 +39,14 @@ tiers-of-requires c κs = filed-limits (contents (c .before)) (c .before .pre .0
 places-of-requires : tie.Need-places-of-requires Inv-loop μ-loop
 places-of-requires c κs =
     let start = c .before .before in
-    cells-valid (contents start) (start .pre .0)
+    (start .pre .0 .of-cells, start .pre .1)
 
 longest-term-requires : tie.Need-longest-term-requires Inv-loop μ-loop
 longest-term-requires c κs = tt
 
--- the places that are made are the filing's, and the term is their longest
-places-are : (c : tie.After-places-of Inv-loop μ-loop) → c .places-of .result ≡ placesOf (contents (c .before .before .before))
-places-are c = c .places-of .ensures ∙ cells-places (contents (c .before .before .before))
-
-longest-is : (c : tie.After-longest-term Inv-loop μ-loop) → c .longest-term .result ≡ longestTerm (placesOf (contents (c .before .before .before .before)))
-longest-is c = c .longest-term .ensures ∙ ap longestTerm (places-are (c .before))
+-- the term is the longest of the places that are made
+longest-is : (c : tie.After-longest-term Inv-loop μ-loop) → c .longest-term .result ≡ longestTerm (placesOf (contents (c .before .before .before .before) .cells))
+longest-is c = c .longest-term .ensures ∙ ap longestTerm (c .before .places-of .ensures)
 
 discount-tables-requires : tie.Need-discount-tables-requires Inv-loop μ-loop
 discount-tables-requires c κs =
@@ -72,14 +65,14 @@ prepared c =
       valid = tiers .before .before .pre .0;
       tiers-are = tiers .tiers-of .ensures .0;
       usable = tiers .tiers-of .ensures .1;
-      places-are = places-are (term .before);
+      places-are = term .before .places-of .ensures;
       lower-holds = rw (longest-is term) at (c .discount-tables .ensures .0);
       upper-holds = rw (longest-is term) at (c .discount-tables .ensures .1);
     }
 
 loop-holds : tie.Need-loop-holds Inv-loop μ-loop
 unfolding tableFrom joined
-loop-holds c = (omega arith, c .before .before .before .before .before .before .before .pre .1, λ filed p. overwritten-none _)
+loop-holds c = (omega arith, c .before .before .before .before .before .before .before .pre .2, λ filed p. overwritten-none _)
 
 -- at the loop's head: the rows of the places passed are written
 written : (c : tie.At-loop Inv-loop μ-loop)

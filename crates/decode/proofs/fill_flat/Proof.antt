@@ -1,4 +1,4 @@
--- `flat_rates` meets its contract: the rates of the three columns, one behind the other.
+-- `fill_flat` meets its contract: the rates of the three columns, one behind the other.
 -- Assumes nothing.
 use native.Mathlib.Omega.{arith}
 use mathlib.Core.Path.{ap, _∙_}
@@ -8,8 +8,8 @@ use Rattle.lists.proofs.TableLaws.{table-length}
 use Rattle.fields.specs.Records.{sheetNumber}
 use Rattle.decode.specs.Contents.{rateCount}
 use Rattle.decode.proofs.ContentsLaws.{flat-filled}
-use Rattle.decode.proofs.flat_rates.Statement.{statement}
-use Rattle.decode.proofs.flat_rates.Tie as tie
+use Rattle.decode.proofs.fill_flat.Statement.{statement}
+use Rattle.decode.proofs.fill_flat.Tie as tie
 
 sheet-number-requires : tie.Need-sheet-number-requires
 sheet-number-requires c κs = search needs
@@ -29,14 +29,14 @@ fill-from-requires-2 c κs = (omega arith, ap length (c .before .fill-from .ensu
 returns : tie.Need-returns
 returns c =
     let filled = c .before .before in
-    let third = filled .before .before in
+    let third = filled .before .before .before in
     let second = third .before in
     let start = second .before .before .before in
     flat-filled (sheetNumber (start .args .s .now) (start .args .flat)) (second .before .sheet-number .ensures) (second .sheet-number2 .ensures) (third .sheet-number3 .ensures)
     (filled .fill-from .ensures) (c .fill-from2 .ensures)
 
-pub flat-rates-spec : {M : Type 1} → statement M
-flat-rates-spec =
+pub fill-flat-spec : {M : Type 1} → statement M
+fill-flat-spec =
     tie.close
     (tie.spec
     sheet-number-requires
