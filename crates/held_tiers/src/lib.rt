@@ -7,13 +7,38 @@ ghost use mathlib.Core.Path.{_≡_};
 ghost use Rattle.withdrawal.specs.Tiers.{houseTiers};
 ghost use Rattle.withdrawal.specs.Inner.TierArrays.{tierTable, withSurvivals, TiersFit, Usable};
 
-// The house's tiers.
+// The house's tiers, with their survivals written out.
 pub fn house() -> WithdrawalTiers
     ensures { λ r. ⌜ (tierTable r ≡ houseTiers) × Usable r ⌝ }
 {
     let edges = [150, 130, 115, 100, 80, 50, 0, 0, 0, 0, 0, 0, 0, 0, 0, 0];
     let withdrawals = [550, 460, 320, 130, 75, 50, 0, 0, 0, 0, 0, 0, 0, 0, 0, 0];
-    with_survivals(6, edges, withdrawals, 40)
+    let survivals = [
+        935_623_330,
+        949_947_228,
+        968_372_414,
+        988_461_907,
+        993_524_263,
+        995_734_681,
+        0,
+        0,
+        0,
+        0,
+        0,
+        0,
+        0,
+        0,
+        0,
+        0,
+    ];
+    WithdrawalTiers {
+        count: 6,
+        edges,
+        withdrawals,
+        survivals,
+        otherwise: 40,
+        retained: 996_603_946,
+    }
 }
 
 // Tiers with the survival of each withdrawal beside it: the table of survivals is read here, not in each month.

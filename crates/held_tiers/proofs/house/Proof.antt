@@ -1,6 +1,7 @@
--- `held_tiers::house` meets its contract: the arrays hold the tiers of the definition. Assumes nothing.
+-- `held_tiers::house` meets its contract: the arrays hold the tiers of the definition and their survivals. Assumes nothing.
 use mathlib.Core.Path.{refl}
 use Rattle.lists.specs.Tables.{tableFrom}
+use Rattle.withdrawal.specs.Survival.{survives, withBits, survival}
 use Rattle.withdrawal.specs.Tiers.{tier, houseTiers}
 use Rattle.withdrawal.specs.Inner.TierArrays.{tierTable, tierTableOf, withSurvivals, inPlaces, held}
 use Rattle.withdrawal.proofs.FallingLaws.{house-falling}
@@ -8,12 +9,9 @@ use Rattle.withdrawal.proofs.HeldLaws.{tiers-fit-of-tests, fit-usable}
 use Rattle.held_tiers.proofs.house.Statement.{statement}
 use Rattle.held_tiers.proofs.house.Tie as tie
 
-with-survivals-requires : tie.Need-with-survivals-requires
-with-survivals-requires c κs = tiers-fit-of-tests _ _ _ _ tt tt tt tt
-
 returns : tie.Need-returns
-unfolding houseTiers tier tierTable tierTableOf withSurvivals inPlaces held tableFrom
-returns c = rw (c .with-survivals .ensures) (refl, fit-usable _ _ _ _ (tiers-fit-of-tests _ _ _ _ tt tt tt tt) refl house-falling)
+unfolding houseTiers tier tierTable tierTableOf withSurvivals inPlaces held tableFrom survival withBits survives
+returns c = (refl, fit-usable _ _ _ _ (tiers-fit-of-tests _ _ _ _ tt tt tt tt) refl house-falling)
 
 pub house-spec : {M : Type 1} → statement M
-house-spec = tie.close (tie.spec with-survivals-requires returns)
+house-spec = tie.close (tie.spec returns)
