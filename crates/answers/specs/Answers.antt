@@ -1,4 +1,4 @@
--- The answers of the code as verdicts of the paper's table (01:28-39; 02:CR 1, CR 3, CR 5, CR 6, CR 7): each case's number and place. Definitions only.
+-- The answers of the code as verdicts of the paper's table (01:28-39; 02:CR 1, CR 3, CR 5, CR 6, CR 7): each case's number and location. Definitions only.
 use Prim.Native.Nat.{ℕ}
 use Rattle.answers.specs.declared.Answer.{Answer}
 use Rattle.answers.specs.declared.Answer.the-variants.{Accepted, RecordIncomplete, RecordMisshapen, CellUnlisted, Repeated, PathBesideFlat, AmendmentRepeated, OverLimit, TiersUnsound, SheetMissing, MonthsOutsideRow, AboveColumnSum, TotalDiffers, ListTooShort, NoSuchDay, NotOutstanding, TooManyMonths, OutsidePlaceLimits}
@@ -25,27 +25,27 @@ numberOf (NotOutstanding certificate) = 14
 numberOf (TooManyMonths certificate) = 15
 numberOf (OutsidePlaceLimits place) = 17
 
--- the place of an answer
-abbrev pub placeOf : Answer → ℕ
-placeOf Accepted = 0
-placeOf (RecordIncomplete offset) = offset
-placeOf (RecordMisshapen offset) = offset
-placeOf (CellUnlisted offset) = offset
-placeOf (Repeated offset) = offset
-placeOf (PathBesideFlat offset) = offset
-placeOf (AmendmentRepeated offset) = offset
-placeOf (OverLimit offset) = offset
-placeOf (TiersUnsound offset) = offset
-placeOf (SheetMissing size) = size
-placeOf (MonthsOutsideRow cell) = cell
-placeOf (AboveColumnSum cell) = cell
-placeOf (TotalDiffers cell) = cell
-placeOf (ListTooShort size) = size
-placeOf (NoSuchDay certificate) = certificate
-placeOf (NotOutstanding certificate) = certificate
-placeOf (TooManyMonths certificate) = certificate
-placeOf (OutsidePlaceLimits place) = place
+-- the location of an answer
+abbrev pub locationOf : Answer → ℕ
+locationOf Accepted = 0
+locationOf (RecordIncomplete offset) = offset
+locationOf (RecordMisshapen offset) = offset
+locationOf (CellUnlisted offset) = offset
+locationOf (Repeated offset) = offset
+locationOf (PathBesideFlat offset) = offset
+locationOf (AmendmentRepeated offset) = offset
+locationOf (OverLimit offset) = offset
+locationOf (TiersUnsound offset) = offset
+locationOf (SheetMissing size) = size
+locationOf (MonthsOutsideRow cell) = cell
+locationOf (AboveColumnSum cell) = cell
+locationOf (TotalDiffers cell) = cell
+locationOf (ListTooShort size) = size
+locationOf (NoSuchDay certificate) = certificate
+locationOf (NotOutstanding certificate) = certificate
+locationOf (TooManyMonths certificate) = certificate
+locationOf (OutsidePlaceLimits place) = place
 
 -- the verdict that an answer stands for
 unfoldable pub verdictOf : Answer → Verdict
-verdictOf a = record { number = numberOf a; place = placeOf a }
+verdictOf a = record { number = numberOf a; location = locationOf a }

@@ -1,20 +1,20 @@
--- The verdict on a filing (01:26-41; the paper's "turned-back filings"): the number of its refusal with the place, or acceptance.
+-- The verdict on a filing (01:26-41; the paper's "turned-back filings"): the number of its refusal with the location, or acceptance.
 -- Definitions only.
 use Prim.Native.Nat.{ℕ}
 use mathlib.Core.Bool.{Bool, cond}
 use mathlib.Core.List.{List, [], _∷_}
 use lib.Dec.{ltb, eqb}
 
--- a refusal number of the table (01:28-39) with its place; number 0 and place 0 is acceptance
+-- a refusal number of the table (01:28-39) with its location, the paper's "place"; number 0 and location 0 is acceptance
 pub record Verdict : Type 0 where
   pub number : ℕ
-  pub place : ℕ
+  pub location : ℕ
 
 unfoldable pub accepted : Verdict
-accepted = record { number = 0; place = 0 }
+accepted = record { number = 0; location = 0 }
 
 unfoldable pub refused : ℕ → ℕ → Verdict
-refused n at = record { number = n; place = at }
+refused n at = record { number = n; location = at }
 
 -- one condition of the table: its refusal where it holds
 unfoldable pub refusedIf : Bool → ℕ → ℕ → Verdict
@@ -29,6 +29,6 @@ unfoldable pub firstOf : List Verdict → Verdict
 firstOf [] = accepted
 firstOf (v ∷ vs) = firstRefusal v (firstOf vs)
 
--- 10, at the length of a list of `size` places where `least` are needed
+-- 10, at the length of a list of `size` entries where `least` are needed
 unfoldable pub listVerdict : ℕ → ℕ → Verdict
 listVerdict least size = refusedIf (ltb size least) 10 size

@@ -1,9 +1,9 @@
-// The answers on a filing, on a list of certificates and on a change of a book, and the paper's number and place of each.
+// The answers on a filing, on a list of certificates and on a change of a book, and the paper's number and location of each.
 ghost use mathlib.Core.Path.{_≡_};
 ghost use Rattle.answers.specs.Verdict.{firstRefusal};
-ghost use Rattle.answers.specs.Answers.{numberOf, placeOf, verdictOf};
+ghost use Rattle.answers.specs.Answers.{numberOf, locationOf, verdictOf};
 
-// The answer: acceptance, or the first refusal and its place.
+// The answer: acceptance, or the first refusal and its location.
 pub enum Answer {
     Accepted,
     // At the record's offset; OverLimit of a certificate at its index.
@@ -57,9 +57,9 @@ pub fn number(answer: Answer) -> u64
     }
 }
 
-// The place of a refusal, 0 for acceptance.
-pub fn place(answer: Answer) -> usize
-    ensures { λ r. ⌜ r ≡ placeOf answer ⌝ }
+// The location of a refusal, 0 for acceptance.
+pub fn location(answer: Answer) -> usize
+    ensures { λ r. ⌜ r ≡ locationOf answer ⌝ }
 {
     match answer {
         Answer::Accepted => 0,

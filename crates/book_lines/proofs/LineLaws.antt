@@ -4,7 +4,7 @@ use mathlib.Core.Path.{_≡_, sym, _∙_}
 use mathlib.Core.List.{List, [], _∷_, _++_, append-assoc}
 use borrow.Author.Tests.{eq-eqb, ne-eqb}
 use Rattle.answers.specs.declared.Answer.{Answer}
-use Rattle.answers.specs.Answers.{numberOf, placeOf, verdictOf}
+use Rattle.answers.specs.Answers.{numberOf, locationOf, verdictOf}
 use Rattle.text.specs.Decimal.{decimal}
 use Rattle.text.specs.Lines.{spaced, restOfLine, refusalLine}
 use Rattle.book_lines.specs.BookLines.{answerLine}
@@ -15,9 +15,9 @@ module _ (line : List ℕ) (a : Answer) (number : ℕ) (n : number ≡ numberOf 
   unfolding answerLine verdictOf
   answer-taken h = rw (eq-eqb (numberOf a) 0 (sym n ∙ h))
 
-  pub answer-refused : (place : ℕ) → place ≡ placeOf a → (number ≡ 0 → ⊥) → refusalLine number place ≡ answerLine line (verdictOf a)
+  pub answer-refused : (location : ℕ) → location ≡ locationOf a → (number ≡ 0 → ⊥) → refusalLine number location ≡ answerLine line (verdictOf a)
   unfolding answerLine verdictOf
-  answer-refused place p h = rw (n, p, ne-eqb (numberOf a) 0 (λ e. h (n ∙ e)))
+  answer-refused location p h = rw (n, p, ne-eqb (numberOf a) 0 (λ e. h (n ∙ e)))
 
 -- the first number of the rest of a line
 rest-cons : (n : ℕ) (ns : List ℕ) → restOfLine (n ∷ ns) ≡ (32 ∷ decimal n) ++ restOfLine ns

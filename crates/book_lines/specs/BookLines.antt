@@ -18,7 +18,7 @@ okLine = 111 ∷ 107 ∷ 10 ∷ []
 
 -- a line where nothing is refused, else the line of the refusal
 unfoldable pub answerLine : List ℕ → Verdict → List ℕ
-answerLine line v = cond (eqb (v .number) 0) line (refusalLine (v .number) (v .place))
+answerLine line v = cond (eqb (v .number) 0) line (refusalLine (v .number) (v .location))
 
 -- what a place holds: balance, coupon, months, penalty and the fourteen values
 unfoldable pub heldLine : SubBalance → List ℕ

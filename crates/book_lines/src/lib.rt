@@ -1,7 +1,7 @@
 // The lines that a book prints: the answer on a change, what a place holds, and the totals.
 use answers::Answer;
 use answers::number;
-use answers::place;
+use answers::location;
 use sub_balances::SubBalance;
 use text::append;
 use text::append_byte;
@@ -29,7 +29,7 @@ pub fn append_answer(out: &mut [u8], answer: Answer, accepted: &[u8]) -> usize
     if refused == 0 {
         return append(out, 0, accepted);
     }
-    append_refusal(out, 0, refused, place(answer) as u64)
+    append_refusal(out, 0, refused, location(answer) as u64)
 }
 
 // What a place holds.

@@ -32,7 +32,7 @@ yieldSheet rate = bytes 2 242 ++ bytes 2 2 ++ joined (tableFrom 1 120 (λ (t : �
 abbrev pub rateSheet : (ℕ → ℕ) → List ℕ
 rateSheet rate = bytes 2 8 ++ bytes 2 3 ++ joined (tableFrom 1 3 (λ (j : ℕ). bytes 2 (rate j)))
 
--- the sheet of retail rates by month, with the rate of each of the 360 places
+-- the sheet of retail rates by month, with the rate of each of the 360 entries
 abbrev pub pathSheet : (ℕ → ℕ) → List ℕ
 pathSheet rate = bytes 2 722 ++ bytes 2 5 ++ joined (tableFrom 0 360 (λ (i : ℕ). bytes 2 (rate i)))
 

@@ -9,10 +9,10 @@ use Rattle.filled_cells.specs.declared.CellValue.{CellValue}
 abbrev pub noCell : CellValue
 noCell = record { cell = 0; value = 0 }
 
--- the cell at a place as two numbers: its number and its value
+-- the cell at an index as two numbers: its number and its value
 unfoldable pub pairAt : List CellValue → ℕ → List ℕ
 pairAt l i = getD l i noCell .cell ∷ getD l i noCell .value ∷ []
 
--- cells in 28 places as numbers, two for each
+-- cells in 28 entries as numbers, two for each
 unfoldable pub numbersOf : List CellValue → List ℕ
 numbersOf l = joined (table 28 (pairAt l))

@@ -43,18 +43,18 @@ module _ (v : Date) (k : ℕ) (c : Certificate) where
   own-none a b d e = rw (a, b, d, e)
 
 -- a refusal is at the certificate's index
-places : (a b d e : Bool) (k : ℕ) → (firstOf (refusedIf a 5 k ∷ refusedIf b 13 k ∷ refusedIf d 14 k ∷ refusedIf e 15 k ∷ []) .number ≡ 0 → ⊥)
-    → firstOf (refusedIf a 5 k ∷ refusedIf b 13 k ∷ refusedIf d 14 k ∷ refusedIf e 15 k ∷ []) .place ≡ k
+locations : (a b d e : Bool) (k : ℕ) → (firstOf (refusedIf a 5 k ∷ refusedIf b 13 k ∷ refusedIf d 14 k ∷ refusedIf e 15 k ∷ []) .number ≡ 0 → ⊥)
+    → firstOf (refusedIf a 5 k ∷ refusedIf b 13 k ∷ refusedIf d 14 k ∷ refusedIf e 15 k ∷ []) .location ≡ k
 unfolding firstOf firstRefusal refusedIf refused accepted
-places true b d e k h = refl
-places false true d e k h = refl
-places false false true e k h = refl
-places false false false true k h = refl
-places false false false false k h = absurd (h refl)
+locations true b d e k h = refl
+locations false true d e k h = refl
+locations false false true e k h = refl
+locations false false false true k h = refl
+locations false false false false k h = absurd (h refl)
 
-pub own-place : (v : Date) (k : ℕ) (c : Certificate) → (ownVerdict v k c .number ≡ 0 → ⊥) → ownVerdict v k c .place ≡ k
+pub own-location : (v : Date) (k : ℕ) (c : Certificate) → (ownVerdict v k c .number ≡ 0 → ⊥) → ownVerdict v k c .location ≡ k
 unfolding ownVerdict
-own-place v k c h = places (overLimit c) (noSuchDay v c) (notOutstanding v c) (tooManyMonths v c) k h
+own-location v k c h = locations (overLimit c) (noSuchDay v c) (notOutstanding v c) (tooManyMonths v c) k h
 
 -- all three dates are days
 pub days-are : (v : Date) (c : Certificate) → noSuchDay v c ≡ false

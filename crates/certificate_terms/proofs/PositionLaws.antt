@@ -47,32 +47,32 @@ column-is m = ⊎-elim (λ l. ⊎-elim long middle (lt-or-le 36 m)) short (lt-or
     long h = rw (column-three m h) (record { least = omega arith; most = omega arith; second = λ l. omega arith; third = λ l. omega arith })
 
 -- the positions of a row of n months from `least` on, of the columns from `first` on
-row-places : (least n first columns : ℕ) (place : ℕ → ℕ)
-    → T (allFrom least n (λ (m : ℕ). allFrom first columns (λ (j : ℕ). eqb (positionFor m j) (place j))))
+row-indices : (least n first columns : ℕ) (index : ℕ → ℕ)
+    → T (allFrom least n (λ (m : ℕ). allFrom first columns (λ (j : ℕ). eqb (positionFor m j) (index j))))
     → (m j : ℕ) → least ≤ m → m < least + n → first ≤ j → j < first + columns
-    → positionFor m j ≡ place j
-row-places least n first columns place t m j l u l′ u′ =
-    eqb→eq (positionFor m j) (place j)
-    (all-at first columns (λ (i : ℕ). eqb (positionFor m i) (place i))
-    (all-at least n (λ (k : ℕ). allFrom first columns (λ (i : ℕ). eqb (positionFor k i) (place i))) t m l u) j l′ u′)
+    → positionFor m j ≡ index j
+row-indices least n first columns index t m j l u l′ u′ =
+    eqb→eq (positionFor m j) (index j)
+    (all-at first columns (λ (i : ℕ). eqb (positionFor m i) (index i))
+    (all-at least n (λ (k : ℕ). allFrom first columns (λ (i : ℕ). eqb (positionFor k i) (index i))) t m l u) j l′ u′)
 
 -- the rows of 1 to 3, 4 to 12, 13 to 36 and 37 to 120 remaining months
 module _ (m j : ℕ) where
   pub row-one : 1 ≤ m → m ≤ 3 → 1 ≤ j → j ≤ 3 → positionFor m j ≡ j - 1
   unfolding allFrom positionFor firstFrom withinRow positions positionAt position
-  row-one l u l′ u′ = row-places 1 3 1 3 (λ (i : ℕ). i - 1) tt m j l (omega arith) l′ (omega arith)
+  row-one l u l′ u′ = row-indices 1 3 1 3 (λ (i : ℕ). i - 1) tt m j l (omega arith) l′ (omega arith)
 
   pub row-two : 3 < m → m ≤ 12 → 1 ≤ j → j ≤ 3 → positionFor m j ≡ j + 2
   unfolding allFrom positionFor firstFrom withinRow positions positionAt position
-  row-two l u l′ u′ = row-places 4 9 1 3 (λ (i : ℕ). i + 2) tt m j (omega arith) (omega arith) l′ (omega arith)
+  row-two l u l′ u′ = row-indices 4 9 1 3 (λ (i : ℕ). i + 2) tt m j (omega arith) (omega arith) l′ (omega arith)
 
   pub row-three : 12 < m → m ≤ 36 → 2 ≤ j → j ≤ 3 → positionFor m j ≡ j + 4
   unfolding allFrom positionFor firstFrom withinRow positions positionAt position
-  row-three l u l′ u′ = row-places 13 24 2 2 (λ (i : ℕ). i + 4) tt m j (omega arith) (omega arith) l′ (omega arith)
+  row-three l u l′ u′ = row-indices 13 24 2 2 (λ (i : ℕ). i + 4) tt m j (omega arith) (omega arith) l′ (omega arith)
 
   pub row-four : 36 < m → m ≤ 120 → 3 ≤ j → j ≤ 3 → positionFor m j ≡ j + 5
   unfolding allFrom positionFor firstFrom withinRow positions positionAt position
-  row-four l u l′ u′ = row-places 37 84 3 1 (λ (i : ℕ). i + 5) tt m j (omega arith) (omega arith) l′ (omega arith)
+  row-four l u l′ u′ = row-indices 37 84 3 1 (λ (i : ℕ). i + 5) tt m j (omega arith) (omega arith) l′ (omega arith)
 
 -- remaining months of 1 to 120 that are at most the original ones have a position
 pub position-lt : (m o : ℕ) → 1 ≤ m → m ≤ 120 → m ≤ o → positionFor m (columnOf o) < 9

@@ -19,7 +19,7 @@ certificateNumbers = 8
 unfoldable pub certificateCount : List ℕ → ℕ
 certificateCount s = length s / certificateNumbers
 
--- a date from a place of the list on: year, month, day
+-- a date from an index of the list on: year, month, day
 unfoldable pub dateAt : List ℕ → ℕ → Date
 dateAt s at = record { year = getD s at 0; month = getD s (at + 1) 0; day = getD s (at + 2) 0 }
 
@@ -44,10 +44,10 @@ originalMonths c = monthsBetween (c .issue) (c .maturity)
 unfoldable pub columnOf : ℕ → ℕ
 columnOf months = cond (leb months 12) 1 (cond (leb months 36) 2 3)
 
--- the place, 0 to 8 by ascending balance cell, of the position of a row that holds the remaining months and of a column; 9 where there is none
+-- the index, 0 to 8 by ascending balance cell, of the position of a row that holds the remaining months and of a column; 9 where there is none
 unfoldable pub positionFor : ℕ → ℕ → ℕ
 positionFor months column = firstFrom 0 9 (λ (i : ℕ). withinRow (positionAt i .row) months && eqb (positionAt i .column) column)
 
--- the place of a certificate's position: its row by remaining months, its column by original months
+-- the index of a certificate's position: its row by remaining months, its column by original months
 unfoldable pub positionOf : Date → Certificate → ℕ
 positionOf valuation c = positionFor (remainingMonths valuation c) (columnOf (originalMonths c))

@@ -31,7 +31,7 @@ pub fn certificate_at(certificates: &[u64], k: usize) -> Certificate
     }
 }
 
-// The date from a place of the list on.
+// The date from an index of the list on.
 fn date_at(certificates: &[u64], at: usize) -> Date
     requires { ⌜ at + 2 < length (now certificates) ⌝ }
     ensures { λ r. ⌜ r ≡ dateAt (now (certificates .entry)) at ⌝ }
@@ -43,7 +43,7 @@ fn date_at(certificates: &[u64], at: usize) -> Date
     }
 }
 
-// The place of a position, 0 to 8, by remaining and original months. Rows 3 and 4 begin with columns 2 and 3.
+// The index of a position, 0 to 8, by remaining and original months. Rows 3 and 4 begin with columns 2 and 3.
 pub fn position_of(remaining: u64, original: u64) -> usize
     requires { ⌜ (1 ≤ remaining) × (remaining ≤ monthsLimit) ⌝ }
     requires { ⌜ remaining ≤ original ⌝ }

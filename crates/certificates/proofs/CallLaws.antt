@@ -55,7 +55,7 @@ module _ (v : Date) (s : List ℕ) where
   unfolding certificatesVerdict countVerdict
   count-passes l u = first-passed (countVerdict s) (eachVerdict v s) (condition-none _ 5 0 (ap not (within-is 1 1000 (certificateCount s) l u)))
 
-  -- the sums of certificates that pass, place by place, past the ninth too
+  -- the sums of certificates that pass, entry by entry, past the ninth too
   weighted-le : (f g : ℕ → ℕ) (limit : ℕ) → ((i : ℕ) → f i ≤ limit * g i) → (i : ℕ) → getD (table 9 f) i 0 ≤ limit * getD (table 9 g) i 0
   weighted-le f g limit h i = ⊎-elim inside past (lt-or-le i 9)
     where

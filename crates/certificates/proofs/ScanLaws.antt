@@ -21,7 +21,7 @@ use Rattle.filled_cells.specs.declared.Totals.{Totals}
 use Rattle.certificates.specs.Sums.{positionSum, balanceOf, weightedCoupon, weightedMonths, totalsOf}
 use Rattle.certificates.specs.Verdict.{sumOverLimit, certificateVerdict, eachVerdict}
 use Rattle.certificates.specs.Inner.Totals.{totalsWith, summedCount}
-use Rattle.certificate_terms.proofs.FaultLaws.{Sound, own-place, own-sound, sound-position}
+use Rattle.certificate_terms.proofs.FaultLaws.{Sound, own-location, own-sound, sound-position}
 use Rattle.certificates.proofs.SumLaws.{Passed, sum-here, balance-sum-le, coupon-sum-le, months-sum-le, totals-suc}
 
 module _ (v : Date) (s : List ℕ) where
@@ -50,7 +50,7 @@ module _ (v : Date) (s : List ℕ) where
     at .totals-are ∙ ap (totalsOf v s) (le-antisymm (at .untried .within) h),
   )
 
-  -- the sums at a place
+  -- the sums at an index
   module _ (k : ℕ) (t : Totals) (at : Scanning k t) (i : ℕ) (h : i < 9) where
     sums-at : (amount : Certificate → ℕ) → getD (table 9 (λ (j : ℕ). positionSum v s amount j k)) i 0 ≡ positionSum v s amount i k
     sums-at amount = table-getD 9 (λ (j : ℕ). positionSum v s amount j k) i 0 h
@@ -91,7 +91,7 @@ module _ (v : Date) (s : List ℕ) where
     -- what is summed then
     pub own-summed : (ownVerdict v k c .number ≡ 0 → ⊥) → t ≡ totalsOf v s (summedCount (ownVerdict v k c) (certificateCount s))
     unfolding summedCount
-    own-summed r = at .totals-are ∙ rw (ne-eqb (ownVerdict v k c .number) 0 r, own-place v k c r)
+    own-summed r = at .totals-are ∙ rw (ne-eqb (ownVerdict v k c .number) 0 r, own-location v k c r)
 
     pub over-summed : t ≡ totalsOf v s (summedCount (refused 5 k) (certificateCount s))
     unfolding summedCount refused

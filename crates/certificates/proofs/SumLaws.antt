@@ -89,7 +89,7 @@ module _ (v : Date) (s : List ℕ) where
       weighted-sum-le (weightedMonths v) monthsLimit n i
       (λ k h. omega (arith, mul-le-mul-left (certificateAt s k .balance) (passed-sound n p k h .months-le)))
 
--- a table with an amount added at a place
+-- a table with an amount added at an index
 module _ (n : ℕ) (f g : ℕ → ℕ) (i x : ℕ) (h : i < n) (e : (j : ℕ) → g j ≡ f j + cond (eqb i j) x 0) where
   added-long : length (addedAt (table n f) i x) ≡ n
   unfolding addedAt

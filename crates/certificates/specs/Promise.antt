@@ -6,13 +6,13 @@ use lib.ListN.{length}
 use Rattle.answers.specs.Answers.{verdictOf}
 use Rattle.calendar.specs.declared.Date.{Date}
 use Rattle.filled_cells.specs.declared.Cells.{Cells}
-use Rattle.filled_cells.specs.Cells.{inPlaces}
+use Rattle.filled_cells.specs.Cells.{cellArray}
 use Rattle.certificates.specs.Verdict.{certificatesVerdict}
 use Rattle.certificates.specs.Filled.{filledCells}
 
 pub record Converted (valuation : Date) (s : List ℕ) (r : Cells) : Type 0 where
-  -- acceptance, or the first refusal's number and place
+  -- acceptance, or the first refusal's number and location
   pub answer-is : verdictOf (r .answer) ≡ certificatesVerdict valuation s
   -- the cells that the certificates fill, by ascending number, none on a refusal: how many, and each with its value
   pub count-is : r .count ≡ length (filledCells valuation s)
-  pub cells-are : r .cells ≡ inPlaces (filledCells valuation s)
+  pub cells-are : r .cells ≡ cellArray (filledCells valuation s)

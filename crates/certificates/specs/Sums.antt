@@ -10,11 +10,11 @@ use Rattle.certificate_terms.specs.declared.Certificate.{Certificate}
 use Rattle.certificate_terms.specs.Terms.{certificateAt, remainingMonths, positionOf}
 use Rattle.filled_cells.specs.declared.Totals.{Totals}
 
--- certificate k stands at place i of the nine positions
+-- certificate k stands at index i of the nine positions
 unfoldable pub standsAt : Date → List ℕ → ℕ → ℕ → Bool
 standsAt valuation s i k = eqb (positionOf valuation (certificateAt s k)) i
 
--- the sum of an amount of each certificate at place i, over the first n certificates
+-- the sum of an amount of each certificate at index i, over the first n certificates
 unfoldable pub positionSum : Date → List ℕ → (Certificate → ℕ) → ℕ → ℕ → ℕ
 positionSum valuation s amount i n = sumWhere (standsAt valuation s i) (λ (k : ℕ). amount (certificateAt s k)) n
 

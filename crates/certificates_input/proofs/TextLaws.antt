@@ -65,7 +65,7 @@ module _ (s : List ℕ) where
         by zero h = absurd (not-suc-le-zero h)
         by (suc k) h = refl
 
-    -- a certificate's line: its end, its bytes and its place
+    -- a certificate's line: its end, its bytes and its index
     module _ (h : hasForm s at certificateForm ≡ true) where
       form-ends : formEnd s at certificateForm ≡ lineEnd s at + 1
       unfolding certificateForm

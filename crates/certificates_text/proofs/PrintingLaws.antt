@@ -6,10 +6,10 @@ use mathlib.Core.List.{List}
 use borrow.Author.Tests.{lt-ltb, le-ltb, eq-eqb, ne-eqb}
 use lib.ListN.{length, take, length-append}
 use lib.Seq.{take-at}
-use Rattle.answers.specs.Answers.{numberOf, placeOf, verdictOf}
+use Rattle.lists.specs.Tables.{padded}
+use Rattle.answers.specs.Answers.{numberOf, locationOf, verdictOf}
 use Rattle.calendar.specs.declared.Date.{Date}
 use Rattle.filled_cells.specs.declared.Cells.{Cells}
-use Rattle.filled_cells.specs.Cells.{inPlaces}
 use Rattle.certificates.specs.Filled.{filledCells}
 use Rattle.certificates.specs.Promise.{Converted}
 use Rattle.certificates.proofs.CallLaws.{filled-count}
@@ -35,24 +35,24 @@ text-readable s v c short readable date list = rw (le-ltb inputLimit (length s) 
 
 -- what the certificates answer
 module _ (v : Date) (c : List ℕ) (r : Cells) (converted : Converted v c r) where
-  pub answer-refused : (number place : ℕ) → number ≡ numberOf (r .answer) → place ≡ placeOf (r .answer) → (number ≡ 0 → ⊥)
-      → refusalLine number place ≡ answerText v c
+  pub answer-refused : (number location : ℕ) → number ≡ numberOf (r .answer) → location ≡ locationOf (r .answer) → (number ≡ 0 → ⊥)
+      → refusalLine number location ≡ answerText v c
   unfolding answerText verdictOf
-  answer-refused number place n p h =
+  answer-refused number location n p h =
       rw (n, p, sym (converted .answer-is), ne-eqb (numberOf (r .answer)) 0 (λ e. h (n ∙ e)))
 
   filled-are : take (r .count) (r .cells) ≡ filledCells v c
-  unfolding inPlaces
+  unfolding padded
   filled-are = rw (converted .cells-are) (take-at (filledCells v c) _ (r .count) (sym (converted .count-is)))
 
   pub answer-accepted : (number : ℕ) → number ≡ numberOf (r .answer) → number ≡ 0 → cellLines (take (r .count) (r .cells)) ≡ answerText v c
   unfolding answerText verdictOf
   answer-accepted number n h = rw (filled-are, sym (converted .answer-is), eq-eqb (numberOf (r .answer)) 0 (sym n ∙ h))
 
-  -- 28 places hold them
+  -- 28 entries hold them
   pub answer-count : r .count ≤ 28
   answer-count = rw (converted .count-is) (filled-count v c)
 
   pub answer-long : r .count ≤ length (r .cells)
-  unfolding inPlaces
+  unfolding padded
   answer-long = rw (converted .count-is, converted .cells-are, length-append) (omega arith)

@@ -20,7 +20,7 @@ inputLimit = 131072
 unfoldable pub answerText : Date → List ℕ → List ℕ
 answerText valuation s =
     cond (eqb (certificatesVerdict valuation s .number) 0) (cellLines (filledCells valuation s))
-    (refusalLine (certificatesVerdict valuation s .number) (certificatesVerdict valuation s .place))
+    (refusalLine (certificatesVerdict valuation s .number) (certificatesVerdict valuation s .location))
 
 -- the text of any input
 unfoldable pub printedText : List ℕ → List ℕ

@@ -1,6 +1,6 @@
 // The text that the program `cells` prints of its input: from a valuation date and certificates to the cells that they fill.
 use answers::number;
-use answers::place;
+use answers::location;
 use calendar::Date;
 use cell_lines::append_cells;
 use cell_lines::append_unreadable;
@@ -40,7 +40,7 @@ fn append_answer(out: &mut [u8], valuation: Date, certificates: &[u64]) -> usize
     let answer = cells.answer;
     let refused = number(answer);
     if refused != 0 {
-        return append_refusal(out, 0, refused, place(answer) as u64);
+        return append_refusal(out, 0, refused, location(answer) as u64);
     }
     append_cells(out, cells)
 }

@@ -44,9 +44,9 @@ none-refuses verdict j zero f = refl
 none-refuses verdict j (suc n) f = rw (f j (omega arith)) (none-refuses verdict (suc j) n (λ i l. f i (omega arith)))
 
 -- the nine positions as a table
-by-place : (f : Position → Verdict) → map f positions ≡ table 9 (λ (i : ℕ). f (positionAt i))
+by-position : (f : Position → Verdict) → map f positions ≡ table 9 (λ (i : ℕ). f (positionAt i))
 unfolding positions positionAt position tableFrom
-by-place f = refl
+by-position f = refl
 
 module _ (cells : List CellValue) (yields rates : ℕ → ℕ) (listed : Listed 0 cells) (ys : (t : ℕ) → yields t ≤ rateLimit) (rs : (j : ℕ) → rates j ≤ rateLimit)
     (fit : Fit cells) (past : (n : ℕ) → 646 ≤ n → valueIn cells n ≡ 0) where
@@ -74,7 +74,7 @@ module _ (cells : List CellValue) (yields rates : ℕ → ℕ) (listed : Listed 
 
   months-pass : monthsVerdict told ≡ accepted
   unfolding monthsVerdict
-  months-pass = ap firstOf (by-place (positionVerdict told)) ∙ none-refuses (λ (i : ℕ). positionVerdict told (positionAt i)) 0 9 month-passes
+  months-pass = ap firstOf (by-position (positionVerdict told)) ∙ none-refuses (λ (i : ℕ). positionVerdict told (positionAt i)) 0 9 month-passes
 
   -- 8: nothing is brokered or subject to penalty
   column-passes : (column n : ℕ) → 646 ≤ n → n ≤ 661 → cellClass n ≡ 4 → columnVerdict told column n ≡ accepted

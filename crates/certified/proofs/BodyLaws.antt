@@ -63,9 +63,9 @@ module _ (f : ℕ → ℕ) where
       let e : m + 0 ≡ m = add-zero m in
       rw e (number-first 2 (f m) (numbersFrom (suc m) n) (rw e at h))
   numbers-at m (suc n) (suc j) l h =
-      let place : 2 * suc j ≡ 2 + 2 * j = omega arith in
+      let index : 2 * suc j ≡ 2 + 2 * j = omega arith in
       let e : m + suc j ≡ suc m + j = omega arith in
-      rw (place, e) (behind-number 2 (f m) (2 * j) 2 (numbersFrom (suc m) n) ∙ numbers-at (suc m) n j (le-of-suc-le-suc l) (rw e at h))
+      rw (index, e) (behind-number 2 (f m) (2 * j) 2 (numbersFrom (suc m) n) ∙ numbers-at (suc m) n j (le-of-suc-le-suc l) (rw e at h))
 
   module _ (kind n : ℕ) where
     pub sheet-body-length : length (sheetBody kind n f) ≡ 2 + 2 * n

@@ -56,7 +56,7 @@ module _ (cells : List CellValue) (yields rates : ℕ → ℕ) where
   unfolding filedBodies
   filed-length = bodies-length (sheetBody 2 120 yields) (sheetBody 3 3 rates) cells
 
-  -- the bodies by their place
+  -- the bodies by their index
   body-cell : (i : ℕ) → i < length cells → getD bodies i [] ≡ cellBody (cellAt i)
   unfolding filedBodies
   body-cell i h = bodies-cell noCell (sheetBody 2 120 yields) (sheetBody 3 3 rates) cells i h
@@ -76,9 +76,9 @@ module _ (cells : List CellValue) (yields rates : ℕ → ℕ) where
       (λ e. rw e (omega (arith, ap length body-rates, sheet-body-length rates 3 3)))) (three (length cells) i (rw filed-length at h))
 
   -- a number of record i
-  field-at : (i place j k : ℕ) → i < length cells + 2 → place ≡ offset bodies i + 2 + j → j + k ≤ length (getD bodies i [])
-      → numberAt made place k ≡ numberAt (getD bodies i []) j k
-  field-at i place j k h e l = ap (λ (m : ℕ). numberAt made m k) e ∙ record-field bodies i (rw filed-length h) j k l
+  field-at : (i index j k : ℕ) → i < length cells + 2 → index ≡ offset bodies i + 2 + j → j + k ≤ length (getD bodies i [])
+      → numberAt made index k ≡ numberAt (getD bodies i []) j k
+  field-at i index j k h e l = ap (λ (m : ℕ). numberAt made m k) e ∙ record-field bodies i (rw filed-length h) j k l
 
   module _ (listed : Listed 0 cells) where
     entry : (i : ℕ) → i < length cells → Entry 0 (cellAt i)

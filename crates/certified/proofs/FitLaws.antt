@@ -28,7 +28,7 @@ use Rattle.certified.proofs.LookUpLaws.{value-filled}
 use Rattle.certified.proofs.FilledLaws.{filled-balance-le, filled-coupon-le, filled-months-within, filled-months-le}
 use Rattle.certified.proofs.TotalLaws.{filled-total-le}
 
--- cell m, below the total, is of a class and belongs to the position at place i
+-- cell m, below the total, is of a class and belongs to the position at index i
 record Belongs (m class i : ℕ) : Type 0 where
   from-601 : 601 ≤ m
   to-644 : m ≤ 644

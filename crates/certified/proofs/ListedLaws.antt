@@ -35,7 +35,7 @@ Listed m [] = Unit {0}
 Listed m (c ∷ cs) = Entry m c × Listed (c .cell) cs
 
 module _ (d : CellValue) where
-  -- the cell at place i
+  -- the cell at index i
   pub listed-at : (m : ℕ) (cells : List CellValue) → Listed m cells → (i : ℕ) → i < length cells → Entry m (getD cells i d)
   listed-at m [] l i h = absurd (not-suc-le-zero h)
   listed-at m (c ∷ cs) l zero h = l .0

@@ -71,8 +71,8 @@ module _ (bs : List (List ℕ)) where
     record-field j n l =
         let b : List ℕ = getD bs i [] in
         let behind : List ℕ = run (drop (suc i) bs) in
-        let place : length (run (take i bs)) + 2 + j ≡ length (run (take i bs)) + (length (bytes 2 (length b)) + j) = omega (arith, bytes-length 2 (length b)) in
-        rw (parted bs i h, place, append-assoc (bytes 2 (length b)) b behind)
+        let index : length (run (take i bs)) + 2 + j ≡ length (run (take i bs)) + (length (bytes 2 (length b)) + j) = omega (arith, bytes-length 2 (length b)) in
+        rw (parted bs i h, index, append-assoc (bytes 2 (length b)) b behind)
         (number-behind (run (take i bs)) (bytes 2 (length b) ++ (b ++ behind)) (length (bytes 2 (length b)) + j) n
         ∙ number-behind (bytes 2 (length b)) (b ++ behind) j n
         ∙ number-front b behind j n l)
@@ -83,9 +83,9 @@ module _ (bs : List (List ℕ)) where
       record-length =
           let b : List ℕ = getD bs i [] in
           let behind : List ℕ = run (drop (suc i) bs) in
-          let place : length (run (take i bs)) ≡ length (run (take i bs)) + 0 = omega arith in
+          let index : length (run (take i bs)) ≡ length (run (take i bs)) + 0 = omega arith in
           rw (parted bs i h, append-assoc (bytes 2 (length b)) b behind)
-          (ap (λ (m : ℕ). numberAt (run (take i bs) ++ (bytes 2 (length b) ++ (b ++ behind))) m 2) place
+          (ap (λ (m : ℕ). numberAt (run (take i bs) ++ (bytes 2 (length b) ++ (b ++ behind))) m 2) index
           ∙ number-behind (run (take i bs)) (bytes 2 (length b) ++ (b ++ behind)) 0 2
           ∙ number-first 2 (length b) (b ++ behind) fits)
 

@@ -33,7 +33,7 @@ use Rattle.certified.proofs.CountLaws.{counting-none, counting-hit}
 use Rattle.certified.proofs.ListedLaws.{Listed, listed-rising}
 use Rattle.certified.proofs.FiledLaws.{noCell, filed-length, sized, cell-record, item-cell, item-yields, item-rates, cell-no-sheet, before-rates}
 
--- what a list says of a cell that stands first at place i, and of one that does not stand there
+-- what a list says of a cell that stands first at index i, and of one that does not stand there
 value-found : (cells : List CellValue) (n i : ℕ) → i < length cells → eqb (getD cells i noCell .cell) n ≡ true
     → ((j : ℕ) → j < i → eqb (getD cells j noCell .cell) n ≡ false)
     → valueIn cells n ≡ getD cells i noCell .value
@@ -111,7 +111,7 @@ module _ (cells : List CellValue) (yields rates : ℕ → ℕ) (listed : Listed 
   unfolding itemRank recordItem givesCell dueLength sheetLength sheetKind sheetKinds sheetOf
   rank-end n = simp (number-past made (length made + 2) 2 (omega arith))
 
-  -- a cell that stands at place i stands nowhere else
+  -- a cell that stands at index i stands nowhere else
   only : (n i : ℕ) → i < length cells → isCell n i ≡ true → (m : ℕ) → m < length cells → (m ≡ i → ⊥) → isCell n m ≡ false
   only n i h e m l other =
       let is = eqb-true (getD cells i noCell .cell) n e in
@@ -158,6 +158,6 @@ module _ (cells : List CellValue) (yields rates : ℕ → ℕ) (listed : Listed 
   pub said : (n class : ℕ) → CellOf n class → eqb class couponClass ≡ false → cellIn saidCells n ≡ valueIn cells n
   unfolding cellIn
   said n class c other =
-      let place : 601 + (n - 601) ≡ n = omega (arith, c .from-601) in
-      rw (le-leb 601 n (c .from-601), le-leb n 661 (c .to-661), tableFrom-getD 601 61 (cellValue made) (n - 601) 0 (omega (arith, c .to-661, c .from-601)), place)
+      let index : 601 + (n - 601) ≡ n = omega (arith, c .from-601) in
+      rw (le-leb 601 n (c .from-601), le-leb n 661 (c .to-661), tableFrom-getD 601 61 (cellValue made) (n - 601) 0 (omega (arith, c .to-661, c .from-601)), index)
       (cell-said n (rw (c .in-class) other))

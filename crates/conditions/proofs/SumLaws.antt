@@ -61,8 +61,8 @@ module _ (cells : List ℕ) where
   pub sum-before : (i m j : ℕ) → j ≡ m + 1 → m < 3 → getD (sumsBefore i) m 0 ≡ columnSum cells j i
   unfolding sumsBefore
   sum-before i m j e h =
-      let place : 1 + m ≡ j = omega arith in
-      tableFrom-getD 1 3 (λ (n : ℕ). columnSum cells n i) m 0 h ∙ ap (λ (n : ℕ). columnSum cells n i) place
+      let index : 1 + m ≡ j = omega arith in
+      tableFrom-getD 1 3 (λ (n : ℕ). columnSum cells n i) m 0 h ∙ ap (λ (n : ℕ). columnSum cells n i) index
 
   -- the sum of a position's column
   pub sum-at : (end i column : ℕ) → i < 9 → column ≡ positionAt i .column → getD (sumsBefore end) (column - 1) 0 ≡ columnSum cells (positionAt i .column) end

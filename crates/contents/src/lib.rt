@@ -10,7 +10,7 @@ pub struct Contents {
     pub tiers: FiledTiers,
 }
 
-// The tiers that a filing carries, lowest edge first: edges in hundredths, annual withdrawals in thousandths. The places past the count are 0, and a
+// The tiers that a filing carries, lowest edge first: edges in hundredths, annual withdrawals in thousandths. The entries past the count are 0, and a
 // filing without tiers has count 0.
 pub struct FiledTiers {
     pub count: usize,

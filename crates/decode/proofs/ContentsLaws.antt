@@ -63,7 +63,7 @@ pub sheet-noted : (s : List ℕ) (kind : ℕ) → kind < kindCount → getD (not
 unfolding sheetOffset
 sheet-noted s kind h = noted-sheet s (length s) kind h ∙ offset-end s (Sheet kind)
 
--- flat rates by column: the first in all places, the second from 120 on, and the third from 240 on
+-- flat rates by column: the first in all entries, the second from 120 on, and the third from 240 on
 pub flat-filled : (f : ℕ → ℕ) {first second third : ℕ} {middle last : List ℕ} → first ≡ f 1 → second ≡ f 2 → third ≡ f 3
     → middle ≡ table rateCount (λ (i : ℕ). cond (ltb i 120) (getD (replicate rateCount first) i 0) second)
     → last ≡ table rateCount (λ (i : ℕ). cond (ltb i 240) (getD middle i 0) third)

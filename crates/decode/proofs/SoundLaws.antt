@@ -207,14 +207,14 @@ module _ (s : List ℕ) (none : firstFaulty s ≡ length s) where
   unfolding contentsOf tiersAt tierNumber
   tier-withdrawal-within =
       table-le 0 tierLimit (tierNumber s at (tierCount s at) 3) withdrawalLimit
-      (λ j l u. by-place j (ltb j (tierCount s at)) refl (ltb at (length s)) refl)
+      (λ j l u. by-index j (ltb j (tierCount s at)) refl (ltb at (length s)) refl)
     where
       at : ℕ
       at = sheetOffset s tiersKind
 
-      by-place : (j : ℕ) (b : Bool) → ltb j (tierCount s at) ≡ b → (p : Bool) → ltb at (length s) ≡ p
+      by-index : (j : ℕ) (b : Bool) → ltb j (tierCount s at) ≡ b → (p : Bool) → ltb at (length s) ≡ p
           → cond b (sheetNumber s at (3 + 2 * j)) 0 ≤ withdrawalLimit
-      by-place j true e true h = tier-fits s at j (tiers-sound (ltb-true at (length s) h) .fits j (ltb-true j (tierCount s at) e))
-      by-place j true e false h =
+      by-index j true e true h = tier-fits s at j (tiers-sound (ltb-true at (length s) h) .fits j (ltb-true j (tierCount s at) e))
+      by-index j true e false h =
           absurd (omega (arith, ltb-true j (tierCount s at) e, number-past s (at + 2 + 2 * 1) 2 (omega (arith, ltb-false at (length s) h))))
-      by-place j false e p h = omega arith
+      by-index j false e p h = omega arith

@@ -138,7 +138,7 @@ fn fill_flat(s: &[u8], flat: usize, rates: &mut [u16; 360])
     fill_from(rates, 240, third);
 }
 
-// Fills in a rate from a place on.
+// Fills in a rate from an index on.
 fn fill_from(rates: &mut [u16; 360], from: usize, rate: u16)
     requires { ⌜ (from ≤ rateCount) × (length (now rates) ≡ rateCount) ⌝ }
     ensures { λ _. ⌜ now (rates .exit) ≡ table rateCount (λ i. cond (ltb i from) (getD (now (rates .entry)) i 0) rate) ⌝ }

@@ -54,12 +54,12 @@ module _ (ρ : Rounding) (t : WithdrawalTiers) (d : Deposit) (rates : List ℕ) 
   abbrev held : ℕ → ℕ
   held month = getD discounts (7 * month + scenario) 0
 
-  place-lt : (month : ℕ) → month < d .months → 7 * month + scenario < 7 * d .months
-  place-lt month h = omega (arith, h, hs)
+  index-lt : (month : ℕ) → month < d .months → 7 * month + scenario < 7 * d .months
+  index-lt month h = omega (arith, h, hs)
 
   factor-here : (month : ℕ) → month < d .months → factorOf ρ (held month) ≡ getD factors (7 * month + scenario) 0
   unfolding factorsOf
-  factor-here month h = sym (table-getD (7 * d .months) (λ (i : ℕ). factorOf ρ (getD discounts i 0)) (7 * month + scenario) 0 (place-lt month h))
+  factor-here month h = sym (table-getD (7 * d .months) (λ (i : ℕ). factorOf ρ (getD discounts i 0)) (7 * month + scenario) 0 (index-lt month h))
 
   within-par : AtMostPar factors
   unfolding factorsOf
@@ -95,7 +95,7 @@ module _ (ρ : Rounding) (t : WithdrawalTiers) (d : Deposit) (rates : List ℕ) 
   walked-is (suc month) h =
       let before = le-of-lt h in
       rw (walked-is month before, here month h)
-      (step-is ρ _ _ _ (held month) (run month) (table-of .are _ (place-lt month before)) (small month _ before refl)
+      (step-is ρ _ _ _ (held month) (run month) (table-of .are _ (index-lt month before)) (small month _ before refl)
       ∙ early-on ρ (tierTable t) d (shiftedPath scenario rates column) factors scenario month refl refl refl (factor-here month before) refl h)
 
   -- the price after the last month, in which nothing is withdrawn early
@@ -108,7 +108,7 @@ module _ (ρ : Rounding) (t : WithdrawalTiers) (d : Deposit) (rates : List ℕ) 
       let within : month < d .months = omega (arith, e) in
       let all = last-survival (tierTable t) d (shiftedPath scenario rates column) month e in
       rw (walked-is month within)
-      (last-is ρ (couponGrowth * d .coupon) (servicingCost (accountOf (d .brokered))) par (held month) (run month) (table-of .are _ (place-lt month within)) (small month par within all)
+      (last-is ρ (couponGrowth * d .coupon) (servicingCost (accountOf (d .brokered))) par (held month) (run month) (table-of .are _ (index-lt month within)) (small month par within all)
       ∙ ap (λ (r : Run). r .price) (last-on ρ (tierTable t) d (shiftedPath scenario rates column) factors scenario month refl refl all (factor-here month within) refl e)
       ∙ last-price ρ (tierTable t) d (shiftedPath scenario rates column) factors scenario month e)
 

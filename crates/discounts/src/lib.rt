@@ -14,10 +14,10 @@ ghost use Rattle.pricing.specs.Rounding.{down, up, roundingOf};
 ghost use Rattle.discounts.specs.Inner.Tables.{HoldsFactors};
 ghost use Rattle.discounts.specs.Inner.Factors.{yieldFactors, factorsBy, WithinRates, AtMostPar};
 
-// Seven factors for each month, in billionths: month t and scenario s stand at place 7 (t - 1) + s.
+// Seven factors for each month, in billionths: month t and scenario s stand at index 7 (t - 1) + s.
 pub type FactorTable = [u64; 840];
 
-// Multipliers of the factors, in their places.
+// Multipliers of the factors, in their entries.
 pub type MultiplierTable = [u64; 840];
 
 // The multipliers of the lower and the upper factors of a sheet of CD yields up to the longest term, written into tables of zeros.
@@ -70,8 +70,8 @@ fn fill_month(yields: &[u16; 120], month: usize, lower: &mut FactorTable, upper:
     write(upper, 7 * month, &seven);
 }
 
-// Puts the multipliers of the factors of some months in the factors' places: for the lower run, or for the upper one, whose table holds one less. As a
-// slice the table is known to have its 840 places.
+// Puts the multipliers of the factors of some months in the factors' entries: for the lower run, or for the upper one, whose table holds one less. As a
+// slice the table is known to have its 840 entries.
 pub fn to_multipliers(table: &mut FactorTable, months: u64, up: bool)
     requires { ⌜ AtMostPar (now table) × (months ≤ monthsLimit) ⌝ }
     ensures { λ _. ⌜ HoldsFactors (roundingOf up) months (now (table .entry)) (now (table .exit)) ⌝ }

@@ -18,10 +18,10 @@ shownOf b = b .balance ∷ b .totals
 abbrev pub bookOf : List ℕ → List ℕ → Book
 bookOf s l = bookAfterAll (openedBook s) (changesOf l)
 
--- before and after are the totals' list at the call and at the return; number and place are 0 for acceptance
-pub record BookForC (s l before : List ℕ) (number place : ℕ) (after : List ℕ) : Type 0 where
+-- before and after are the totals' list at the call and at the return; number and location are 0 for acceptance
+pub record BookForC (s l before : List ℕ) (number location : ℕ) (after : List ℕ) : Type 0 where
   pub number-is : number ≡ bookVerdict s l .number
-  pub place-is : place ≡ bookVerdict s l .place
+  pub location-is : location ≡ bookVerdict s l .location
   -- a refusal leaves the list
   pub list-is : after ≡ cond (eqb (bookVerdict s l .number) 0) (shownOf (bookOf s l)) before
   pub kept : number ≡ 0 → Kept s (bookOf s l)

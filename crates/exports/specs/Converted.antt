@@ -6,15 +6,15 @@ use mathlib.Core.List.{List}
 use lib.Dec.{eqb}
 use lib.ListN.{length}
 use Rattle.calendar.specs.declared.Date.{Date}
-use Rattle.filled_cells.specs.Cells.{inPlaces}
+use Rattle.filled_cells.specs.Cells.{cellArray}
 use Rattle.certificates.specs.Verdict.{certificatesVerdict}
 use Rattle.certificates.specs.Filled.{filledCells}
 use Rattle.cell_numbers.specs.CellNumbers.{numbersOf}
 
--- s is the list of certificates, before and after are the cells' list at the call and at the return; number and place are 0 for acceptance
-pub record ConvertedForC (valuation : Date) (s before : List ℕ) (number place count : ℕ) (after : List ℕ) : Type 0 where
+-- s is the list of certificates, before and after are the cells' list at the call and at the return; number and location are 0 for acceptance
+pub record ConvertedForC (valuation : Date) (s before : List ℕ) (number location count : ℕ) (after : List ℕ) : Type 0 where
   pub number-is : number ≡ certificatesVerdict valuation s .number
-  pub place-is : place ≡ certificatesVerdict valuation s .place
+  pub location-is : location ≡ certificatesVerdict valuation s .location
   pub count-is : count ≡ length (filledCells valuation s)
   -- number and value of each cell by ascending number, past the last one 0; a refusal leaves the list
-  pub list-is : after ≡ cond (eqb (certificatesVerdict valuation s .number) 0) (numbersOf (inPlaces (filledCells valuation s))) before
+  pub list-is : after ≡ cond (eqb (certificatesVerdict valuation s .number) 0) (numbersOf (cellArray (filledCells valuation s))) before

@@ -4,20 +4,20 @@ use kept_totals::shown;
 ghost use Rattle.exports.specs.Changed.{BookForC};
 
 // Opens a book from a filing and makes changes in turn as `book_changes::book_of` does: answers 0 for acceptance, else the first refusal's number, with its
-// place in `place`; the balance total and the twenty-eight totals of the book in `totals`.
+// location in `location`; the balance total and the twenty-eight totals of the book in `totals`.
 #[no_mangle]
 pub extern "C" fn spritapricot_book(
     filing: &[u8],
     changes: &[u64],
     totals: &mut [u64; 29],
-    place: &mut u64,
+    location: &mut u64,
 ) -> u64
-    ensures { λ r. ⌜ BookForC (now (filing .entry)) (now (changes .entry)) (now (totals .entry)) r (now (place .exit)) (now (totals .exit)) ⌝ }
+    ensures { λ r. ⌜ BookForC (now (filing .entry)) (now (changes .entry)) (now (totals .entry)) r (now (location .exit)) (now (totals .exit)) ⌝ }
 {
     let changed = book_of(filing, changes);
     let answer = changed.answer;
     let number = answers::number(answer);
-    *place = answers::place(answer) as u64;
+    *location = answers::location(answer) as u64;
     if number == 0 {
         let book = changed.book;
         let kept = book.totals;

@@ -4,7 +4,7 @@ use cell_numbers::cell_numbers;
 use certificates::to_cells;
 ghost use Rattle.exports.specs.Converted.{ConvertedForC};
 
-// Turns certificates into cells as `certificates::to_cells` does: answers 0 for acceptance, else the refusal's number, with the refusal's place in `place`;
+// Turns certificates into cells as `certificates::to_cells` does: answers 0 for acceptance, else the refusal's number, with the refusal's location in `location`;
 // how many cells there are in `count`, and the number and value of each in `cells`.
 #[no_mangle]
 pub extern "C" fn spritapricot_cells(
@@ -14,15 +14,15 @@ pub extern "C" fn spritapricot_cells(
     certificates: &[u64],
     cells: &mut [u64; 56],
     count: &mut u64,
-    place: &mut u64,
+    location: &mut u64,
 ) -> u64
-    ensures { λ r. ⌜ ConvertedForC (record { year = year; month = month; day = day }) (now (certificates .entry)) (now (cells .entry)) r (now (place .exit)) (now (count .exit)) (now (cells .exit)) ⌝ }
+    ensures { λ r. ⌜ ConvertedForC (record { year = year; month = month; day = day }) (now (certificates .entry)) (now (cells .entry)) r (now (location .exit)) (now (count .exit)) (now (cells .exit)) ⌝ }
 {
     let valuation = Date { year, month, day };
     let filled = to_cells(valuation, certificates);
     let answer = filled.answer;
     let number = answers::number(answer);
-    *place = answers::place(answer) as u64;
+    *location = answers::location(answer) as u64;
     *count = filled.count as u64;
     if number == 0 {
         let listed = filled.cells;

@@ -5,12 +5,12 @@ pub mod cells;
 use valuation::value;
 ghost use Rattle.exports.specs.Exported.{ValuedForC};
 
-// Values a filing as `valuation::value` does: answers 0 for acceptance, else the refusal's number, with the refusal's place in `place`.
+// Values a filing as `valuation::value` does: answers 0 for acceptance, else the refusal's number, with the refusal's location in `location`.
 #[no_mangle]
-pub extern "C" fn spritapricot_value(filing: &[u8], numbers: &mut [u64], place: &mut u64) -> u64
-    ensures { λ r. ⌜ ValuedForC (now (filing .entry)) (now (numbers .entry)) r (now (place .exit)) (now (numbers .exit)) ⌝ }
+pub extern "C" fn spritapricot_value(filing: &[u8], numbers: &mut [u64], location: &mut u64) -> u64
+    ensures { λ r. ⌜ ValuedForC (now (filing .entry)) (now (numbers .entry)) r (now (location .exit)) (now (numbers .exit)) ⌝ }
 {
     let answer = value(filing, numbers);
-    *place = answers::place(answer) as u64;
+    *location = answers::location(answer) as u64;
     answers::number(answer)
 }

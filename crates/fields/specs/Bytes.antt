@@ -3,7 +3,7 @@ use Prim.Native.Nat.{ℕ, zero, suc, _+_, _*_}
 use mathlib.Core.List.{List}
 use lib.ListN.{getD}
 
--- the number that the n bytes from place i on spell
+-- the number that the n bytes from index i on spell
 unfoldable pub numberAt : List ℕ → ℕ → ℕ → ℕ
 numberAt s i zero = 0
 numberAt s i (suc n) = getD s i 0 + 256 * numberAt s (i + 1) n

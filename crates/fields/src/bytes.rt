@@ -46,7 +46,7 @@ fn run_within(s: &[u8], at: usize, width: usize) -> u64
     value
 }
 
-// The byte at a place.
+// The byte at an index.
 pub(crate) fn byte_at(s: &[u8], i: usize) -> u64
     ensures { λ r. ⌜ r ≡ getD (now (s .entry)) i 0 ⌝ }
 {

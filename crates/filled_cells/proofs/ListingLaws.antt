@@ -9,14 +9,14 @@ use borrow.Author.Tests.{ne-eqb}
 use lib.ListN.{length, drop, set, replicate, length-append, drop-of-length-le, length-map}
 use lib.Seq.{drop-cons, set-at, append-snoc}
 use Rattle.lists.specs.Sums.{sum}
-use Rattle.lists.specs.Tables.{tableFrom, those, contains}
+use Rattle.lists.specs.Tables.{tableFrom, those, padded, contains}
 use Rattle.schedule.specs.Cells.{position, positions, positionAt, brokeredCell, penaltyBalanceCell, penaltyMonthsCell, unusedCells}
 use Rattle.schedule.specs.Limits.{cellClass}
 use Rattle.filled_cells.specs.declared.Totals.{Totals}
 use Rattle.filled_cells.specs.declared.FormCell.{FormCell}
 use Rattle.filled_cells.specs.declared.CellValue.{CellValue}
 use Rattle.filled_cells.specs.Means.{balanceAt, couponAt, monthsAt}
-use Rattle.filled_cells.specs.Cells.{isFilled, positionWith, formCell, formCells, isPresent, valueOf, cellValue, cellsOf, inPlaces}
+use Rattle.filled_cells.specs.Cells.{isFilled, positionWith, formCell, formCells, isPresent, valueOf, cellValue, cellsOf, cellArray}
 use Rattle.filled_cells.specs.Inner.Listing.{formCellAt}
 use Rattle.lists.specs.Ranges.{within, firstFrom}
 
@@ -47,44 +47,44 @@ abbrev no-cell : CellValue
 no-cell = record { cell = 0; value = 0 }
 
 module _ (t : Totals) where
-  -- the cells from a place of the table on
+  -- the cells from an index of the table on
   unfoldable pub cellsFrom : ℕ → List CellValue
-  cellsFrom place = map (cellValue t) (those (isPresent t) (drop place formCells))
+  cellsFrom index = map (cellValue t) (those (isPresent t) (drop index formCells))
 
   from-one : (e : FormCell) (es : List FormCell) (b : Bool)
       → map (cellValue t) (cond b (e ∷ es) es) ≡ cond b (cellValue t e ∷ map (cellValue t) es) (map (cellValue t) es)
   from-one e es true = refl
   from-one e es false = refl
 
-  from-suc : (place : ℕ) → place < 28
-      → cellsFrom place ≡ cond (isPresent t (formCellAt place)) (cellValue t (formCellAt place) ∷ cellsFrom (place + 1)) (cellsFrom (place + 1))
+  from-suc : (index : ℕ) → index < 28
+      → cellsFrom index ≡ cond (isPresent t (formCellAt index)) (cellValue t (formCellAt index) ∷ cellsFrom (index + 1)) (cellsFrom (index + 1))
   unfolding cellsFrom those formCellAt
-  from-suc place h =
-      let long : place < length formCells = rw form-length h in
-      rw (drop-cons formCells place (record { cell = 0; class = 0; position = 0 }) long, add-one)
-      (from-one (formCellAt place) (those (isPresent t) (drop (suc place) formCells)) (isPresent t (formCellAt place)))
+  from-suc index h =
+      let long : index < length formCells = rw form-length h in
+      rw (drop-cons formCells index (record { cell = 0; class = 0; position = 0 }) long, add-one)
+      (from-one (formCellAt index) (those (isPresent t) (drop (suc index) formCells)) (isPresent t (formCellAt index)))
 
-  -- the cells before a place of the table are listed, the rest of 28 places is empty
-  pub record Listing (cells : List CellValue) (count place : ℕ) : Type 0 where
+  -- the cells before an index of the table are listed, the rest of 28 entries is empty
+  pub record Listing (cells : List CellValue) (count index : ℕ) : Type 0 where
     pub sofar : List CellValue
     pub long : length sofar ≡ count
-    pub within : count ≤ place
-    pub most : place ≤ 28
+    pub within : count ≤ index
+    pub most : index ≤ 28
     pub stored : cells ≡ sofar ++ replicate (28 - count) no-cell
-    pub rest : sofar ++ cellsFrom place ≡ cellsOf t
+    pub rest : sofar ++ cellsFrom index ≡ cellsOf t
 
   -- before the first
   pub listing-start : Listing (replicate 28 no-cell) 0 0
   unfolding cellsFrom cellsOf
   listing-start = record { sofar = []; long = refl; within = omega arith; most = omega arith; stored = refl; rest = refl }
 
-  module _ (cells : List CellValue) (count place : ℕ) (at : Listing cells count place) (h : place < 28) where
+  module _ (cells : List CellValue) (count index : ℕ) (at : Listing cells count index) (h : index < 28) where
     -- a cell that is handed back
-    pub listing-present : (x : CellValue) → x ≡ cellValue t (formCellAt place) → isPresent t (formCellAt place) ≡ true
-        → Listing (set cells count x) (count + 1) (place + 1)
+    pub listing-present : (x : CellValue) → x ≡ cellValue t (formCellAt index) → isPresent t (formCellAt index) ≡ true
+        → Listing (set cells count x) (count + 1) (index + 1)
     listing-present x e p =
         let more : 28 - count ≡ suc (28 - (count + 1)) = omega (arith, at .within) in
-        let next : cellsFrom place ≡ x ∷ cellsFrom (place + 1) = from-suc place h ∙ rw (p, e) in
+        let next : cellsFrom index ≡ x ∷ cellsFrom (index + 1) = from-suc index h ∙ rw (p, e) in
         let empty : List CellValue = replicate (28 - (count + 1)) no-cell in
         record {
           sofar = at .sofar ++ (x ∷ []);
@@ -93,13 +93,13 @@ module _ (t : Totals) where
           most = omega arith;
           stored =
               rw (at .stored, more) (set-at (at .sofar) no-cell empty x count (at .long) ∙ sym (append-snoc (at .sofar) x empty));
-          rest = append-snoc (at .sofar) x (cellsFrom (place + 1)) ∙ rw (sym next) (at .rest);
+          rest = append-snoc (at .sofar) x (cellsFrom (index + 1)) ∙ rw (sym next) (at .rest);
         }
 
     -- a cell that stays absent
-    pub listing-absent : isPresent t (formCellAt place) ≡ false → Listing cells count (place + 1)
+    pub listing-absent : isPresent t (formCellAt index) ≡ false → Listing cells count (index + 1)
     listing-absent p =
-        let next : cellsFrom place ≡ cellsFrom (place + 1) = from-suc place h ∙ rw p in
+        let next : cellsFrom index ≡ cellsFrom (index + 1) = from-suc index h ∙ rw p in
         record {
           sofar = at .sofar;
           long = at .long;
@@ -116,11 +116,11 @@ module _ (t : Totals) where
       rw (drop-of-length-le formCells long)
 
   -- all cells
-  pub listing-done : (cells : List CellValue) (count place : ℕ) → Listing cells count place → 28 ≤ place
-      → (count ≡ length (cellsOf t)) × (cells ≡ inPlaces (cellsOf t))
-  unfolding inPlaces
-  listing-done cells count place at h =
-      let last : place ≡ 28 = omega (arith, at .most) in
+  pub listing-done : (cells : List CellValue) (count index : ℕ) → Listing cells count index → 28 ≤ index
+      → (count ≡ length (cellsOf t)) × (cells ≡ cellArray (cellsOf t))
+  unfolding padded
+  listing-done cells count index at h =
+      let last : index ≡ 28 = omega (arith, at .most) in
       let all : at .sofar ≡ cellsOf t = sym (append-nil (at .sofar)) ∙ rw (sym none-left, sym last) (at .rest) in
       let counted : count ≡ length (cellsOf t) = sym (at .long) ∙ ap length all in
       (counted, at .stored ∙ rw (all, counted))

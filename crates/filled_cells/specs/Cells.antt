@@ -1,12 +1,11 @@
 -- The cells that sums of positions fill (02:CR 5), by ascending number: balance, WAC and WARM of each position that does not sum to 0, and the total.
 -- Definitions only.
-use Prim.Native.Nat.{ℕ, _-_}
+use Prim.Native.Nat.{ℕ}
 use mathlib.Core.Bool.{Bool, cond, not, _||_}
-use mathlib.Core.List.{List, map, _++_}
-use lib.ListN.{length, replicate}
+use mathlib.Core.List.{List, map}
 use lib.Dec.{eqb}
 use Rattle.lists.specs.Sums.{sum}
-use Rattle.lists.specs.Tables.{tableFrom, those}
+use Rattle.lists.specs.Tables.{tableFrom, those, padded}
 use Rattle.schedule.specs.Cells.{positionAt, totalCell}
 use Rattle.schedule.specs.Limits.{cellClass}
 use Rattle.filled_cells.specs.declared.Totals.{Totals}
@@ -19,13 +18,13 @@ use Rattle.lists.specs.Ranges.{within, firstFrom}
 unfoldable pub isFilled : ℕ → Bool
 isFilled cell = within 1 3 (cellClass cell) || eqb (cellClass cell) 6
 
--- the place, 0 to 8, of the position that a cell belongs to; 9 for the total
+-- the index, 0 to 8, of the position that a cell belongs to; 9 for the total
 unfoldable pub positionWith : ℕ → ℕ
 positionWith cell =
     firstFrom 0 9
     (λ (i : ℕ). eqb (positionAt i .balance) cell || (eqb (positionAt i .coupon) cell || eqb (positionAt i .months) cell))
 
--- a cell with its class and the place of its position
+-- a cell with its class and the index of its position
 unfoldable pub formCell : ℕ → FormCell
 formCell n = record { cell = n; class = cellClass n; position = positionWith n }
 
@@ -51,6 +50,6 @@ cellValue t e = record { cell = e .cell; value = valueOf t e }
 unfoldable pub cellsOf : Totals → List CellValue
 cellsOf t = map (cellValue t) (those (isPresent t) formCells)
 
--- a list of cells in 28 places, which is as many as there can be: past its end 0
-unfoldable pub inPlaces : List CellValue → List CellValue
-inPlaces l = l ++ replicate (28 - length l) (record { cell = 0; value = 0 })
+-- cells in an array of 28, which is as many as there can be: 0 past the last
+abbrev pub cellArray : List CellValue → List CellValue
+cellArray l = padded 28 (record { cell = 0; value = 0 }) l

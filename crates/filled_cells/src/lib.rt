@@ -22,7 +22,7 @@ pub struct Totals {
     pub months: [u64; 9],
 }
 
-// A cell that certificates can fill: its number, its class and the place of its position.
+// A cell that certificates can fill: its number, its class and the index of its position.
 pub struct FormCell {
     pub cell: usize,
     pub class: usize,

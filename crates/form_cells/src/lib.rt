@@ -5,14 +5,14 @@ ghost use Prim.Native.Nat.{_<_};
 ghost use Rattle.filled_cells.specs.Inner.Listing.{formCellAt};
 
 // A cell of the table.
-pub fn form_cell(place: usize) -> FormCell
-    requires { ⌜ place < 28 ⌝ }
-    ensures { λ r. ⌜ r ≡ formCellAt place ⌝ }
+pub fn form_cell(index: usize) -> FormCell
+    requires { ⌜ index < 28 ⌝ }
+    ensures { λ r. ⌜ r ≡ formCellAt index ⌝ }
 {
-    FORM_CELLS[place]
+    FORM_CELLS[index]
 }
 
-// Cell, class (1 balance, 2 WAC, 3 WARM, 6 total) and place of the position, by ascending cell.
+// Cell, class (1 balance, 2 WAC, 3 WARM, 6 total) and index of the position, by ascending cell.
 const FORM_CELLS: [FormCell; 28] = [
     FormCell {
         cell: 601,

@@ -53,7 +53,7 @@ pub cond-encloses : {l u : ℕ} {x : Fraction} (b : Bool) → Encloses l x u →
 cond-encloses true e = e
 cond-encloses false e = whole-encloses 0
 
--- sums over any places
+-- sums over any indices
 pub total-encloses : (test : ℕ → Bool) (l u : ℕ → ℕ) (x : ℕ → Fraction) (n : ℕ) → ((i : ℕ) → Encloses (l i) (x i) (u i))
     → Encloses (sumWhere test l n) (totalWhere test x n) (sumWhere test u n)
 unfolding sumWhere totalWhere

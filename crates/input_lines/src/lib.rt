@@ -1,8 +1,10 @@
 // The lines of standard input.
 use libc::STDIN_FILENO;
-ghost use Prim.Native.Nat.{_≤_};
+ghost use Prim.Native.Nat.{_+_, _%_, _≤_};
 ghost use mathlib.Core.Path.{_≡_};
-ghost use lib.ListN.{length, take};
+ghost use mathlib.Core.Bool.{cond};
+ghost use lib.Dec.{ltb};
+ghost use lib.ListN.{length, set, take};
 
 // How many bytes of a line were read, without its line feed, and whether there was none before the input's end.
 pub struct Read {
@@ -33,7 +35,8 @@ pub fn next_line(line: &mut [u8]) -> Read
 // Stores a byte behind the others, where there is room, and counts them.
 fn with_byte(line: &mut [u8], size: usize, byte: u64) -> usize
     requires { ⌜ size ≤ length (now line) ⌝ }
-    ensures { λ r. ⌜ r ≤ length (now (line .exit)) ⌝ }
+    ensures { λ r. ⌜ now (line .exit) ≡ cond (ltb size (length (now (line .entry)))) (set (now (line .entry)) size (byte % 256)) (now (line .entry)) ⌝ }
+    ensures { λ r. ⌜ (r ≡ cond (ltb size (length (now (line .entry)))) (size + 1) size) × (r ≤ length (now (line .exit))) ⌝ }
 {
     if line.len() <= size {
         return size;
@@ -52,6 +55,8 @@ fn next_byte() -> u64 {
     wide(byte[0])
 }
 
-fn wide(byte: u8) -> u64 {
+fn wide(byte: u8) -> u64
+    ensures { λ r. ⌜ r ≡ byte ⌝ }
+{
     byte as u64
 }

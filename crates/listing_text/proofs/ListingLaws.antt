@@ -9,7 +9,7 @@ use borrow.Author.Tests.{lt-ltb, le-ltb, eq-eqb, ne-eqb}
 use Rattle.lists.specs.Tables.{joined}
 use Rattle.lists.proofs.TableLaws.{table-ext}
 use Rattle.answers.specs.declared.Answer.{Answer}
-use Rattle.answers.specs.Answers.{numberOf, placeOf, verdictOf}
+use Rattle.answers.specs.Answers.{numberOf, locationOf, verdictOf}
 use Rattle.answers.specs.Verdict.{Verdict}
 use Rattle.answers.proofs.VerdictLaws.{list-long}
 use Rattle.contents.specs.declared.Contents.{Contents}
@@ -57,10 +57,10 @@ module _ (s before after : List ℕ) (answer : Answer)
   text-is = rw (le-ltb filingLimit (length s) short, verdict-is)
 
   -- a refused filing
-  pub text-refused : (number place : ℕ) → number ≡ numberOf answer → place ≡ placeOf answer → (number ≡ 0 → ⊥)
-      → refusalLine number place ≡ listingText s
+  pub text-refused : (number location : ℕ) → number ≡ numberOf answer → location ≡ locationOf answer → (number ≡ 0 → ⊥)
+      → refusalLine number location ≡ listingText s
   unfolding verdictText verdictOf
-  text-refused number place n p h = rw (n, p) (rw (ne-eqb (numberOf answer) 0 (λ e. h (n ∙ e))) at text-is)
+  text-refused number location n p h = rw (n, p) (rw (ne-eqb (numberOf answer) 0 (λ e. h (n ∙ e))) at text-is)
 
   -- an accepted filing
   pub text-accepted : (number : ℕ) → number ≡ numberOf answer → number ≡ 0 → linesIn after 540 ≡ listingText s

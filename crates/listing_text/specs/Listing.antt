@@ -26,7 +26,7 @@ scenarioLines k = joined (table scenarioCount (scenarioLine k))
 
 -- the text of a filing with its verdict: the seven lines where it is accepted, else the line of the refusal
 unfoldable pub verdictText : List ℕ → Verdict → List ℕ
-verdictText s v = cond (eqb (v .number) 0) (scenarioLines (contentsOf s)) (refusalLine (v .number) (v .place))
+verdictText s v = cond (eqb (v .number) 0) (scenarioLines (contentsOf s)) (refusalLine (v .number) (v .location))
 
 -- the text of any input
 unfoldable pub listingText : List ℕ → List ℕ

@@ -1,6 +1,6 @@
 // The text that the listing prints of a filing.
 use answers::number;
-use answers::place;
+use answers::location;
 use text::append_too_long;
 use text_lines::append_refusal;
 use total_lines::append_scenarios;
@@ -19,7 +19,7 @@ pub fn write_listing(filing: &[u8], out: &mut [u8; 623]) -> usize
     let answer = value(filing, &mut numbers);
     let refused = number(answer);
     if refused != 0 {
-        return append_refusal(out, 0, refused, place(answer) as u64);
+        return append_refusal(out, 0, refused, location(answer) as u64);
     }
     append_scenarios(out, 0, &numbers, 540)
 }

@@ -1,4 +1,4 @@
--- A list that is filled place by place from the front, with what has a property of its place, or with a function of it: then it becomes the table of that
+-- A list that is filled entry by entry from the front, with what has a property of its index, or with a function of it: then it becomes the table of that
 -- function. Assumes nothing.
 use Prim.Native.Nat.{ℕ, _+_, _≤_, _<_}
 use mathlib.Core.Path.{_≡_, sym, _∙_}
@@ -13,19 +13,19 @@ use Rattle.lists.specs.Tables.{table}
 use Rattle.lists.proofs.TableLaws.{table-length, table-getD}
 
 module _ {ℓ} {A : Type ℓ} where
-  -- a list of n places, of which each of the first i holds what has its property
+  -- a list of n entries, of which each of the first i holds what has its property
   pub record FilledBy (P : ℕ → A → Type ℓ) (d : A) (n i : ℕ) (l : List A) : Type ℓ where
     pub long : length l ≡ n
     pub holds : (j : ℕ) → j < i → P j (getD l j d)
 
-  -- before the first place, and in a list that is cleared
+  -- before the first entry, and in a list that is cleared
   pub filled-start : (P : ℕ → A → Type ℓ) (d : A) (l : List A) {n : ℕ} → length l ≡ n → FilledBy P d n 0 l
   filled-start P d l e = record { long = e; holds = λ j h. absurd (not-suc-le-zero h) }
 
   pub filled-none : (P : ℕ → A → Type ℓ) (d a : A) (n : ℕ) → FilledBy P d n 0 (replicate n a)
   filled-none P d a n = filled-start P d (replicate n a) (length-replicate n a)
 
-  -- one place more
+  -- one entry more
   pub filled-more : (P : ℕ → A → Type ℓ) (d : A) (n i : ℕ) (l : List A) (a : A) → i < n → P i a → FilledBy P d n i l → FilledBy P d n (i + 1) (set l i a)
   filled-more P d n i l a h p filled =
       record {
@@ -46,7 +46,7 @@ module _ {ℓ} {A : Type ℓ} where
   pub fill-more : (f : ℕ → A) (d : A) (n i : ℕ) (l : List A) (a : A) → i < n → a ≡ f i → Filled f d n i l → Filled f d n (i + 1) (set l i a)
   fill-more f d n i l a h e filled = filled-more _ d n i l a h e filled
 
-  -- the places that are filled
+  -- the entries that are filled
   pub fill-first : (f : ℕ → A) (d : A) (n i : ℕ) (l : List A) → i ≤ n → Filled f d n i l → take i l ≡ table i f
   fill-first f d n i l h filled =
       ext-getD d (take i l) (table i f) (long ∙ sym (table-length 0 i f))
@@ -55,6 +55,6 @@ module _ {ℓ} {A : Type ℓ} where
       long : length (take i l) ≡ i
       long = length-take-le i l (rw (filled .long) h)
 
-  -- all places
+  -- all entries
   pub fill-all : (f : ℕ → A) (d : A) (n : ℕ) (l : List A) → Filled f d n n l → l ≡ table n f
   fill-all f d n l filled = sym (take-all n l (omega (arith, filled .long))) ∙ fill-first f d n n l (omega arith) filled

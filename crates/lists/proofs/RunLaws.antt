@@ -9,7 +9,7 @@ use Rattle.lists.specs.Tables.{table, joined}
 use Rattle.lists.proofs.TableLaws.{joined-suc}
 
 module _ {ℓ} {A : Type ℓ} where
-  -- the list after the first n places of the list before are overwritten by `front`
+  -- the list after the first n entries of the list before are overwritten by `front`
   pub record Overwritten (front : List A) (n : ℕ) (before after : List A) : Type ℓ where
     pub long : length front ≡ n
     pub as-long : length after ≡ length before
@@ -46,7 +46,7 @@ module _ {ℓ} {A : Type ℓ} where
   overwritten-row first f m sized i n next before after row w r e h =
       rw (joined-suc i f, ← append-assoc, r) (overwritten-more (first ++ joined (table i f)) (f i) n next before after w (rw (sized i) (sym e)) h)
 
-  -- all places
+  -- all entries
   pub overwritten-all : (front : List A) (n : ℕ) (before after : List A) → Overwritten front n before after → length before ≤ n → after ≡ front
   overwritten-all front n before after w h =
       sym (take-all n after (rw (w .as-long) h)) ∙ ap (take n) (w .is) ∙ take-at front (drop n before) n (w .long)

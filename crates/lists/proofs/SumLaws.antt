@@ -1,4 +1,4 @@
--- Laws of sums of whole numbers: of a list, and of a function over the places that pass a test. Assumes nothing.
+-- Laws of sums of whole numbers: of a list, and of a function over the indices that pass a test. Assumes nothing.
 use Prim.Native.Nat.{ℕ, zero, suc, _+_, _*_, _≤_, _<_}
 use mathlib.Core.Path.{_≡_, refl}
 use mathlib.Core.Bool.{Bool, true, false, cond, not}
@@ -83,7 +83,7 @@ cond-not : (b : Bool) (x : ℕ) → cond b x 0 + cond (not b) x 0 ≡ x
 cond-not true x = omega arith
 cond-not false x = omega arith
 
--- the places that pass a test and those that do not are all places
+-- the indices that pass a test and those that do not are all indices
 pub sumWhere-split : (test : ℕ → Bool) (f : ℕ → ℕ) (n : ℕ)
     → sumWhere test f n + sumWhere (λ i. not (test i)) f n ≡ sumWhere everywhere f n
 unfolding sumWhere

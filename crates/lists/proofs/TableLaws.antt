@@ -1,4 +1,4 @@
--- Laws of tables and of lists joined one after the other: their lengths, and what stands at a place. Assumes nothing.
+-- Laws of tables and of lists joined one after the other: their lengths, and what stands at an index. Assumes nothing.
 use Prim.Native.Nat.{ℕ, zero, suc, _+_, _*_, _≤_, _<_}
 use mathlib.Core.Path.{_≡_, refl, ap, sym, _∙_}
 use mathlib.Core.List.{List, [], _∷_, _++_, append-assoc, append-nil}
@@ -16,14 +16,14 @@ module _ {ℓ} {A : Type ℓ} where
   table-length s zero f = refl
   table-length s (suc n) f = ap suc (table-length (suc s) n f)
 
-  -- at place i of a table from s stands f (s + i)
+  -- at index i of a table from s stands f (s + i)
   pub tableFrom-getD : (s n : ℕ) (f : ℕ → A) (i : ℕ) (d : A) → i < n → getD (tableFrom s n f) i d ≡ f (s + i)
   unfolding tableFrom
   tableFrom-getD s zero f i d h = absurd (not-suc-le-zero h)
   tableFrom-getD s (suc n) f zero d h = rw add-zero
   tableFrom-getD s (suc n) f (suc i) d h = rw (tableFrom-getD (suc s) n f i d (le-of-suc-le-suc h), suc-add, ← add-suc)
 
-  -- at place i of a table stands f i
+  -- at index i of a table stands f i
   pub table-getD : (n : ℕ) (f : ℕ → A) (i : ℕ) (d : A) → i < n → getD (table n f) i d ≡ f i
   table-getD n f i d h = tableFrom-getD 0 n f i d h ∙ ap f (zero-add i)
 
@@ -61,7 +61,7 @@ module _ {ℓ} {A : Type ℓ} where
       let e : m * suc i + r ≡ length (f s) + (m * i + r) = omega (arith, h s, mul-suc m i) in
       rw (e, getD-append-add, joinedFrom-getD m (suc s) n f h i r d (le-of-suc-le-suc hi) hr, suc-add, ← add-suc)
 
-  -- of lists of m elements each, joined: at place m × i + r stands what the i-th has at r
+  -- of lists of m elements each, joined: at index m × i + r stands what the i-th has at r
   pub joined-getD : (m n : ℕ) (f : ℕ → List A) → ((i : ℕ) → length (f i) ≡ m) → (i r : ℕ) (d : A) → i < n → r < m
       → getD (joined (table n f)) (m * i + r) d ≡ getD (f i) r d
   joined-getD m n f h i r d hi hr = joinedFrom-getD m 0 n f h i r d hi hr ∙ ap (λ (j : ℕ). getD (f j) r d) (zero-add i)
@@ -99,7 +99,7 @@ joined-le s (suc n) f limit h i =
     append-le (f s) (joined (tableFrom (suc s) n f)) limit (λ j. h s j (omega arith) (omega arith))
     (joined-le (suc s) n f limit (λ j k l u. h j k (omega arith) (omega arith))) i
 
--- a list of zeros has 0 at every place
+-- a list of zeros has 0 at every index
 pub zeros-getD : (n i : ℕ) → _≡_ {A = ℕ} (getD (replicate n 0) i 0) 0
 zeros-getD zero i = refl
 zeros-getD (suc n) zero = refl

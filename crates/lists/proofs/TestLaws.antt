@@ -53,7 +53,7 @@ all-at i n test t j l u =
     let e : i + (j - i) ≡ j = omega arith in
     subst (λ (m : ℕ). T (test m)) e (all-plus i n test t (j - i) (omega arith))
 
--- the test passes at each place of the list and its entry
+-- the test passes at each index of the list and its entry
 abbrev pub everyEntry : (ℕ → ℕ → Bool) → List ℕ → Bool
 everyEntry test [] = true
 everyEntry test (x ∷ xs) = test 0 x && everyEntry (λ i. test (suc i)) xs
@@ -65,7 +65,7 @@ entry-passes test (x ∷ xs) t zero h = both (test 0 x) (everyEntry (λ i. test 
 entry-passes test (x ∷ xs) t (suc k) h =
     entry-passes (λ i. test (suc i)) xs (both (test 0 x) (everyEntry (λ i. test (suc i)) xs) t .1) k (le-of-suc-le-suc h)
 
--- entries that are all at most b: so is what is read at any place, past the end too
+-- entries that are all at most b: so is what is read at any index, past the end too
 pub entries-le : (xs : List ℕ) (b : ℕ) → T (everyEntry (λ i x. leb x b) xs) → (k : ℕ) → getD xs k 0 ≤ b
 entries-le [] b t k = zero-le
 entries-le (x ∷ xs) b t zero = leb→le x b (both (leb x b) (everyEntry (λ i y. leb y b) xs) t .0)

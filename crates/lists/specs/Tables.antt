@@ -1,8 +1,9 @@
 -- Lists made from a function, and tests over lists. Definitions only.
-use Prim.Native.Nat.{ℕ, zero, suc}
+use Prim.Native.Nat.{ℕ, zero, suc, _-_}
 use mathlib.Core.Bool.{Bool, false, cond, _||_}
 use mathlib.Core.List.{List, [], _∷_, _++_}
 use lib.Dec.{eqb}
+use lib.ListN.{length, replicate}
 
 -- f i, f (i + 1), .., n of them
 unfoldable pub tableFrom {ℓ} : {A : Type ℓ} → ℕ → ℕ → (ℕ → A) → List A
@@ -17,6 +18,10 @@ table n f = tableFrom 0 n f
 unfoldable pub joined {ℓ} : {A : Type ℓ} → List (List A) → List A
 joined [] = []
 joined (l ∷ ls) = l ++ joined ls
+
+-- a list brought to n elements with x behind it
+unfoldable pub padded {ℓ} : {A : Type ℓ} → ℕ → A → List A → List A
+padded n x l = l ++ replicate (n - length l) x
 
 -- the elements that pass the test, in their order
 unfoldable pub those {ℓ} : {A : Type ℓ} → (A → Bool) → List A → List A

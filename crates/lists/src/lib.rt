@@ -4,7 +4,7 @@ ghost use Prim.Native.Nat.{_+_, _≤_};
 ghost use lib.ListN.{length};
 ghost use Rattle.lists.specs.Runs.{written};
 
-// Writes the numbers of `run` into `list` from place `at` on. The rest of the list is left as it was.
+// Writes the numbers of `run` into `list` from index `at` on. The rest of the list is left as it was.
 pub fn write(list: &mut [u64], at: usize, run: &[u64])
     requires { ⌜ at + length (now run) ≤ length (now list) ⌝ }
     ensures { λ _. ⌜ now (list .exit) ≡ written (now (list .entry)) at (now (run .entry)) ⌝ }

@@ -32,7 +32,7 @@ StartFor false count edges x level = (level ≤ count) × Unreached edges (gainO
 unfoldable pub lastLevel : Bool → ℕ → ℕ
 lastLevel isBrokered count = cond isBrokered 1 count
 
--- q at a level, billionths: the tiers' survivals, in the first `count` places of an array, and past them the survival where no edge is reached
+-- q at a level, billionths: the tiers' survivals, in the first `count` entries of an array, and past them the survival where no edge is reached
 unfoldable pub levelSurvival : Bool → ℕ → List ℕ → ℕ → ℕ → ℕ
 levelSurvival true count survivals retained level = cond (ltb level 1) 0 fullSurvival
 levelSurvival false count survivals retained level = cond (ltb level count) (getD survivals level 0) retained

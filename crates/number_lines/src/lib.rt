@@ -7,7 +7,7 @@ ghost use Prim.Native.Nat.{_≤_};
 ghost use lib.ListN.{length};
 ghost use Rattle.numerals.specs.Inner.Fields.{lineAt};
 
-// The line from a place on, by its separators.
+// The line from an index on, by its separators.
 pub fn read_line(text: &[u8], from: usize, form: &[u8]) -> Line
     requires { ⌜ length (now form) ≤ 8 ⌝ }
     ensures { λ r. ⌜ r ≡ lineAt (now (text .entry)) from (now (form .entry)) ⌝ }

@@ -10,7 +10,7 @@ unfoldable pub hasForm : List ℕ → ℕ → List ℕ → Bool
 hasForm s at [] = true
 hasForm s at (x ∷ xs) = (isNumber s at && eqb (byteAt s (numberEnd s at)) x) && hasForm s (numberEnd s at + 1) xs
 
--- these numbers, and the place behind the last separator
+-- these numbers, and the index behind the last separator
 unfoldable pub formNumbers : List ℕ → ℕ → List ℕ → List ℕ
 formNumbers s at [] = []
 formNumbers s at (x ∷ xs) = numberAt s at ∷ formNumbers s (numberEnd s at + 1) xs

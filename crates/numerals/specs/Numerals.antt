@@ -6,7 +6,7 @@ use lib.ListN.{length, getD}
 use lib.Dec.{leb, ltb}
 use Rattle.lists.specs.Ranges.{firstFrom}
 
--- the byte at a place; past the end a line feed, which the last line may lack
+-- the byte at an index; past the end a line feed, which the last line may lack
 unfoldable pub byteAt : List ℕ → ℕ → ℕ
 byteAt s i = getD s i 10
 
@@ -14,7 +14,7 @@ byteAt s i = getD s i 10
 unfoldable pub isDigit : ℕ → Bool
 isDigit b = leb 48 b && leb b 57
 
--- the first place from `at` on where no digit stands
+-- the first index from `at` on where no digit stands
 unfoldable pub numberEnd : List ℕ → ℕ → ℕ
 numberEnd s at = firstFrom at (length s - at) (λ (i : ℕ). not (isDigit (byteAt s i)))
 
@@ -23,7 +23,7 @@ unfoldable pub decimal : List ℕ → ℕ → ℕ → ℕ
 decimal s at zero = 0
 decimal s at (suc n) = 10 * decimal s at n + (byteAt s (at + n) - 48)
 
--- the number at a place, and whether one below 2^64 stands there
+-- the number at an index, and whether one below 2^64 stands there
 unfoldable pub numberAt : List ℕ → ℕ → ℕ
 numberAt s at = decimal s at (numberEnd s at - at)
 

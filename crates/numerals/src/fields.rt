@@ -17,7 +17,7 @@ pub enum Whole {
     TooLarge,
 }
 
-// The number at a place, where it is followed by its separator.
+// The number at an index, where it is followed by its separator.
 pub fn read_number(text: &[u8], at: usize, separator: u8) -> Field
     ensures { λ r. ⌜ r ≡ fieldAt (now (text .entry)) at separator ⌝ }
 {
@@ -37,7 +37,7 @@ pub fn read_number(text: &[u8], at: usize, separator: u8) -> Field
     }
 }
 
-// The first place from another on where no digit stands.
+// The first index from another on where no digit stands.
 fn number_end(text: &[u8], at: usize) -> usize
     ensures { λ r. ⌜ r ≡ numberEnd (now (text .entry)) at ⌝ }
 {
@@ -51,7 +51,7 @@ fn number_end(text: &[u8], at: usize) -> usize
     i
 }
 
-// The value of the digits from a place to another.
+// The value of the digits from an index to another.
 fn digits_value(text: &[u8], at: usize, end: usize) -> Whole
     requires { ⌜ at ≤ end ⌝ }
     requires { ⌜ end ≤ length (now text) ⌝ }
@@ -86,7 +86,7 @@ fn is_digit(byte: u8) -> bool
     byte <= 57
 }
 
-// The byte at a place; past the end a line feed.
+// The byte at an index; past the end a line feed.
 pub fn byte_at(text: &[u8], i: usize) -> u8
     ensures { λ r. ⌜ r ≡ byteAt (now (text .entry)) i ⌝ }
 {

@@ -1,7 +1,7 @@
 // Whole decimal numbers in a text, and lines of numbers with their separators.
 pub mod fields;
 
-// A line that has its form: its numbers, 0 past the last, and the place behind it. Otherwise all is 0.
+// A line that has its form: its numbers, 0 past the last, and the index behind it. Otherwise all is 0.
 pub struct Line {
     pub readable: bool,
     pub next: usize,

@@ -8,7 +8,7 @@ ghost use Prim.Native.Nat.{ℕ, _-_, _≤_, _<_};
 ghost use lib.ListN.{getD};
 ghost use Rattle.lists.specs.Tables.{table};
 ghost use Rattle.schedule.specs.Limits.{tierLimit, edgeLimit};
-ghost use Rattle.withdrawal.specs.Inner.TierArrays.{inPlaces, tierTable, Usable};
+ghost use Rattle.withdrawal.specs.Inner.TierArrays.{tierArray, tierTable, Usable};
 ghost use Rattle.place_values.specs.PlaceTerms.{tiersOf};
 ghost use Rattle.place_values.specs.Inner.FiledLimits.{FiledLimits};
 
@@ -30,7 +30,7 @@ pub fn tiers_of(filed: FiledTiers) -> WithdrawalTiers
 // The first `count` numbers, the last of them first, and 0s behind them.
 fn from_the_top(count: usize, numbers: &[u16; 16]) -> [u64; 16]
     requires { ⌜ count ≤ tierLimit ⌝ }
-    ensures { λ r. ⌜ (r ≡ inPlaces (table count (λ i. getD (now (numbers .entry)) (count - 1 - i) 0))) × ((i : ℕ) → getD r i 0 ≤ edgeLimit) ⌝ }
+    ensures { λ r. ⌜ (r ≡ tierArray (table count (λ i. getD (now (numbers .entry)) (count - 1 - i) 0))) × ((i : ℕ) → getD r i 0 ≤ edgeLimit) ⌝ }
 {
     let mut turned = [0u64; 16];
     let mut i: usize = 0;

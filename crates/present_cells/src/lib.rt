@@ -16,9 +16,9 @@ pub fn cells_of(totals: Totals) -> Cells
 {
     let mut cells = [CellValue { cell: 0, value: 0 }; 28];
     let mut count = 0;
-    let mut place = 0;
-    while place < 28 {
-        let e = form_cell(place);
+    let mut index = 0;
+    while index < 28 {
+        let e = form_cell(index);
         if is_present(totals, e) {
             cells[count] = CellValue {
                 cell: e.cell,
@@ -26,7 +26,7 @@ pub fn cells_of(totals: Totals) -> Cells
             };
             count += 1;
         }
-        place += 1;
+        index += 1;
     }
     Cells {
         answer: Answer::Accepted,

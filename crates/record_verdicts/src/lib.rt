@@ -14,7 +14,7 @@ ghost use mathlib.Core.Path.{_≡_};
 ghost use Prim.Native.Nat.{_≤_};
 ghost use lib.ListN.{length};
 ghost use Rattle.answers.specs.Verdict.{firstRefusal, refusedIf};
-ghost use Rattle.answers.specs.Answers.{numberOf, placeOf, verdictOf};
+ghost use Rattle.answers.specs.Answers.{numberOf, locationOf, verdictOf};
 ghost use Rattle.notes.specs.Inner.Notes.{notedBefore};
 ghost use Rattle.record_verdicts.specs.RecordVerdicts.{shapeVerdict, bodyVerdict};
 ghost use Rattle.record_verdicts.specs.Inner.PlainVerdicts.{plainVerdict};
@@ -57,14 +57,14 @@ pub fn check_body(s: &[u8], at: usize) -> Answer
 
 // The refusal of a row where its condition holds.
 pub fn refused_if(holds: bool, refusal: Answer) -> Answer
-    ensures { λ r. ⌜ verdictOf r ≡ refusedIf holds (numberOf refusal) (placeOf refusal) ⌝ }
+    ensures { λ r. ⌜ verdictOf r ≡ refusedIf holds (numberOf refusal) (locationOf refusal) ⌝ }
 {
     if holds { refusal } else { Answer::Accepted }
 }
 
 // The next row, after the answer of the rows before it.
 fn or_refused(answer: Answer, holds: bool, refusal: Answer) -> Answer
-    ensures { λ r. ⌜ verdictOf r ≡ firstRefusal (verdictOf answer) (refusedIf holds (numberOf refusal) (placeOf refusal)) ⌝ }
+    ensures { λ r. ⌜ verdictOf r ≡ firstRefusal (verdictOf answer) (refusedIf holds (numberOf refusal) (locationOf refusal)) ⌝ }
 {
     first_refusal(answer, refused_if(holds, refusal))
 }

@@ -49,7 +49,7 @@ pub record InBlock (block cell number : ℕ) : Type 0 where
   pub number-lt : number < 2 ^ 16
   pub block-is : blockOf number ≡ block
 
--- it has a place of its own in the set
+-- it has an index of its own in the set
 key-lt : {block cell number : ℕ} → InBlock block cell number → keyOf cell number / 64 < wordCount
 unfolding keyOf
 key-lt h = omega (arith, h .from-first, h .to-last)

@@ -32,7 +32,7 @@ table-same base zero f g h = refl
 table-same base (suc n) f g h =
     rw (h base (omega arith) (omega arith), table-same (suc base) n f g (λ j l u. h j (omega arith) (omega arith)))
 
--- a table of functions that agree but at one place, with the other's value stored there
+-- a table of functions that agree but at one index, with the other's value stored there
 table-set {ℓ} : {A : Type ℓ} (base n : ℕ) (f g : ℕ → A) (i : ℕ) (v : A) → i < n → v ≡ g (base + i) → ((j : ℕ) → (base + i ≡ j → ⊥) → f j ≡ g j)
     → set (tableFrom base n f) i v ≡ tableFrom base n g
 unfolding tableFrom

@@ -37,7 +37,7 @@ positions =
     ∷ position 4 3 641 643 644
     ∷ []
 
--- the position at a place of the table, 0 to 8
+-- the position at an index of the table, 0 to 8
 unfoldable pub positionAt : ℕ → Position
 unfolding position
 positionAt i = getD positions i (position 0 0 0 0 0)

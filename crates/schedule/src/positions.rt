@@ -5,7 +5,7 @@ ghost use mathlib.Core.Path.{_≡_};
 ghost use Rattle.schedule.specs.Cells as specs;
 ghost use Rattle.schedule.specs.Cells.{positionAt, withinRow};
 
-// The position at a place of the table; all 0 past the ninth.
+// The position at an index of the table; all 0 past the ninth.
 pub fn position(i: usize) -> Position
     ensures { λ r. ⌜ r ≡ positionAt i ⌝ }
 {

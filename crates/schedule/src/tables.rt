@@ -56,7 +56,7 @@ pub fn class_limit(class: usize) -> u64
     entry_at(&LIMITS, class)
 }
 
-// The entry at a place of a table: 0 past its end.
+// The entry at an index of a table: 0 past its end.
 pub fn entry_at(table: &[u64], i: usize) -> u64
     ensures { λ r. ⌜ r ≡ getD (now (table .entry)) i 0 ⌝ }
 {

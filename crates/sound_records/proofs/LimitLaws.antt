@@ -59,10 +59,10 @@ limit-above cell h = rw (class-outside cell (inr h))
 pub limit-read : (limits : List ℕ) (cell : ℕ) → limits ≡ cellLimits → firstCell ≤ cell → cell < firstCell + cellCount
     → getD limits (cell - firstCell) 0 ≡ classLimit (cellClass cell)
 limit-read limits cell is l u =
-    let place : firstCell + (cell - firstCell) ≡ cell = omega arith in
+    let index : firstCell + (cell - firstCell) ≡ cell = omega arith in
     ap (λ (list : List ℕ). getD list (cell - firstCell) 0) is
     ∙ tableFrom-getD firstCell cellCount (λ (n : ℕ). classLimit (cellClass n)) (cell - firstCell) 0 (omega arith)
-    ∙ ap (λ (n : ℕ). classLimit (cellClass n)) place
+    ∙ ap (λ (n : ℕ). classLimit (cellClass n)) index
 
 -- the largest value of a record's cell is 0 just where the cell is not listed for its kind
 module _ (s : List ℕ) (at : ℕ) where

@@ -4,15 +4,15 @@ use output::end_line;
 use output::next_number;
 use output::text;
 
-// An answer's number and place.
+// An answer's number and location.
 pub fn print_answer(answer: Answer) {
     text(b"answer");
     next_number(answers::number(answer));
-    next_number(answers::place(answer) as u64);
+    next_number(answers::location(answer) as u64);
     end_line();
 }
 
-// A line of how many places a call left, and how many of them are as they were.
+// A line of how many entries a call left, and how many of them are as they were.
 pub fn print_counts(rest: u64, kept: u64) {
     text(b"rest");
     next_number(rest);

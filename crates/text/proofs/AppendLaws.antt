@@ -44,7 +44,7 @@ in-front t before after size fits a =
       counted = rw taken (sym k);
     }
 
--- on the way to `text` at place i of the list l: `rest` remains to be put at place j of the list m
+-- on the way to `text` at index i of the list l: `rest` remains to be put at index j of the list m
 pub record Remaining (l : List ℕ) (i : ℕ) (text m : List ℕ) (j : ℕ) (rest : List ℕ) : Type 0 where
   pub as-long : length m ≡ length l
   pub whole : sets m j rest ≡ sets l i text

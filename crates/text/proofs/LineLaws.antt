@@ -21,9 +21,9 @@ unfolding restOfLine spaced
 rest-end ns i e = rw (e, drop-length)
 
 -- the line of a refusal: seven letters, and the rest
-pub refusal-length : (number place : ℕ) → length (refusalLine number place) ≡ 7 + length (restOfLine (number ∷ place ∷ []))
+pub refusal-length : (number location : ℕ) → length (refusalLine number location) ≡ 7 + length (restOfLine (number ∷ location ∷ []))
 unfolding refusalLine refusedWord
-refusal-length number place = length-append refusedWord (restOfLine (number ∷ place ∷ []))
+refusal-length number location = length-append refusedWord (restOfLine (number ∷ location ∷ []))
 
 -- 64-bit numbers, each behind a space
 spaced-length : (ns : List ℕ) → ((i : ℕ) → i < length ns → getD ns i 0 < 2 ^ 64) → length (spaced ns) ≤ 21 * length ns
@@ -37,12 +37,12 @@ unfolding restOfLine
 rest-length ns fits = rw length-append (omega (arith, spaced-length ns fits))
 
 -- the line of a refusal with 64-bit numbers
-pub refusal-short : (number place : ℕ) → number < 2 ^ 64 → place < 2 ^ 64 → length (refusalLine number place) ≤ 50
-refusal-short number place hn hp =
+pub refusal-short : (number location : ℕ) → number < 2 ^ 64 → location < 2 ^ 64 → length (refusalLine number location) ≤ 50
+refusal-short number location hn hp =
     omega (
       arith,
-      refusal-length number place,
-      rest-length (number ∷ place ∷ []) (each-of number place hn hp),
+      refusal-length number location,
+      rest-length (number ∷ location ∷ []) (each-of number location hn hp),
     )
   where
     each-of : (n p : ℕ) → n < 2 ^ 64 → p < 2 ^ 64 → (i : ℕ) → i < 2 → getD (n ∷ p ∷ []) i 0 < 2 ^ 64

@@ -16,9 +16,9 @@ restOfLine ns = spaced ns ++ (10 ∷ [])
 unfoldable pub refusedWord : List ℕ
 refusedWord = 114 ∷ 101 ∷ 102 ∷ 117 ∷ 115 ∷ 101 ∷ 100 ∷ []
 
--- the line of a refusal: `refused`, number and place
+-- the line of a refusal: `refused`, number and location
 unfoldable pub refusalLine : ℕ → ℕ → List ℕ
-refusalLine number place = refusedWord ++ restOfLine (number ∷ place ∷ [])
+refusalLine number location = refusedWord ++ restOfLine (number ∷ location ∷ [])
 
 -- the word `unreadable`
 unfoldable pub unreadableWord : List ℕ

@@ -1,4 +1,4 @@
-// Lines of numbers in a list of bytes that the caller lends: each function puts its text at a place, where it must fit, and answers the place behind it.
+// Lines of numbers in a list of bytes that the caller lends: each function puts its text at an index, where it must fit, and answers the index behind it.
 use text::append;
 use text::append_byte;
 use text::append_number;
@@ -10,13 +10,13 @@ ghost use Rattle.text.specs.Appended.{Appended};
 ghost use Rattle.text.specs.Decimal.{decimal, signed};
 ghost use Rattle.text.specs.Lines.{restOfLine, refusalLine};
 
-// The line of a refusal: `refused`, number and place.
-pub fn append_refusal(out: &mut [u8], at: usize, number: u64, place: u64) -> usize
-    requires { ⌜ at + length (refusalLine number place) ≤ length (now out) ⌝ }
-    ensures { λ r. ⌜ Appended (now (out .entry)) at (refusalLine number place) (now (out .exit)) r ⌝ }
+// The line of a refusal: `refused`, number and location.
+pub fn append_refusal(out: &mut [u8], at: usize, number: u64, location: u64) -> usize
+    requires { ⌜ at + length (refusalLine number location) ≤ length (now out) ⌝ }
+    ensures { λ r. ⌜ Appended (now (out .entry)) at (refusalLine number location) (now (out .exit)) r ⌝ }
 {
     let word = append(out, at, b"refused");
-    append_line(out, word, &[number, place])
+    append_line(out, word, &[number, location])
 }
 
 // The rest of a line: the numbers of a list, each behind a space, and the line feed.

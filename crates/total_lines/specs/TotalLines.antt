@@ -1,4 +1,4 @@
--- The lines of the seven scenarios, of a list that holds their totals from a place on: four for each scenario, in dollars. Definitions only.
+-- The lines of the seven scenarios, of a list that holds their totals from an index on: four for each scenario, in dollars. Definitions only.
 use Prim.Native.Nat.{ℕ, _+_, _*_}
 use mathlib.Core.List.{List, [], _∷_, _++_}
 use lib.IntN.{ℤ, subℕ}

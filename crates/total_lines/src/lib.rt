@@ -7,7 +7,7 @@ ghost use lib.ListN.{length};
 ghost use Rattle.text.specs.Appended.{Appended};
 ghost use Rattle.total_lines.specs.TotalLines.{lineIn, linesIn};
 
-// The lines of the seven scenarios, whose totals stand in the numbers from a place on.
+// The lines of the seven scenarios, whose totals stand in the numbers from an index on.
 pub fn append_scenarios(out: &mut [u8], at: usize, numbers: &[u64], from: usize) -> usize
     requires { ⌜ (at + 623 ≤ length (now out)) × (from + 28 ≤ length (now numbers)) ⌝ }
     ensures { λ r. ⌜ Appended (now (out .entry)) at (linesIn (now (numbers .entry)) from) (now (out .exit)) r × (r ≤ at + 623) ⌝ }

@@ -52,9 +52,9 @@ longest-most ps (suc n) h = max-le (longest-most ps n (λ i l. h i (le-trans l (
 
 module _ (k : Contents) where
   -- what stands at a place of the thirty-six
-  pub place-is : (place : ℕ) → place < 36 → placeIn (placesOf (k .cells)) place ≡ placeAt (k .cells) place
+  pub location-is : (place : ℕ) → place < 36 → placeIn (placesOf (k .cells)) place ≡ placeAt (k .cells) place
   unfolding placesOf
-  place-is place h = table-getD 36 (placeAt (k .cells)) place _ h
+  location-is place h = table-getD 36 (placeAt (k .cells)) place _ h
 
   term-of-place : (place : ℕ) → 0 < balanceAt (k .cells) place → monthsAt (k .cells) place ≤ termOf (placeAt (k .cells) place)
   unfolding termOf placeAt
@@ -66,7 +66,7 @@ module _ (k : Contents) where
   months-le-longest place h pos = le-trans held (longest-le (placesOf (k .cells)) 36 place h)
     where
       held : monthsAt (k .cells) place ≤ termOf (placeIn (placesOf (k .cells)) place)
-      held = rw (place-is place h) (term-of-place place pos)
+      held = rw (location-is place h) (term-of-place place pos)
 
   module _ (v : Valid k) where
     -- nor is the longest term above the limit of months
@@ -80,7 +80,7 @@ module _ (k : Contents) where
 
     pub longest-limit : longestTerm (placesOf (k .cells)) ≤ monthsLimit
     unfolding longestTerm
-    longest-limit = longest-most (placesOf (k .cells)) 36 (λ place h. rw (place-is place h) (term-le place h))
+    longest-limit = longest-most (placesOf (k .cells)) 36 (λ place h. rw (location-is place h) (term-le place h))
 
     -- no number of a row is above the limit of a value
     valueAt-le : (ρ : Rounding) (scenario place : ℕ) → place < 36 → valueAt ρ k scenario place ≤ valueLimit
@@ -109,7 +109,7 @@ pub record Prepared (k : Contents) (tiers : WithdrawalTiers) (places : List SubB
 
 module _ (k : Contents) (tiers : WithdrawalTiers) (places : List SubBalance) (lower upper : List ℕ) (p : Prepared k tiers places lower upper) (place : ℕ) (h : place < 36) where
   held-is : placeIn places place ≡ placeAt (k .cells) place
-  held-is = rw (p .places-are) (place-is k place h)
+  held-is = rw (p .places-are) (location-is k place h)
 
   -- what a place holds is within its limits
   pub held-limits : (placeIn places place .balance ≤ balanceLimit) × DepositLimits (depositAt place (placeIn places place))

@@ -1,5 +1,5 @@
 -- Tiers in arrays, with the survival of each withdrawal beside it. Assumes nothing.
-use Prim.Native.Nat.{ℕ, zero, suc, _+_, _≤_, _<_}
+use Prim.Native.Nat.{ℕ, zero, suc, _+_, _-_, _≤_, _<_}
 use mathlib.Core.Path.{_≡_, refl, sym, ap, _∙_}
 use mathlib.Core.Bool.{Bool, true, false, cond}
 use mathlib.Core.List.{List, [], _∷_, _++_, map}
@@ -8,10 +8,10 @@ use native.Mathlib.Numerals.{add-one}
 use native.Mathlib.Omega.{arith}
 use lib.Dec.{T, leb, ltb, leb→le}
 use lib.ListN.{length, getD, set, drop, replicate, length-map, take-append-drop, List·getD-append}
-use lib.Seq.{drop-set-lt, drop-drop, getD-drop}
+use lib.Seq.{drop-set-lt, drop-drop}
 use lib.IntN.{ℤ}
-use Rattle.lists.specs.Tables.{tableFrom, table}
-use Rattle.lists.proofs.TableLaws.{table-length, table-getD, table-ext, table-le}
+use Rattle.lists.specs.Tables.{tableFrom, table, padded}
+use Rattle.lists.proofs.TableLaws.{table-length, table-getD, table-ext, table-le, zeros-getD}
 use Rattle.lists.proofs.FillLaws.{Filled, fill-none, fill-more, fill-first}
 use Rattle.lists.proofs.TestLaws.{everyEntry, entries-le}
 use Rattle.withdrawal.specs.declared.WithdrawalTiers.{WithdrawalTiers}
@@ -20,16 +20,20 @@ use Rattle.schedule.specs.Limits.{tierLimit, edgeLimit, withdrawalLimit}
 use Rattle.withdrawal.specs.declared.ReachedTier.{ReachedTier}
 use Rattle.withdrawal.specs.Tiers.{WithdrawalTier, TierTable, Falling, tier, annualWithdrawal}
 use Rattle.withdrawal.specs.Reached.{reachedTier}
-use Rattle.withdrawal.specs.Inner.TierArrays.{tierTable, tierTableOf, withSurvivals, inPlaces, held, TiersFit, Usable}
+use Rattle.withdrawal.specs.Inner.TierArrays.{tierTable, tierTableOf, withSurvivals, tierArray, held, TiersFit, Usable}
 use Rattle.withdrawal.proofs.TierLaws.{levelReached, level-withdrawal}
 use Rattle.withdrawal.proofs.HighestLaws.{edges-tried}
 use Rattle.withdrawal.proofs.SurvivalLaws.{survival-le}
 
--- an array of which the first i places hold f 0, f 1, .., f (i - 1) and the others 0
+-- an array of which the first i entries hold f 0, f 1, .., f (i - 1) and the others 0
 pub record Stored (f : ℕ → ℕ) (i : ℕ) (l : List ℕ) : Type 0 where
   pub within : i ≤ tierLimit
   pub filled : Filled f 0 tierLimit i l
-  pub rest : drop i l ≡ drop i (replicate tierLimit 0)
+  pub rest : drop i l ≡ replicate (tierLimit - i) 0
+
+fewer-zeros : (n : ℕ) → _≡_ {A = List ℕ} (drop 1 (replicate n 0)) (replicate (n - 1) 0)
+fewer-zeros zero = refl
+fewer-zeros (suc n) = let e : suc n - 1 ≡ n = omega arith in rw e
 
 module _ (f : ℕ → ℕ) where
   pub stored-none : Stored f 0 (replicate tierLimit 0)
@@ -40,19 +44,21 @@ module _ (f : ℕ → ℕ) where
       record {
         within = omega arith;
         filled = fill-more f 0 tierLimit i l a h e (s .filled);
-        rest = drop-set-lt (i + 1) l i a (omega arith) ∙ (rw (drop-drop, drop-drop) at (ap (drop 1) (s .rest)));
+        rest =
+            let e : tierLimit - i - 1 ≡ tierLimit - (i + 1) = omega arith in
+            drop-set-lt (i + 1) l i a (omega arith) ∙ (rw drop-drop at (ap (drop 1) (s .rest))) ∙ rw e at (fewer-zeros (tierLimit - i));
       }
 
-  pub stored-all : (n : ℕ) (l : List ℕ) → Stored f n l → l ≡ inPlaces (table n f)
-  unfolding inPlaces
+  pub stored-all : (n : ℕ) (l : List ℕ) → Stored f n l → l ≡ tierArray (table n f)
+  unfolding padded
   stored-all n l s = sym (take-append-drop n l) ∙ rw (fill-first f 0 tierLimit n l (s .within) (s .filled), s .rest, table-length 0 n f)
 
--- what is read at a place of the list, or something else past its end
-in-places-at : (xs : List ℕ) (i n otherwise : ℕ) → length xs ≡ n → cond (ltb i n) (getD (inPlaces xs) i 0) otherwise ≡ cond (ltb i n) (getD xs i 0) otherwise
-unfolding inPlaces
-in-places-at xs i n otherwise e = by (ltb i n) refl
+-- what is read at an index of the list, or something else past its end
+padded-at : (xs : List ℕ) (i n otherwise : ℕ) → length xs ≡ n → cond (ltb i n) (getD (tierArray xs) i 0) otherwise ≡ cond (ltb i n) (getD xs i 0) otherwise
+unfolding padded
+padded-at xs i n otherwise e = by (ltb i n) refl
   where
-    by : (b : Bool) → ltb i n ≡ b → cond b (getD (inPlaces xs) i 0) otherwise ≡ cond b (getD xs i 0) otherwise
+    by : (b : Bool) → ltb i n ≡ b → cond b (getD (tierArray xs) i 0) otherwise ≡ cond b (getD xs i 0) otherwise
     by true t = List·getD-append xs _ 0 i (rw e (ltb-true i n t))
     by false t = refl
 
@@ -60,16 +66,16 @@ module _ (gain : ℤ) (cost : ℕ) where
   -- what a function makes of the withdrawals, at the level that is reached: what it makes of the annual withdrawal
   held-at : (f : ℕ → ℕ) (x : TierTable)
       → cond (ltb (levelReached gain cost (x .tiers)) (length (x .tiers)))
-      (getD (inPlaces (map (λ (y : WithdrawalTier). f (y .withdrawal)) (x .tiers))) (levelReached gain cost (x .tiers)) 0)
+      (getD (tierArray (map (λ (y : WithdrawalTier). f (y .withdrawal)) (x .tiers))) (levelReached gain cost (x .tiers)) 0)
       (f (x .otherwise))
       ≡ f (annualWithdrawal x gain cost)
   unfolding annualWithdrawal
   held-at f x =
-      in-places-at (map (λ (y : WithdrawalTier). f (y .withdrawal)) (x .tiers)) (levelReached gain cost (x .tiers)) (length (x .tiers))
+      padded-at (map (λ (y : WithdrawalTier). f (y .withdrawal)) (x .tiers)) (levelReached gain cost (x .tiers)) (length (x .tiers))
       (f (x .otherwise)) (length-map (x .tiers) _)
       ∙ level-withdrawal gain cost f (x .otherwise) (x .tiers)
 
--- what the code's arrays hold at a place, as the search answers it
+-- what the code's arrays hold at an index, as the search answers it
 unfoldable answerAt : WithdrawalTiers → ℕ → ReachedTier
 answerAt t i =
     record {
@@ -131,65 +137,62 @@ unfolding tableFrom
 map-table f s zero g = refl
 map-table f s (suc n) g = rw (map-table f (suc s) n g)
 
--- what the places of a table hold
-places-hold : (n : ℕ) (f : ℕ → ℕ) (i : ℕ) → i < n → getD (inPlaces (table n f)) i 0 ≡ f i
-unfolding inPlaces
-places-hold n f i h = List·getD-append (table n f) _ 0 i (rw (table-length 0 n f) h) ∙ table-getD n f i 0 h
+-- what the entries of a table hold
+padded-holds : (n : ℕ) (f : ℕ → ℕ) (i : ℕ) → i < n → getD (tierArray (table n f)) i 0 ≡ f i
+unfolding padded
+padded-holds n f i h = List·getD-append (table n f) _ 0 i (rw (table-length 0 n f) h) ∙ table-getD n f i 0 h
 
 append-le : (xs ys : List ℕ) (b : ℕ) → ((i : ℕ) → getD xs i 0 ≤ b) → ((i : ℕ) → getD ys i 0 ≤ b) → (i : ℕ) → getD (xs ++ ys) i 0 ≤ b
 append-le [] ys b h g i = g i
 append-le (x ∷ xs) ys b h g zero = h 0
 append-le (x ∷ xs) ys b h g (suc i) = append-le xs ys b (λ j. h (suc j)) g i
 
--- what bounds a table bounds its places
-pub places-le : (n : ℕ) (f : ℕ → ℕ) (b : ℕ) → ((i : ℕ) → f i ≤ b) → (i : ℕ) → getD (inPlaces (table n f)) i 0 ≤ b
-unfolding inPlaces
-places-le n f b h =
-    append-le (table n f) (drop (length (table n f)) (replicate tierLimit 0)) b (table-le 0 n f b (λ j l u. h j))
-    (λ i. rw getD-drop (zeros (length (table n f) + i)))
-  where
-    zeros : (i : ℕ) → getD (replicate tierLimit 0) i 0 ≤ b
-    zeros i = omega (arith, entries-le (replicate tierLimit 0) 0 tt i)
+-- what bounds a table bounds its entries
+pub padded-le : (n : ℕ) (f : ℕ → ℕ) (b : ℕ) → ((i : ℕ) → f i ≤ b) → (i : ℕ) → getD (tierArray (table n f)) i 0 ≤ b
+unfolding padded
+padded-le n f b h =
+    append-le (table n f) (replicate (tierLimit - length (table n f)) 0) b (table-le 0 n f b (λ j l u. h j))
+    (λ i. omega (arith, zeros-getD (tierLimit - length (table n f)) i))
 
--- tiers whose edges and withdrawals stand in the first `count` places and 0s in the others: the table that they make, and that they are usable
+-- tiers whose edges and withdrawals stand in the first `count` entries and 0s in the others: the table that they make, and that they are usable
 module _ (count otherwise : ℕ) (edge withdrawal : ℕ → ℕ) where
   abbrev edges : List ℕ
-  edges = inPlaces (table count edge)
+  edges = tierArray (table count edge)
 
   abbrev withdrawals : List ℕ
-  withdrawals = inPlaces (table count withdrawal)
+  withdrawals = tierArray (table count withdrawal)
 
-  pub placed-table : tierTable (withSurvivals count edges withdrawals otherwise)
+  pub padded-table : tierTable (withSurvivals count edges withdrawals otherwise)
       ≡ record { tiers = table count (λ (i : ℕ). tier (edge i) (withdrawal i)); otherwise = otherwise }
   unfolding tierTable tierTableOf withSurvivals
-  placed-table =
+  padded-table =
       ap (λ (xs : List WithdrawalTier). record { tiers = xs; otherwise = otherwise })
-      (table-ext count _ _ (λ i h. rw (places-hold count edge i h, places-hold count withdrawal i h)))
+      (table-ext count _ _ (λ i h. rw (padded-holds count edge i h, padded-holds count withdrawal i h)))
 
-  placed-held : withSurvivals count edges withdrawals otherwise ≡ held (tierTableOf count edges withdrawals otherwise)
+  padded-held : withSurvivals count edges withdrawals otherwise ≡ held (tierTableOf count edges withdrawals otherwise)
   unfolding withSurvivals held tierTableOf tier
-  placed-held =
+  padded-held =
       rw (
         table-length 0 count (λ (i : ℕ). tier (getD edges i 0) (getD withdrawals i 0)),
         map-table (λ (y : WithdrawalTier). y .edge) 0 count (λ (i : ℕ). tier (getD edges i 0) (getD withdrawals i 0)),
         map-table (λ (y : WithdrawalTier). y .withdrawal) 0 count (λ (i : ℕ). tier (getD edges i 0) (getD withdrawals i 0)),
         map-table (λ (y : WithdrawalTier). survival (y .withdrawal)) 0 count (λ (i : ℕ). tier (getD edges i 0) (getD withdrawals i 0)),
-        table-ext count (λ (i : ℕ). getD edges i 0) edge (places-hold count edge),
-        table-ext count (λ (i : ℕ). getD withdrawals i 0) withdrawal (places-hold count withdrawal),
+        table-ext count (λ (i : ℕ). getD edges i 0) edge (padded-holds count edge),
+        table-ext count (λ (i : ℕ). getD withdrawals i 0) withdrawal (padded-holds count withdrawal),
       )
 
-  pub placed-usable : TiersFit count edges withdrawals otherwise → Falling (table count (λ (i : ℕ). tier (edge i) (withdrawal i)))
+  pub padded-usable : TiersFit count edges withdrawals otherwise → Falling (table count (λ (i : ℕ). tier (edge i) (withdrawal i)))
       → Usable (withSurvivals count edges withdrawals otherwise)
   unfolding tierTable tierTableOf withSurvivals
-  placed-usable fit f =
-      fit-usable count edges withdrawals otherwise fit placed-held (rw (ap (λ (x : TierTable). x .tiers) placed-table) f)
+  padded-usable fit f =
+      fit-usable count edges withdrawals otherwise fit padded-held (rw (ap (λ (x : TierTable). x .tiers) padded-table) f)
 
 -- no survival that usable tiers hold is above the whole
 pub survivals-le : (t : WithdrawalTiers) → Usable t → (i : ℕ) → getD (t .survivals) i 0 ≤ fullSurvival
 unfolding held tierTable tierTableOf
 survivals-le t u i =
     rw (ap (λ (x : WithdrawalTiers). x .survivals) (u .held-is), map-table (λ (y : WithdrawalTier). survival (y .withdrawal)) 0 (t .count) _)
-    (places-le (t .count) _ fullSurvival (λ j. survival-le _) i)
+    (padded-le (t .count) _ fullSurvival (λ j. survival-le _) i)
 
 pub retained-le : (t : WithdrawalTiers) → Usable t → t .retained ≤ fullSurvival
 unfolding held

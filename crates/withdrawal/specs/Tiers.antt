@@ -52,7 +52,7 @@ abbrev pub Falling : List WithdrawalTier → Type 0
 Falling [] = Unit {0}
 Falling (x ∷ xs) = Below (x .edge) xs × Falling xs
 
--- the tier at a place is the one of document 01 (01:50): the highest whose edge k has 100 × gain ≥ k × cost
+-- the tier at an index is the one of document 01 (01:50): the highest whose edge k has 100 × gain ≥ k × cost
 abbrev pub edgeAt : List WithdrawalTier → ℕ → ℕ
 edgeAt xs i = getD xs i (tier 0 0) .edge
 

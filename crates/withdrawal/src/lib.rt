@@ -6,8 +6,8 @@ pub const TIER_LIMIT: usize = 16;
 // q where nothing is withdrawn, in billionths.
 pub const FULL_SURVIVAL: u64 = 1_000_000_000;
 
-// Tiers of annual withdrawal, in the first `count` places, highest edge first: edges in hundredths, withdrawals in thousandths, and the survival
-// of each withdrawal in billionths; the places past these are 0. Where no edge is reached the withdrawal is `otherwise` and its survival
+// Tiers of annual withdrawal, in the first `count` entries, highest edge first: edges in hundredths, withdrawals in thousandths, and the survival
+// of each withdrawal in billionths; the entries past these are 0. Where no edge is reached the withdrawal is `otherwise` and its survival
 // `retained`.
 pub struct WithdrawalTiers {
     pub count: usize,

@@ -27,12 +27,12 @@ returns c =
     let line = c .before .before .append .ensures in
     (rw (sym text) line, omega (arith, line .end-is, t .before .before .before .before .pre))
 
-place-requires : tie.Need-place-requires
-place-requires c κs = search needs
+location-requires : tie.Need-location-requires
+location-requires c κs = search needs
 
 -- a refusal has 50 bytes at most
-short : (c : tie.After-place) → length (refusalLine (c .before .before .before .number .result) (c .place .result)) ≤ 50
-short c = refusal-short (c .before .before .before .number .result) (c .place .result) (omega arith) (omega arith)
+short : (c : tie.After-location) → length (refusalLine (c .before .before .before .number .result) (c .location .result)) ≤ 50
+short c = refusal-short (c .before .before .before .number .result) (c .location .result) (omega arith) (omega arith)
 
 append-refusal-requires : tie.Need-append-refusal-requires
 append-refusal-requires c κs = omega (arith, short c, c .before .before .before .before .before .before .pre)
@@ -45,7 +45,7 @@ returns-2 c =
     let p = c .before .before .before in
     let n = p .before .before .before in
     let a = n .before .before .before .args in
-    let text = answer-refused (a .accepted .now) (a .answer) _ (n .number .ensures) _ (p .place .ensures) (p .before .before .if1 .left) in
+    let text = answer-refused (a .accepted .now) (a .answer) _ (n .number .ensures) _ (p .location .ensures) (p .before .before .if1 .left) in
     let line = c .before .before .append-refusal .ensures in
     (rw (sym text) line, omega (arith, line .end-is, short p))
 
@@ -57,7 +57,7 @@ append-answer-spec =
     append-requires
     same-length
     returns
-    place-requires
+    location-requires
     append-refusal-requires
     same-length-2
     returns-2)

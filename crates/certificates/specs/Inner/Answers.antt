@@ -2,8 +2,8 @@
 use mathlib.Core.List.{[]}
 use Rattle.answers.specs.declared.Answer.{Answer}
 use Rattle.filled_cells.specs.declared.Cells.{Cells}
-use Rattle.filled_cells.specs.Cells.{inPlaces}
+use Rattle.filled_cells.specs.Cells.{cellArray}
 
 -- a refusal
 unfoldable pub noCells : Answer → Cells
-noCells a = record { answer = a; count = 0; cells = inPlaces [] }
+noCells a = record { answer = a; count = 0; cells = cellArray [] }

@@ -7,7 +7,7 @@ use lib.ListN.{getD, set}
 use Rattle.answers.specs.Verdict.{Verdict}
 use Rattle.filled_cells.specs.declared.Totals.{Totals}
 
--- an amount added at a place
+-- an amount added at an index
 unfoldable pub addedAt : List ℕ → ℕ → ℕ → List ℕ
 addedAt l i amount = set l i (getD l i 0 + amount)
 
@@ -22,4 +22,4 @@ totalsWith t i months balance coupon =
 
 -- how many of n certificates are summed: those before the one that is refused, all where none is
 unfoldable pub summedCount : Verdict → ℕ → ℕ
-summedCount v n = cond (eqb (v .number) 0) n (v .place)
+summedCount v n = cond (eqb (v .number) 0) n (v .location)

@@ -114,7 +114,7 @@ returns-2 c = let r = c .before .before in
       fits = omega (arith, at .inv .1 .as-long, at .inv .0 .room, at .inv .0 .bound, entry (turn r) .pre);
     }
 
--- the line is a certificate: its numbers, the place behind it, and room for them
+-- the line is a certificate: its numbers, the index behind it, and room for them
 formed : (c : tie.Else2 Inv-loop μ-loop) → hasForm (text (turn (line c))) (turn (line c) .loop .at) certificateForm ≡ true
 formed c =
     let read = line c .certificate-line in

@@ -16,11 +16,11 @@ to-cells-requires c κs = search needs
 number-requires : tie.Need-number-requires
 number-requires c κs = search needs
 
-place-requires : tie.Need-place-requires
-place-requires c κs = search needs
+location-requires : tie.Need-location-requires
+location-requires c κs = search needs
 
-short : (c : tie.After-place) → length (refusalLine (c .before .before .before .number .result) (c .place .result)) ≤ 50
-short c = refusal-short (c .before .before .before .number .result) (c .place .result) (omega arith) (omega arith)
+short : (c : tie.After-location) → length (refusalLine (c .before .before .before .number .result) (c .location .result)) ≤ 50
+short c = refusal-short (c .before .before .before .number .result) (c .location .result) (omega arith) (omega arith)
 
 append-refusal-requires : tie.Need-append-refusal-requires
 append-refusal-requires c κs = omega (arith, short c, c .before .before .before .before .before .before .before .pre)
@@ -32,7 +32,7 @@ returns : tie.Need-returns
 returns c =
     let p = c .before .before .before in
     let n = p .before .before .before in
-    let text = answer-refused _ _ _ (n .before .to-cells .ensures) _ _ (n .number .ensures) (p .place .ensures) (p .before .before .if1 .taken) in
+    let text = answer-refused _ _ _ (n .before .to-cells .ensures) _ _ (n .number .ensures) (p .location .ensures) (p .before .before .if1 .taken) in
     let line = c .before .before .append-refusal .ensures in
     (rw (sym text) line, omega (arith, line .end-is, short p))
 
@@ -57,7 +57,7 @@ append-answer-spec =
     (tie.spec
     to-cells-requires
     number-requires
-    place-requires
+    location-requires
     append-refusal-requires
     same-length
     returns

@@ -13,7 +13,7 @@ use Rattle.decode.specs.Contents.{rateCount}
 use Rattle.decode.proofs.fill_from.Statement.{statement}
 use Rattle.decode.proofs.fill_from.Tie as tie
 
--- the rate at a place
+-- the rate at an index
 abbrev rateAt : List ℕ → ℕ → ℕ → ℕ → ℕ
 rateAt rates from rate i = cond (ltb i from) (getD rates i 0) rate
 

@@ -1,4 +1,4 @@
--- `discounts::to_multipliers` meets its contract: the places before i hold multipliers, the others their factors. Assumes nothing.
+-- `discounts::to_multipliers` meets its contract: the entries before i hold multipliers, the others their factors. Assumes nothing.
 use Prim.Native.Nat.{ℕ, _-_, _≤_}
 use mathlib.Core.Path.{_≡_, refl, _∙_}
 use native.Mathlib.Omega.{arith}

@@ -19,7 +19,7 @@ yieldFactors ρ yields month = discountsBy ρ (shiftedRates (getD yields month 0
 unfoldable pub monthFactors : Rounding → List ℕ → ℕ → ℕ → List ℕ
 monthFactors ρ yields longest month = cond (ltb month longest) (yieldFactors ρ yields month) (replicate scenarioCount 0)
 
--- the factors of all months: those of month t stand from place 7 (t - 1) on
+-- the factors of all months: those of month t stand from index 7 (t - 1) on
 unfoldable pub factorsBy : Rounding → List ℕ → ℕ → List ℕ
 factorsBy ρ yields longest = joined (table monthsLimit (monthFactors ρ yields longest))
 

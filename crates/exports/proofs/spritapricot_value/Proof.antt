@@ -7,8 +7,8 @@ use Rattle.exports.proofs.spritapricot_value.Tie as tie
 value-requires : tie.Need-value-requires
 value-requires c κs = search needs
 
-place-requires : tie.Need-place-requires
-place-requires c κs = search needs
+location-requires : tie.Need-location-requires
+location-requires c κs = search needs
 
 number-requires : tie.Need-number-requires
 number-requires c κs = search needs
@@ -17,8 +17,8 @@ same-length : tie.Need-same-length
 same-length c = search needs
 
 returns : tie.Need-returns
-returns c = valued-for-c _ _ _ _ _ _ (c .before .before .before .before .value .ensures) (c .number .ensures) (c .before .place .ensures)
+returns c = valued-for-c _ _ _ _ _ _ (c .before .before .before .before .value .ensures) (c .number .ensures) (c .before .location .ensures)
 
 pub spritapricot-value-spec : {M : Type 1} → statement M
 spritapricot-value-spec =
-    tie.close (tie.spec value-requires place-requires number-requires same-length returns)
+    tie.close (tie.spec value-requires location-requires number-requires same-length returns)

@@ -5,7 +5,7 @@ use lib.ListN.{length, getD}
 use Rattle.filled_cells.specs.declared.Totals.{Totals}
 use Rattle.filled_cells.specs.declared.Cells.{Cells}
 use Rattle.filled_cells.specs.declared.FormCell.{FormCell}
-use Rattle.filled_cells.specs.Cells.{formCells, cellsOf, inPlaces}
+use Rattle.filled_cells.specs.Cells.{formCells, cellsOf, cellArray}
 use Rattle.schedule.specs.Limits.{balanceLimit, filedCouponLimit, monthsLimit}
 use Rattle.answers.specs.declared.Answer.the-variants.{Accepted}
 
@@ -18,8 +18,8 @@ pub record Bounded (t : Totals) : Type 0 where
 
 -- acceptance, with the cells of some sums
 unfoldable pub acceptedCells : Totals → Cells
-acceptedCells t = record { answer = Accepted; count = length (cellsOf t); cells = inPlaces (cellsOf t) }
+acceptedCells t = record { answer = Accepted; count = length (cellsOf t); cells = cellArray (cellsOf t) }
 
--- the cell at a place of the table
+-- the cell at an index of the table
 unfoldable pub formCellAt : ℕ → FormCell
-formCellAt place = getD formCells place (record { cell = 0; class = 0; position = 0 })
+formCellAt index = getD formCells index (record { cell = 0; class = 0; position = 0 })

@@ -1,4 +1,4 @@
--- `held_tiers::with_survivals` meets its contract. The loop's invariant: the places below `i` hold the survivals of their withdrawals, the
+-- `held_tiers::with_survivals` meets its contract. The loop's invariant: the entries below `i` hold the survivals of their withdrawals, the
 -- others 0. The measure is what is left of the tiers. Assumes nothing.
 use Prim.Native.Nat.{ℕ, _-_, _≤_}
 use mathlib.Core.Path.{_≡_}

@@ -31,7 +31,7 @@ loop-less c = omega arith
 loop-again : tie.Need-loop-again Inv-loop μ-loop
 loop-again c =
     let w = c .before .before in
-    (w .with-byte .ensures, omega (arith, w .with-byte .kept .0, w .before .before .before .before .before .before .loop .inv .1))
+    (w .with-byte .ensures .1 .1, omega (arith, w .with-byte .kept .0, w .before .before .before .before .before .before .loop .inv .1))
 
 same-length : tie.Need-same-length Inv-loop μ-loop
 same-length c = c .before .loop .inv .1

@@ -29,11 +29,11 @@ value-requires c κs = search needs
 number-requires : tie.Need-number-requires
 number-requires c κs = search needs
 
-place-requires : tie.Need-place-requires
-place-requires c κs = search needs
+location-requires : tie.Need-location-requires
+location-requires c κs = search needs
 
-short : (c : tie.After-place) → length (refusalLine (c .before .before .before .number .result) (c .place .result)) ≤ 50
-short c = refusal-short (c .before .before .before .number .result) (c .place .result) (omega arith) (omega arith)
+short : (c : tie.After-location) → length (refusalLine (c .before .before .before .number .result) (c .location .result)) ≤ 50
+short c = refusal-short (c .before .before .before .number .result) (c .location .result) (omega arith) (omega arith)
 
 append-refusal-requires : tie.Need-append-refusal-requires
 append-refusal-requires c κs = omega (arith, short c)
@@ -45,7 +45,7 @@ returns-2 c =
     let v = n .before .before in
     let s = v .before .before .before .before .args .filing .now in
     let refusal =
-    text-refused s _ _ _ (omega arith) (omega arith) (v .value .ensures) _ _ (n .number .ensures) (p .place .ensures) (c .before .before .before .if2 .taken) in
+    text-refused s _ _ _ (omega arith) (omega arith) (v .value .ensures) _ _ (n .number .ensures) (p .location .ensures) (c .before .before .before .if2 .taken) in
     rw (sym refusal) (in-front _ _ _ _ (omega (arith, short p)) (c .append-refusal .ensures))
 
 slice-aggregate-append-scenarios : tie.Need-slice-aggregate-append-scenarios
@@ -71,7 +71,7 @@ write-listing-spec =
     slice-aggregate-value
     value-requires
     number-requires
-    place-requires
+    location-requires
     append-refusal-requires
     returns-2
     slice-aggregate-append-scenarios

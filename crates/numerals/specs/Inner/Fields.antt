@@ -16,12 +16,12 @@ use Rattle.numerals.specs.Forms.{hasForm, formNumbers, formEnd}
 unfoldable pub wholeOf : List ℕ → ℕ → ℕ → Whole
 wholeOf s at end = cond (ltb (decimal s at (end - at)) (2 ^ 64)) (Value (decimal s at (end - at))) TooLarge
 
--- the number at a place with its separator
+-- the number at an index with its separator
 unfoldable pub fieldAt : List ℕ → ℕ → ℕ → Field
 fieldAt s at separator =
     cond (isNumber s at && eqb (byteAt s (numberEnd s at)) separator) (Read (numberAt s at) (numberEnd s at + 1)) Malformed
 
--- the line from a place on, by its separators, in eight places
+-- the line from an index on, by its separators, in eight entries
 unfoldable pub lineAt : List ℕ → ℕ → List ℕ → Line
 lineAt s at form =
     cond (hasForm s at form)

@@ -1,4 +1,4 @@
--- `cells_of` meets its contract. The loop's invariant: the cells of the table before a place are taken. Assumes nothing.
+-- `cells_of` meets its contract. The loop's invariant: the cells of the table before an index are taken. Assumes nothing.
 use Prim.Native.Nat.{_-_}
 use native.Mathlib.Omega.{arith}
 use mathlib.Core.Path.{sym, _∙_}
@@ -10,10 +10,10 @@ use Rattle.present_cells.proofs.cells_of.Statement.{statement}
 use Rattle.present_cells.proofs.cells_of.Tie as tie
 
 abbrev Inv-loop : tie.InvT-loop
-Inv-loop totals cells₀ count₀ place₀ cells count place = Listing totals cells count place
+Inv-loop totals cells₀ count₀ index₀ cells count index = Listing totals cells count index
 
 abbrev μ-loop : tie.MeasureT-loop
-μ-loop totals cells₀ count₀ place₀ cells count place = 28 - place
+μ-loop totals cells₀ count₀ index₀ cells count index = 28 - index
 
 loop-holds : tie.Need-loop-holds Inv-loop μ-loop
 loop-holds c = listing-start _
@@ -36,8 +36,8 @@ array-set-from-cells c = omega (arith, c .before .before .before .before .before
 add-count : tie.Need-add-count Inv-loop μ-loop
 add-count c = omega (arith, c .before .before .before .before .before .loop .inv .within, c .before .before .before .before .loop-test .taken)
 
-add-place : tie.Need-add-place Inv-loop μ-loop
-add-place c = omega (arith, c .before .before .before .loop-test .taken)
+add-index : tie.Need-add-index Inv-loop μ-loop
+add-index c = omega (arith, c .before .before .before .loop-test .taken)
 
 loop-less : tie.Need-loop-less Inv-loop μ-loop
 loop-less c = omega (arith, c .before .before .before .loop-test .taken)
@@ -50,16 +50,16 @@ loop-again c = let t = c .before .before .before .before .before .args .totals i
     let tested = rw e at (c .before .is-present .ensures) in
     ⊎-elim
     (λ w. rw (w .2, w .3)
-    (listing-present t (at .cells) (at .count) (at .place) (at .inv) (c .before .before .before .loop-test .taken) _ (rw (w .1 .ensures, e))
+    (listing-present t (at .cells) (at .count) (at .index) (at .inv) (c .before .before .before .loop-test .taken) _ (rw (w .1 .ensures, e))
     (sym tested ∙ w .0 .taken)))
     (λ w. rw (w .1, w .2)
-    (listing-absent t (at .cells) (at .count) (at .place) (at .inv) (c .before .before .before .loop-test .taken) (sym tested ∙ w .0 .left)))
+    (listing-absent t (at .cells) (at .count) (at .index) (at .inv) (c .before .before .before .loop-test .taken) (sym tested ∙ w .0 .left)))
     (c .if1 .came)
 
 returns : tie.Need-returns Inv-loop μ-loop
 unfolding acceptedCells
 returns c = let at = c .before .loop in
-    let all = listing-done (c .before .before .args .totals) (at .cells) (at .count) (at .place) (at .inv) (c .loop-test .left) in
+    let all = listing-done (c .before .before .args .totals) (at .cells) (at .count) (at .index) (at .inv) (c .loop-test .left) in
     rw (all .0, all .1)
 
 pub cells-of-spec : {M : Type 1} → statement M
@@ -75,7 +75,7 @@ cells-of-spec =
     mul-cells
     array-set-from-cells
     add-count
-    add-place
+    add-index
     loop-less
     loop-again
     returns)

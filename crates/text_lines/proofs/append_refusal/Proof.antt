@@ -13,7 +13,7 @@ slice-aggregate-append c = search needs
 append-requires : tie.Need-append-requires
 append-requires c κs =
     let s = c .before .before .before .args in
-    omega (arith, refusal-length (s .number) (s .place))
+    omega (arith, refusal-length (s .number) (s .location))
 
 slice-aggregate-append-line : tie.Need-slice-aggregate-append-line
 slice-aggregate-append-line c = search needs
@@ -21,7 +21,7 @@ slice-aggregate-append-line c = search needs
 append-line-requires : tie.Need-append-line-requires
 append-line-requires c κs =
     let s = c .before .before .before .before .before .before .before .before .args in
-    omega (arith, refusal-length (s .number) (s .place), c .before .before .before .before .append .ensures .end-is)
+    omega (arith, refusal-length (s .number) (s .location), c .before .before .before .before .append .ensures .end-is)
 
 same-length : tie.Need-same-length
 same-length c = search needs

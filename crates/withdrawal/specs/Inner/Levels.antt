@@ -1,4 +1,4 @@
--- The level of an incentive: the place of the first tier that it reaches, among edges in an array, highest first; the count of the tiers where it reaches
+-- The level of an incentive: the index of the first tier that it reaches, among edges in an array, highest first; the count of the tiers where it reaches
 -- none. Definitions only.
 use Prim.Native.Nat.{ℕ, _≤_, _<_}
 use mathlib.Core.Path.{_≡_}

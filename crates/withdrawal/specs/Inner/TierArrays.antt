@@ -1,15 +1,15 @@
 -- The tiers that the code's arrays hold. Definitions only.
 use Prim.Native.Nat.{ℕ, _≤_}
 use mathlib.Core.Path.{_≡_}
-use mathlib.Core.List.{List, _++_, map}
-use lib.ListN.{length, getD, drop, replicate}
-use Rattle.lists.specs.Tables.{table}
+use mathlib.Core.List.{List, map}
+use lib.ListN.{length, getD}
+use Rattle.lists.specs.Tables.{table, padded}
 use Rattle.withdrawal.specs.declared.WithdrawalTiers.{WithdrawalTiers}
 use Rattle.schedule.specs.Limits.{tierLimit, edgeLimit, withdrawalLimit}
 use Rattle.withdrawal.specs.Tiers.{WithdrawalTier, TierTable, Falling, tier}
 use Rattle.withdrawal.specs.Survival.{survival}
 
--- tiers of which the first `count` places of two arrays have edge and withdrawal, highest edge first
+-- tiers of which the first `count` entries of two arrays have edge and withdrawal, highest edge first
 unfoldable pub tierTableOf : ℕ → List ℕ → List ℕ → ℕ → TierTable
 tierTableOf count edges withdrawals otherwise =
     record { tiers = table count (λ i. tier (getD edges i 0) (getD withdrawals i 0)); otherwise = otherwise }
@@ -18,9 +18,9 @@ tierTableOf count edges withdrawals otherwise =
 unfoldable pub tierTable : WithdrawalTiers → TierTable
 tierTable t = tierTableOf (t .count) (t .edges) (t .withdrawals) (t .otherwise)
 
--- the numbers of a list in the places of an array: those past the last are 0
-unfoldable pub inPlaces : List ℕ → List ℕ
-inPlaces xs = xs ++ drop (length xs) (replicate tierLimit 0)
+-- the numbers of a list in an array for the most tiers: 0 past the last
+abbrev pub tierArray : List ℕ → List ℕ
+tierArray xs = padded tierLimit 0 xs
 
 -- arrays of edges and withdrawals, with the survivals of the first `count` withdrawals beside them, billionths
 unfoldable pub withSurvivals : ℕ → List ℕ → List ℕ → ℕ → WithdrawalTiers
@@ -29,7 +29,7 @@ withSurvivals count edges withdrawals otherwise =
       count = count;
       edges = edges;
       withdrawals = withdrawals;
-      survivals = inPlaces (table count (λ i. survival (getD withdrawals i 0)));
+      survivals = tierArray (table count (λ i. survival (getD withdrawals i 0)));
       otherwise = otherwise;
       retained = survival otherwise;
     }
@@ -39,9 +39,9 @@ unfoldable pub held : TierTable → WithdrawalTiers
 held x =
     record {
       count = length (x .tiers);
-      edges = inPlaces (map (λ (y : WithdrawalTier). y .edge) (x .tiers));
-      withdrawals = inPlaces (map (λ (y : WithdrawalTier). y .withdrawal) (x .tiers));
-      survivals = inPlaces (map (λ (y : WithdrawalTier). survival (y .withdrawal)) (x .tiers));
+      edges = tierArray (map (λ (y : WithdrawalTier). y .edge) (x .tiers));
+      withdrawals = tierArray (map (λ (y : WithdrawalTier). y .withdrawal) (x .tiers));
+      survivals = tierArray (map (λ (y : WithdrawalTier). survival (y .withdrawal)) (x .tiers));
       otherwise = x .otherwise;
       retained = survival (x .otherwise);
     }

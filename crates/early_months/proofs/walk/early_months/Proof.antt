@@ -29,9 +29,9 @@ level-at-requires c κs = let start = c .before .before in (omega (arith, c .loo
 early : (c : tie.In-loop Inv-loop μ-loop) → suc (c .before .loop .t) < c .before .before .args .months
 early c = omega (arith, c .loop-test .taken)
 
--- the place of its factor
-factor-place : (c : tie.In-loop Inv-loop μ-loop) → 7 * c .before .loop .t + c .before .before .args .scenario < 840
-factor-place c = let start = c .before .before in omega (arith, c .loop-test .taken, start .pre .0 .1, start .pre .0 .2)
+-- the index of its factor
+factor-index : (c : tie.In-loop Inv-loop μ-loop) → 7 * c .before .loop .t + c .before .before .args .scenario < 840
+factor-index c = let start = c .before .before in omega (arith, c .loop-test .taken, start .pre .0 .1, start .pre .0 .2)
 
 multipliers-at-requires : tie.Need-multipliers-at-requires Inv-loop μ-loop
 multipliers-at-requires c κs =
@@ -39,16 +39,16 @@ multipliers-at-requires c κs =
     rw (c .level-at .ensures) (at .before .pre .1 .0 .level-le (at .loop .t) (early (c .before)))
 
 mul-i : tie.Need-mul-i Inv-loop μ-loop
-mul-i c = omega (arith, factor-place (c .before .before))
+mul-i c = omega (arith, factor-index (c .before .before))
 
 add-i : tie.Need-add-i Inv-loop μ-loop
-add-i c = omega (arith, factor-place (c .before .before))
+add-i c = omega (arith, factor-index (c .before .before))
 
 mul-next-lower : tie.Need-mul-next-lower Inv-loop μ-loop
-mul-next-lower c = omega (arith, factor-place (c .before .before))
+mul-next-lower c = omega (arith, factor-index (c .before .before))
 
 element-copy-out-next-lower : tie.Need-element-copy-out-next-lower Inv-loop μ-loop
-element-copy-out-next-lower c = factor-place (c .before .before)
+element-copy-out-next-lower c = factor-index (c .before .before)
 
 next-lower-requires : tie.Need-next-lower-requires Inv-loop μ-loop
 next-lower-requires c κs =
@@ -57,10 +57,10 @@ next-lower-requires c κs =
     rw (at .loop .inv .1) (start .pre .1 .0 .balance-le (at .loop .t) (at .loop .inv .0), start .pre .1 .0 .price-le (at .loop .t) (at .loop .inv .0))
 
 mul-next-upper : tie.Need-mul-next-upper Inv-loop μ-loop
-mul-next-upper c = omega (arith, factor-place (c .before .before .before .before))
+mul-next-upper c = omega (arith, factor-index (c .before .before .before .before))
 
 element-copy-out-next-upper : tie.Need-element-copy-out-next-upper Inv-loop μ-loop
-element-copy-out-next-upper c = factor-place (c .before .before .before .before)
+element-copy-out-next-upper c = factor-index (c .before .before .before .before)
 
 next-upper-requires : tie.Need-next-upper-requires Inv-loop μ-loop
 next-upper-requires c κs =
@@ -75,7 +75,7 @@ next-upper-requires c κs =
     )
 
 add-t : tie.Need-add-t Inv-loop μ-loop
-add-t c = omega (arith, factor-place (c .before .before .before .before .before .before))
+add-t c = omega (arith, factor-index (c .before .before .before .before .before .before))
 
 loop-less : tie.Need-loop-less Inv-loop μ-loop
 loop-less c = omega arith

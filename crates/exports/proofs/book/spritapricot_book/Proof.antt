@@ -11,8 +11,8 @@ book-of-requires c κs = search needs
 number-requires : tie.Need-number-requires
 number-requires c κs = search needs
 
-place-requires : tie.Need-place-requires
-place-requires c κs = search needs
+location-requires : tie.Need-location-requires
+location-requires c κs = search needs
 
 shown-requires : tie.Need-shown-requires
 shown-requires c κs = search needs
@@ -21,12 +21,12 @@ returns : tie.Need-returns
 returns c =
     let book = c .before .before .before .before .before .before .before .book-of in
     changed-for-c _ _ _ _ (book .result) _ _ (book .ensures) (c .before .before .before .before .before .before .number .ensures)
-    (c .before .before .before .before .before .place .ensures) (c .before .before .before .before .if1 .taken) (c .shown .ensures)
+    (c .before .before .before .before .before .location .ensures) (c .before .before .before .before .if1 .taken) (c .shown .ensures)
 
 returns-2 : tie.Need-returns-2
 returns-2 c =
     let book = c .before .before .before .book-of in
-    unchanged-for-c _ _ _ _ (book .result) _ _ (book .ensures) (c .before .before .number .ensures) (c .before .place .ensures) (c .if1 .left) refl
+    unchanged-for-c _ _ _ _ (book .result) _ _ (book .ensures) (c .before .before .number .ensures) (c .before .location .ensures) (c .if1 .left) refl
 
 pub spritapricot-book-spec : {M : Type 1} → statement M
-spritapricot-book-spec = tie.close (tie.spec book-of-requires number-requires place-requires shown-requires returns returns-2)
+spritapricot-book-spec = tie.close (tie.spec book-of-requires number-requires location-requires shown-requires returns returns-2)

@@ -1,4 +1,4 @@
--- `read_number` meets its contract: at each return the tests that led there say what stands at the place. Assumes nothing.
+-- `read_number` meets its contract: at each return the tests that led there say what stands at the index. Assumes nothing.
 use Prim.Native.Nat.{_<_}
 use native.Mathlib.Omega.{arith}
 use mathlib.Core.Path.{_≡_, sym, ap, _∙_}

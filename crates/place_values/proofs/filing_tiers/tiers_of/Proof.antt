@@ -6,8 +6,8 @@ use borrow.Author.Tests.{eq-eqb, ne-eqb}
 use lib.ListN.{getD}
 use Rattle.lists.specs.Tables.{table}
 use Rattle.schedule.specs.Limits.{edgeLimit, withdrawalLimit}
-use Rattle.withdrawal.specs.Inner.TierArrays.{inPlaces, TiersFit}
-use Rattle.withdrawal.proofs.HeldLaws.{places-le, placed-table, placed-usable}
+use Rattle.withdrawal.specs.Inner.TierArrays.{tierArray, TiersFit}
+use Rattle.withdrawal.proofs.HeldLaws.{padded-le, padded-table, padded-usable}
 use Rattle.contents.specs.declared.FiledTiers.{FiledTiers}
 use Rattle.place_values.specs.PlaceTerms.{ownTiers, tiersOf}
 use Rattle.place_values.specs.Inner.FiledLimits.{FiledLimits}
@@ -38,14 +38,14 @@ wide-requires c κs = search needs
 -- the tiers of an accepted filing fit
 fit : (filed : FiledTiers) → FiledLimits filed → (edges withdrawals : List ℕ) (lowest : ℕ)
     → ((i : ℕ) → getD edges i 0 ≤ edgeLimit)
-    → withdrawals ≡ inPlaces (table (filed .count) (λ (i : ℕ). getD (filed .withdrawals) (filed .count - 1 - i) 0))
+    → withdrawals ≡ tierArray (table (filed .count) (λ (i : ℕ). getD (filed .withdrawals) (filed .count - 1 - i) 0))
     → lowest ≡ getD (filed .withdrawals) 0 0
     → TiersFit (filed .count) edges withdrawals lowest
 fit filed limits edges withdrawals lowest e w l =
     record {
       count-le = limits .count-le;
       edge-le = e;
-      withdrawal-le = λ i. rw w (places-le (filed .count) _ withdrawalLimit (λ j. limits .withdrawal-le (filed .count - 1 - j)) i);
+      withdrawal-le = λ i. rw w (padded-le (filed .count) _ withdrawalLimit (λ j. limits .withdrawal-le (filed .count - 1 - j)) i);
       otherwise-le = rw l (limits .withdrawal-le 0);
     }
 
@@ -65,8 +65,8 @@ returns-2 c =
     let filed = start .args .t1 in
     let count = filed .count in
     rw (c .with-survivals .ensures, edges .from-the-top .ensures .0, withdrawals .from-the-top2 .ensures .0, c .before .wide .ensures .0, ne-eqb _ 0 (edges .before .before .before .if1 .left)) (
-      placed-table count (getD (filed .withdrawals) 0 0) (λ (i : ℕ). getD (filed .edges) (count - 1 - i) 0) (λ (i : ℕ). getD (filed .withdrawals) (count - 1 - i) 0),
-      placed-usable count (getD (filed .withdrawals) 0 0) (λ (i : ℕ). getD (filed .edges) (count - 1 - i) 0) (λ (i : ℕ). getD (filed .withdrawals) (count - 1 - i) 0)
+      padded-table count (getD (filed .withdrawals) 0 0) (λ (i : ℕ). getD (filed .edges) (count - 1 - i) 0) (λ (i : ℕ). getD (filed .withdrawals) (count - 1 - i) 0),
+      padded-usable count (getD (filed .withdrawals) 0 0) (λ (i : ℕ). getD (filed .edges) (count - 1 - i) 0) (λ (i : ℕ). getD (filed .withdrawals) (count - 1 - i) 0)
           (fit filed (start .pre) _ _ _ (rw (edges .from-the-top .ensures .0) at (edges .from-the-top .ensures .1)) refl refl)
           (own-falling filed (start .pre)),
     )
