@@ -11,13 +11,11 @@ use records::kinds::AMENDMENT_KIND;
 use records::kinds::FINE_COUPON_KIND;
 use records::kinds::gives_cell;
 use records::kinds::sheet_kind;
+use schedule::limits::COUPON_LIMIT;
 use schedule::tables::cell_class;
 use schedule::tables::class_limit;
 ghost use mathlib.Core.Path.{_≡_};
 ghost use Rattle.bodies.specs.Bodies.{valueLimit, unfitAmendment, numberOver, overLimit};
-
-// The largest coupon, in thousandths of a percent a year.
-const COUPON_LIMIT: u64 = 15_000;
 
 // 5: a value is over its limit.
 pub fn over_limit(s: &[u8], at: usize) -> bool

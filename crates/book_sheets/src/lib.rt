@@ -5,6 +5,10 @@ use discounts::FactorTable;
 use discounts::to_multipliers;
 use place_values::filing_tiers::tiers_of;
 use place_values::place_row::held_values;
+use pricing::PAR;
+use schedule::limits::RATE_LIMIT;
+use schedule::limits::TIER_LIMIT;
+use schedule::limits::WITHDRAWAL_LIMIT;
 use sub_balances::SubBalance;
 ghost use mathlib.Core.Path.{_≡_};
 ghost use Prim.Native.Nat.{_-_, _≤_, _<_};
@@ -16,9 +20,6 @@ ghost use Rattle.pricing.specs.Scales.{par};
 ghost use Rattle.deposits.specs.Inner.Prices.{DepositLimits};
 ghost use Rattle.place_values.specs.PlaceTerms.{depositAt};
 ghost use Rattle.book_sheets.specs.Sheets.{aboveLimit, isZero, notRising, tiersUsable, sheetsUsable, valuesUnder};
-
-// No discount factor is above par, in billionths.
-const PAR: u64 = 1_000_000_000;
 
 // Lower and upper value in each scenario of what a place holds, in dollars. They are 0 under sheets that no filing has.
 pub fn values_in<'a>(
@@ -61,7 +62,7 @@ pub fn values_in<'a>(
 fn usable(rates: &RatePaths, tiers: FiledTiers, lower: &FactorTable, upper: &FactorTable) -> bool
     ensures { λ r. ⌜ r ≡ sheetsUsable (now (rates .entry)) tiers (now (lower .entry)) (now (upper .entry)) ⌝ }
 {
-    if some_above(rates, 2_500) {
+    if some_above(rates, RATE_LIMIT) {
         return false;
     }
     if !tiers_usable(tiers) {
@@ -76,11 +77,11 @@ fn usable(rates: &RatePaths, tiers: FiledTiers, lower: &FactorTable, upper: &Fac
     !some_zero(upper)
 }
 
-// At most 16 tiers, of rising edges and annual withdrawals up to 600 thousandths.
+// No more tiers than a filing may have, of rising edges and annual withdrawals up to their limit.
 fn tiers_usable(tiers: FiledTiers) -> bool
     ensures { λ r. ⌜ r ≡ tiersUsable tiers ⌝ }
 {
-    if 16 < tiers.count {
+    if TIER_LIMIT < tiers.count {
         return false;
     }
     let edges = tiers.edges;
@@ -88,11 +89,11 @@ fn tiers_usable(tiers: FiledTiers) -> bool
         return false;
     }
     let withdrawals = tiers.withdrawals;
-    !some_above(&withdrawals, 600)
+    !some_above(&withdrawals, WITHDRAWAL_LIMIT)
 }
 
 // One of the first `count` edges is not above the one before it.
-fn some_not_rising(edges: &[u16; 16], count: usize) -> bool
+fn some_not_rising(edges: &[u16; TIER_LIMIT], count: usize) -> bool
     requires { ⌜ count ≤ tierLimit ⌝ }
     ensures { λ r. ⌜ r ≡ anyBelow (notRising (now (edges .entry))) (count - 1) ⌝ }
 {

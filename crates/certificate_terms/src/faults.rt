@@ -5,6 +5,9 @@ use calendar::Date;
 use calendar::is_date;
 use calendar::months_between;
 use calendar::on_or_after;
+use schedule::limits::BALANCE_LIMIT;
+use schedule::limits::FILED_COUPON_LIMIT;
+use schedule::limits::MONTHS_LIMIT;
 ghost use mathlib.Core.Path.{_≡_};
 ghost use mathlib.Core.Bool.{true};
 ghost use Rattle.answers.specs.Answers.{verdictOf};
@@ -24,7 +27,7 @@ pub fn check_certificate(valuation: Date, c: Certificate, k: usize) -> Answer
     if not_outstanding(valuation, c) {
         return Answer::NotOutstanding(k);
     }
-    if 120 < months_between(valuation, c.maturity) {
+    if MONTHS_LIMIT < months_between(valuation, c.maturity) {
         return Answer::TooManyMonths(k);
     }
     Answer::Accepted
@@ -34,10 +37,10 @@ pub fn check_certificate(valuation: Date, c: Certificate, k: usize) -> Answer
 fn over_limit(c: Certificate) -> bool
     ensures { λ r. ⌜ r ≡ overLimit c ⌝ }
 {
-    if 999_999_999 < c.balance {
+    if BALANCE_LIMIT < c.balance {
         return true;
     }
-    1_500 < c.coupon
+    FILED_COUPON_LIMIT < c.coupon
 }
 
 // A date that is no day of 1900 to 2199.

@@ -7,6 +7,7 @@ use certificate_terms::certificate_at;
 use certificate_terms::faults::check_certificate;
 use certificate_terms::position_of;
 use filled_cells::Totals;
+use schedule::limits::BALANCE_LIMIT;
 ghost use mathlib.Core.Path.{_≡_};
 ghost use Prim.Native.Nat.{_≤_, _<_, _+_, _*_};
 ghost use lib.ListN.{getD};
@@ -41,7 +42,7 @@ pub(crate) fn scan(valuation: Date, certificates: &[u64]) -> Scanned
         }
         let months = months_between(valuation, c.maturity);
         let position = position_of(months, months_between(c.issue, c.maturity));
-        if 999_999_999 < totals.balance[position] + c.balance {
+        if BALANCE_LIMIT < totals.balance[position] + c.balance {
             return Scanned {
                 answer: Answer::OverLimit(k),
                 totals,

@@ -1,6 +1,6 @@
 // The text that the program `cells` prints of its input: from a valuation date and certificates to the cells that they fill.
-use answers::number;
 use answers::location;
+use answers::number;
 use calendar::Date;
 use cell_lines::append_cells;
 use cell_lines::append_unreadable;

@@ -1,5 +1,6 @@
 // What an accepted filing says.
 use schedule::CELLS;
+use schedule::limits::TIER_LIMIT;
 
 // The values of cells 601 to 661, the CD yields of months 1 to 120, the retail rates of months 1 to 120 column by column, and its tiers of annual withdrawal.
 // Cells are in their own units, coupons among them in thousandths of a percent a year, yields and rates in hundredths.
@@ -14,8 +15,8 @@ pub struct Contents {
 // filing without tiers has count 0.
 pub struct FiledTiers {
     pub count: usize,
-    pub edges: [u16; 16],
-    pub withdrawals: [u16; 16],
+    pub edges: [u16; TIER_LIMIT],
+    pub withdrawals: [u16; TIER_LIMIT],
 }
 
 // What a filing without records says: every number is 0. No other contents are spelled: a filing's are these, filled in.
@@ -25,7 +26,7 @@ pub const NO_CONTENTS: Contents = Contents {
     rates: [0; 360],
     tiers: FiledTiers {
         count: 0,
-        edges: [0; 16],
-        withdrawals: [0; 16],
+        edges: [0; TIER_LIMIT],
+        withdrawals: [0; TIER_LIMIT],
     },
 };

@@ -19,6 +19,7 @@ use records::kinds::RATE_PATH_KIND;
 use records::kinds::TIERS_KIND;
 use records::kinds::YIELDS_KIND;
 use schedule::CELLS;
+use schedule::limits::TIER_LIMIT;
 use schedule::tables::COUPON_CLASS;
 use schedule::tables::cell_class;
 ghost use mathlib.Core.Path.{_≡_};
@@ -44,7 +45,12 @@ pub fn contents_of(s: &[u8], sheets: &[usize; KINDS], counting: &[usize; CELLS])
     let mut contents = NO_CONTENTS;
     fill_cells(s, counting, &mut contents.cells);
     fill_yields(s, sheets[YIELDS_KIND], &mut contents.yields);
-    fill_rates(s, sheets[FLAT_RATES_KIND], sheets[RATE_PATH_KIND], &mut contents.rates);
+    fill_rates(
+        s,
+        sheets[FLAT_RATES_KIND],
+        sheets[RATE_PATH_KIND],
+        &mut contents.rates,
+    );
     let tiers = tiers_at(s, sheets[TIERS_KIND]);
     contents.tiers = tiers;
     contents
@@ -163,13 +169,13 @@ fn tiers_at(s: &[u8], at: usize) -> FiledTiers
 }
 
 // Every second number of a record of tiers from `first` on, one for each tier: the edges from the second number on, the withdrawals from the third.
-fn tier_numbers(s: &[u8], at: usize, count: usize, first: usize) -> [u16; 16]
+fn tier_numbers(s: &[u8], at: usize, count: usize, first: usize) -> [u16; TIER_LIMIT]
     requires { ⌜ first ≤ 3 ⌝ }
     ensures { λ r. ⌜ r ≡ table tierLimit (tierNumber (now (s .entry)) at count first) ⌝ }
 {
-    let mut numbers = [0; 16];
+    let mut numbers = [0; TIER_LIMIT];
     let mut i = 0;
-    while i < 16 {
+    while i < TIER_LIMIT {
         numbers[i] = tier_number(s, at, count, first, i);
         i += 1;
     }

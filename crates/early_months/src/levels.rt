@@ -5,7 +5,7 @@ use month_levels::last_level;
 use month_levels::level_survival;
 use month_levels::month_levels;
 use month_steps::multipliers::multipliers_of;
-use withdrawal::TIER_LIMIT;
+use schedule::limits::TIER_LIMIT;
 ghost use Prim.Native.Nat.{ℕ, _≤_};
 ghost use mathlib.Core.Path.{_≡_};
 ghost use mathlib.Core.Bool.{false};

@@ -1,7 +1,7 @@
 // Tiers of annual withdrawal as they are held, with their survivals: the house's, and those of a filing.
+use schedule::limits::TIER_LIMIT;
 use survivals::all_survivals;
 use survivals::survival;
-use withdrawal::TIER_LIMIT;
 use withdrawal::WithdrawalTiers;
 ghost use mathlib.Core.Path.{_≡_};
 ghost use Rattle.withdrawal.specs.Tiers.{houseTiers};

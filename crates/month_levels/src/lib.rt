@@ -2,11 +2,11 @@
 use incentives::gain_above_cost;
 use incentives::gain_and_cost;
 use reached_tiers::level_from;
+use schedule::limits::TIER_LIMIT;
 use schedule::scenarios::Scenario;
 use withdrawal::CouponParts;
 use withdrawal::FULL_SURVIVAL;
 use withdrawal::Incentive;
-use withdrawal::TIER_LIMIT;
 ghost use mathlib.Core.Path.{_≡_};
 ghost use Prim.Native.Nat.{ℕ, _-_, _<_, _≤_};
 ghost use lib.ListN.{getD};

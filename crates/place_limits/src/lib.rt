@@ -1,4 +1,7 @@
 // What a place of the book takes.
+use schedule::limits::BALANCE_LIMIT;
+use schedule::limits::COUPON_LIMIT;
+use schedule::limits::PENALTY_LIMIT;
 use schedule::positions::position;
 use schedule::positions::within_row;
 ghost use mathlib.Core.Path.{_≡_};
@@ -14,10 +17,10 @@ pub fn fits(place: usize, balance: u64, coupon: u64, months: u64, penalty: u64) 
     if balance < 1 {
         return false;
     }
-    if 999_999_999 < balance {
+    if BALANCE_LIMIT < balance {
         return false;
     }
-    if 15_000 < coupon {
+    if COUPON_LIMIT < coupon {
         return false;
     }
     if !within_row(position(place / 4).row, months) {
@@ -31,7 +34,7 @@ fn penalty_within(place: usize, penalty: u64) -> bool
     ensures { λ r. ⌜ r ≡ penaltyWithin place penalty ⌝ }
 {
     if place % 2 == 0 {
-        penalty <= 3_600
+        penalty <= PENALTY_LIMIT
     } else {
         penalty == 0
     }

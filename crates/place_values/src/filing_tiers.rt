@@ -2,6 +2,7 @@
 use contents::FiledTiers;
 use held_tiers::house;
 use held_tiers::with_survivals;
+use schedule::limits::TIER_LIMIT;
 use withdrawal::WithdrawalTiers;
 ghost use mathlib.Core.Path.{_≡_};
 ghost use Prim.Native.Nat.{ℕ, _-_, _≤_, _<_};
@@ -28,11 +29,11 @@ pub fn tiers_of(filed: FiledTiers) -> WithdrawalTiers
 }
 
 // The first `count` numbers, the last of them first, and 0s behind them.
-fn from_the_top(count: usize, numbers: &[u16; 16]) -> [u64; 16]
+fn from_the_top(count: usize, numbers: &[u16; TIER_LIMIT]) -> [u64; TIER_LIMIT]
     requires { ⌜ count ≤ tierLimit ⌝ }
     ensures { λ r. ⌜ (r ≡ tierArray (table count (λ i. getD (now (numbers .entry)) (count - 1 - i) 0))) × ((i : ℕ) → getD r i 0 ≤ edgeLimit) ⌝ }
 {
-    let mut turned = [0u64; 16];
+    let mut turned = [0u64; TIER_LIMIT];
     let mut i: usize = 0;
     while i < count {
         turned[i] = wide(numbers[count - 1 - i]);

@@ -1,7 +1,7 @@
 // The tier that an incentive reaches: edges are tried from the highest on.
+use schedule::limits::TIER_LIMIT;
 use withdrawal::Incentive;
 use withdrawal::ReachedTier;
-use withdrawal::TIER_LIMIT;
 use withdrawal::WithdrawalTiers;
 ghost use mathlib.Core.Path.{_≡_};
 ghost use Prim.Native.Nat.{ℕ, _≤_};

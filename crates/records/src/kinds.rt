@@ -2,6 +2,7 @@
 use crate::KINDS;
 use fields::record_kind;
 use fields::tier_count;
+use schedule::limits::RATE_LIMIT;
 ghost use mathlib.Core.Path.{_≡_};
 ghost use Rattle.records.specs.Kinds.{givesCell, namesCell, sheetKind, dueLength};
 
@@ -37,11 +38,11 @@ const SHEET_KINDS: [SheetKind; KINDS] = [
     },
     SheetKind {
         numbers: 120,
-        limit: 2_500,
+        limit: RATE_LIMIT,
     },
     SheetKind {
         numbers: 3,
-        limit: 2_500,
+        limit: RATE_LIMIT,
     },
     SheetKind {
         numbers: 0,
@@ -49,7 +50,7 @@ const SHEET_KINDS: [SheetKind; KINDS] = [
     },
     SheetKind {
         numbers: 360,
-        limit: 2_500,
+        limit: RATE_LIMIT,
     },
     SheetKind {
         numbers: 0,

@@ -1,6 +1,13 @@
 // The class of a cell and the limit of a class, from tables that the check tests against the definitions.
 use crate::FIRST_CELL;
 use crate::LAST_CELL;
+use crate::limits::BALANCE_LIMIT;
+use crate::limits::COLUMN_LIMIT;
+use crate::limits::FILED_COUPON_LIMIT;
+use crate::limits::MONTHS_LIMIT;
+use crate::limits::PENALTY_LIMIT;
+use crate::limits::TOTAL_LIMIT;
+use crate::limits::UNUSED_LIMIT;
 ghost use mathlib.Core.Path.{_≡_};
 ghost use Prim.Native.Nat.{_<_};
 ghost use lib.ListN.{getD};
@@ -13,13 +20,13 @@ pub const COUPON_CLASS: usize = 2;
 // The largest value of each class, as filed.
 const LIMITS: [u64; 8] = [
     0,
-    999_999_999,
-    1_500,
-    120,
-    3_999_999_996,
-    3_600,
-    8_999_999_991,
-    18_446_744_073_709_551_615,
+    BALANCE_LIMIT,
+    FILED_COUPON_LIMIT,
+    MONTHS_LIMIT,
+    COLUMN_LIMIT,
+    PENALTY_LIMIT,
+    TOTAL_LIMIT,
+    UNUSED_LIMIT,
 ];
 
 // The class of a cell: 0 where it is not listed.

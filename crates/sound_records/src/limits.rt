@@ -1,6 +1,8 @@
 // The largest value of a cell in a record, from the table of the cells' limits: 0 where the cell is not listed.
 use schedule::CELLS;
 use schedule::FIRST_CELL;
+use schedule::limits::COUPON_LIMIT;
+use schedule::limits::FILED_COUPON_LIMIT;
 ghost use mathlib.Core.Path.{_≡_};
 ghost use Rattle.schedule.specs.Limits.{cellClass, classLimit};
 ghost use Rattle.sound_records.specs.Inner.SoundRecords.{cellLimits, mostIn};
@@ -14,7 +16,11 @@ pub(crate) fn most_in(limits: &[u64; CELLS], cell: u64, fine: bool) -> u64
     if !fine {
         return limit;
     }
-    if limit == 1_500 { 15_000 } else { 0 }
+    if limit == FILED_COUPON_LIMIT {
+        COUPON_LIMIT
+    } else {
+        0
+    }
 }
 
 // By the class of the cell.

@@ -3,16 +3,16 @@ use fields::record_kind;
 use fields::sheet_number;
 use fields::tier_count;
 use records::kinds::TIERS_KIND;
+use schedule::limits::TIER_LIMIT;
+use schedule::limits::WITHDRAWAL_LIMIT;
 ghost use mathlib.Core.Path.{_≡_};
 ghost use Prim.Native.Nat.{_≤_, _<_};
 ghost use Rattle.lists.specs.Tables.{anyBelow};
 ghost use Rattle.schedule.specs.Limits.{tierLimit};
 ghost use Rattle.tier_faults.specs.TierFaults.{unfitTier, unsoundTiers};
 
-// The most tiers of a filing, and their largest annual withdrawal, in thousandths.
-const TIER_LIMIT: u16 = 16;
-
-const WITHDRAWAL_LIMIT: u16 = 600;
+// How many tiers a record may count, as it counts them.
+const MOST_TIERS: u16 = TIER_LIMIT as u16;
 
 // 11: tiers that are not 1 to 16, or of which one does not load.
 pub fn unsound_tiers(s: &[u8], at: usize) -> bool
@@ -25,7 +25,7 @@ pub fn unsound_tiers(s: &[u8], at: usize) -> bool
     if count < 1 {
         return true;
     }
-    if TIER_LIMIT < count {
+    if MOST_TIERS < count {
         return true;
     }
     some_unfit(s, at, count as usize)
