@@ -1,8 +1,9 @@
 // A standing book on the command line. The one argument names the file with the filing; then each line of standard input is obeyed, and what is
 // answered to it is printed.
 use book_places::Book;
-use book_text::obey;
-use book_text::open_book;
+use book_text::LineInput;
+use book_text::obey_read;
+use book_text::open_read;
 use input_lines::next_line;
 use libc::STDOUT_FILENO;
 
@@ -23,7 +24,7 @@ fn main() {
     let n = io::read_full(file, &mut input);
     libc::close(file);
     let mut text = [0u8; 644];
-    let opened = open_book(&input[..n], &mut text);
+    let opened = open_read(&input, n, &mut text);
     let size = opened.size;
     io::write_all(STDOUT_FILENO, &text[..size]);
     if opened.is_open {
@@ -60,17 +61,16 @@ fn obey_next(book: Book) -> Turn {
     if read.is_end {
         return Turn { book, is_end: true };
     }
-    let size = read.size;
     Turn {
-        book: obey_line(book, &line[..size]),
+        book: obey_line(book, &line, read.size),
         is_end: false,
     }
 }
 
 // Obeys a line and prints what is answered to it.
-fn obey_line(book: Book, line: &[u8]) -> Book {
+fn obey_line(book: Book, line: &LineInput, n: usize) -> Book {
     let mut text = [0u8; 644];
-    let obeyed = obey(book, line, &mut text);
+    let obeyed = obey_read(book, line, n, &mut text);
     let size = obeyed.size;
     io::write_all(STDOUT_FILENO, &text[..size]);
     obeyed.book

@@ -8,8 +8,36 @@ use book_places::Book;
 use line_commands::command_of;
 use standing_book::open;
 use text::append_too_long;
+ghost use lib.ListN.{take};
 ghost use Rattle.book_commands.specs.Commands.{commandOf};
 ghost use Rattle.book_text.specs.Replies.{OpenedAs, ObeyedAs};
+
+// What the program reads of a filing and of a line: one byte more than the 65,536 and the 1,024 that they may have, so that a longer one shows.
+pub type FilingInput = [u8; 65537];
+
+pub type LineInput = [u8; 1025];
+
+// Opens a book as `open_book` does, under the first `size` bytes that were read of a filing.
+pub fn open_read(input: &FilingInput, size: usize, out: &mut [u8; 644]) -> Opened
+    ensures { λ r. ⌜ OpenedAs (take size (now (input .entry))) (now (out .entry)) (now (out .exit)) r ⌝ }
+{
+    let bytes: &[u8] = input;
+    if bytes.len() < size {
+        return open_book(bytes, out);
+    }
+    open_book(&bytes[..size], out)
+}
+
+// Obeys a line as `obey` does: the first `size` bytes that were read of it.
+pub fn obey_read(book: Book, input: &LineInput, size: usize, out: &mut [u8; 644]) -> Obeyed
+    ensures { λ r. ⌜ ObeyedAs book (commandOf (take size (now (input .entry)))) (now (out .entry)) (now (out .exit)) r ⌝ }
+{
+    let bytes: &[u8] = input;
+    if bytes.len() < size {
+        return obey(book, bytes, out);
+    }
+    obey(book, &bytes[..size], out)
+}
 
 // Opens a book under a filing, puts what is printed of it at the front of the bytes and counts it.
 pub fn open_book(filing: &[u8], out: &mut [u8; 644]) -> Opened

@@ -1,6 +1,6 @@
 // Reads a valuation date and certificates as text from standard input and prints the cells that they fill, the line of a refusal or of an unreadable
 // line, or `too long`. One byte more than the 131,072 of an input is read, so that a longer one shows.
-use certificates_text::write_cells;
+use certificates_text::write_read;
 use libc::STDIN_FILENO;
 use libc::STDOUT_FILENO;
 
@@ -8,6 +8,6 @@ fn main() {
     let mut input = [0u8; 131073];
     let n = io::read_full(STDIN_FILENO, &mut input);
     let mut text = [0u8; 1176];
-    let size = write_cells(&input[..n], &mut text);
+    let size = write_read(&input, n, &mut text);
     io::write_all(STDOUT_FILENO, &text[..size]);
 }

@@ -9,9 +9,23 @@ use certificates_input::read_text;
 use text::append_too_long;
 use text_lines::append_refusal;
 ghost use Prim.Native.Nat.{_≤_};
-ghost use lib.ListN.{length};
+ghost use lib.ListN.{length, take};
 ghost use Rattle.text.specs.Appended.{Appended, InFront};
 ghost use Rattle.certificates_text.specs.Printed.{answerText, printedText};
+
+// What the program reads: one byte more than the 131,072 of an input, so that a longer one shows.
+pub type Input = [u8; 131073];
+
+// Puts the text of the first `size` bytes that were read at the front of the bytes and answers how many it has.
+pub fn write_read(input: &Input, size: usize, out: &mut [u8; 1176]) -> usize
+    ensures { λ r. ⌜ InFront (printedText (take size (now (input .entry)))) (now (out .entry)) (now (out .exit)) r ⌝ }
+{
+    let bytes: &[u8] = input;
+    if bytes.len() < size {
+        return write_cells(bytes, out);
+    }
+    write_cells(&bytes[..size], out)
+}
 
 // Puts the text of an input at the front of the bytes and answers how many it has: 28 lines of 42 bytes at most.
 pub fn write_cells(input: &[u8], out: &mut [u8; 1176]) -> usize

@@ -2,12 +2,12 @@
 // 65,536 of a filing is read, so that a longer input shows.
 use libc::STDIN_FILENO;
 use libc::STDOUT_FILENO;
-use listing_text::write_listing;
+use listing_text::write_read;
 
 fn main() {
     let mut input = [0u8; 65537];
     let n = io::read_full(STDIN_FILENO, &mut input);
     let mut text = [0u8; 623];
-    let size = write_listing(&input[..n], &mut text);
+    let size = write_read(&input, n, &mut text);
     io::write_all(STDOUT_FILENO, &text[..size]);
 }

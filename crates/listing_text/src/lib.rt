@@ -5,8 +5,23 @@ use text::append_too_long;
 use text_lines::append_refusal;
 use total_lines::append_scenarios;
 use valuation::value;
+ghost use lib.ListN.{take};
 ghost use Rattle.text.specs.Appended.{InFront};
 ghost use Rattle.listing_text.specs.Listing.{listingText};
+
+// What the program reads: one byte more than the 65,536 of a filing, so that a longer input shows.
+pub type Input = [u8; 65537];
+
+// Puts the text of the first `size` bytes that were read at the front of the bytes and answers how many it has.
+pub fn write_read(input: &Input, size: usize, out: &mut [u8; 623]) -> usize
+    ensures { λ r. ⌜ InFront (listingText (take size (now (input .entry)))) (now (out .entry)) (now (out .exit)) r ⌝ }
+{
+    let bytes: &[u8] = input;
+    if bytes.len() < size {
+        return write_listing(bytes, out);
+    }
+    write_listing(&bytes[..size], out)
+}
 
 // Puts the text of a filing at the front of the bytes and answers how many it has: seven lines of 89 bytes at most.
 pub fn write_listing(filing: &[u8], out: &mut [u8; 623]) -> usize
