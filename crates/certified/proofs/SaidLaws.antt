@@ -23,7 +23,8 @@ use Rattle.records.specs.Items.{sameItem, recordItem, firstWith}
 use Rattle.notes.specs.Counting.{itemRank, rank}
 use Rattle.fields.proofs.ByteLaws.{number-past}
 use Rattle.conditions.specs.Conditions.{cellIn}
-use Rattle.decode.specs.Contents.{cellOffset, filedValue, amountAt, cellValue, sheetOffset}
+use Rattle.cell_amounts.specs.Amounts.{filedValue, amountAt}
+use Rattle.decode.specs.Contents.{cellOffset, cellValue, sheetOffset}
 use Rattle.filing.specs.Verdict.{sheetMissing}
 use Rattle.filled_cells.specs.declared.CellValue.{CellValue}
 use Rattle.certified.specs.Fit.{valueIn}

@@ -10,18 +10,19 @@ use borrow.Author.Tests.{ltb-true, ltb-false, lt-ltb, le-ltb}
 use lib.Dec.{ltb}
 use lib.ListN.{length, getD, replicate, getD-replicate}
 use lib.Seq.{ext-getD}
-use Rattle.lists.specs.Tables.{table, tableFrom, contains}
+use Rattle.lists.specs.Tables.{table, tableFrom}
 use Rattle.lists.proofs.TableLaws.{tableFrom-getD, table-getD, table-length, table-ext}
 use Rattle.lists.proofs.FillLaws.{Filled}
-use Rattle.schedule.specs.Cells.{firstCell, cellCount, position, positions, brokeredCell, penaltyBalanceCell, penaltyMonthsCell, unusedCells}
-use Rattle.schedule.specs.Limits.{cellClass, monthsLimit}
+use Rattle.schedule.specs.Cells.{firstCell, cellCount}
+use Rattle.schedule.specs.Limits.{monthsLimit}
 use Rattle.records.specs.declared.items.Item.the-variants.{Sheet}
 use Rattle.fields.specs.Records.{sheetNumber}
 use Rattle.records.specs.Kinds.{kindCount, flatRatesKind, ratePathKind}
 use Rattle.notes.specs.Inner.Notes.{notedBefore}
-use Rattle.fields.proofs.ByteLaws.{number-past}
 use Rattle.notes.proofs.NoteLaws.{noted-counting, noted-sheet, offset-end}
-use Rattle.decode.specs.Contents.{filedValue, amountAt, cellOffset, cellValue, sheetOffset, rateCount, rateNumber, contentsOf}
+use Rattle.cell_amounts.specs.Amounts.{amountAt}
+use Rattle.cell_amounts.proofs.AmountLaws.{amount-past}
+use Rattle.decode.specs.Contents.{cellOffset, cellValue, sheetOffset, rateCount, rateNumber, contentsOf}
 
 -- a list that is filled with the values of a function from `base` on is its table from there
 pub filled-from : (base n : ℕ) (f : ℕ → ℕ) (l : List ℕ) → Filled (λ (i : ℕ). f (base + i)) 0 n n l → l ≡ tableFrom base n f
@@ -34,12 +35,6 @@ table-shift : (n : ℕ) (f : ℕ → ℕ) → tableFrom 1 n f ≡ table n (λ (i
 table-shift n f =
     ext-getD 0 (tableFrom 1 n f) (table n (λ (i : ℕ). f (i + 1))) (table-length 1 n f ∙ sym (table-length 0 n _))
     (λ i h. let l : i < n = omega (arith, table-length 1 n f) in tableFrom-getD 1 n f i 0 l ∙ ap f (add-comm 1 i) ∙ sym (table-getD n (λ (j : ℕ). f (j + 1)) i 0 l))
-
--- no record stands at the input's length, so it gives nothing
-pub amount-past : (s : List ℕ) (at : ℕ) → length s ≤ at → amountAt s at ≡ 0
-unfolding amountAt filedValue cellClass contains position positions brokeredCell penaltyBalanceCell penaltyMonthsCell unusedCells
-amount-past s at h =
-    simp (number-past s (at + 2) 2 (omega arith), number-past s (at + 4) 2 (omega arith), number-past s (at + 6) 8 (omega arith))
 
 amount-present : (s : List ℕ) (f : ℕ) (b : Bool) → ltb f (length s) ≡ b → amountAt s f ≡ cond b (amountAt s f) 0
 amount-present s f true e = refl

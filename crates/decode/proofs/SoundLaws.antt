@@ -31,9 +31,10 @@ use Rattle.faults.proofs.RepetitionLaws.{gives-plain}
 use Rattle.fields.proofs.FirstLaws.{first-earlier}
 use Rattle.notes.proofs.CountingLaws.{ranked-cell, counting-holds}
 use Rattle.conditions.specs.Conditions.{cellIn}
-use Rattle.decode.specs.Contents.{filedValue, amountAt, cellOffset, cellValue, sheetOffset, tierNumber, tiersAt, contentsOf}
+use Rattle.cell_amounts.specs.Amounts.{filedValue, amountAt}
+use Rattle.decode.specs.Contents.{cellOffset, cellValue, sheetOffset, tierNumber, tiersAt, contentsOf}
 use Rattle.contents.specs.Contents.{cell}
-use Rattle.decode.proofs.ContentsLaws.{amount-past}
+use Rattle.cell_amounts.proofs.AmountLaws.{amount-past}
 use Rattle.conditions.specs.Inner.Sums.{BalancesWithin}
 
 -- a cell of 601 to 661, as read from the contents

@@ -3,35 +3,23 @@ use Prim.Native.Nat.{ℕ, _+_, _*_, _/_}
 use mathlib.Core.Bool.{cond}
 use mathlib.Core.List.{List}
 use lib.ListN.{length}
-use lib.Dec.{ltb, eqb}
+use lib.Dec.{ltb}
 use Rattle.lists.specs.Tables.{table, tableFrom}
 use Rattle.schedule.specs.Cells.{firstCell, cellCount}
-use Rattle.schedule.specs.Limits.{couponClass, cellClass, monthsLimit, tierLimit}
-use Rattle.fields.specs.Records.{recordKind, recordCell, recordValue, amendmentState, amendmentValue, sheetNumber, tierCount}
-use Rattle.records.specs.Kinds.{yieldsKind, flatRatesKind, tiersKind, ratePathKind, fineCouponKind, amendmentKind}
+use Rattle.schedule.specs.Limits.{monthsLimit, tierLimit}
+use Rattle.fields.specs.Records.{sheetNumber, tierCount}
+use Rattle.records.specs.Kinds.{yieldsKind, flatRatesKind, tiersKind, ratePathKind}
 use Rattle.records.specs.declared.items.Item.the-variants.{Sheet}
 use Rattle.records.specs.Items.{firstWith}
 use Rattle.notes.specs.Counting.{countingBefore}
 use Rattle.contents.specs.declared.Contents.{Contents}
 use Rattle.contents.specs.declared.FiledTiers.{FiledTiers}
 use Rattle.contents.specs.Contents.{contentsWith}
+use Rattle.cell_amounts.specs.Amounts.{amountAt}
 
 -- the offset of the record that counts for a cell (02:CR 6), or the input's length where there is none
 unfoldable pub cellOffset : List ℕ → ℕ → ℕ
 cellOffset s n = countingBefore s n (length s)
-
--- the value that a record holds for its cell, in the record's unit. An amendment that withdraws its cell holds none, as if the cell were absent
-unfoldable pub filedValue : List ℕ → ℕ → ℕ
-filedValue s at =
-    cond (eqb (recordKind s at) amendmentKind) (cond (eqb (amendmentState s at) 0) (amendmentValue s at) 0)
-    (recordValue s at)
-
--- the value that a record gives its cell in what the filing says, in the cell's unit. Coupons are in thousandths of a percent a year there (02:CR 4): kind 6
--- gives them so, and one by another kind, in hundredths, counts tenfold
-unfoldable pub amountAt : List ℕ → ℕ → ℕ
-amountAt s at =
-    cond (eqb (recordKind s at) fineCouponKind) (filedValue s at)
-    (cond (eqb (cellClass (recordCell s at)) couponClass) (10 * filedValue s at) (filedValue s at))
 
 -- the value of a cell; an absent cell is 0
 unfoldable pub cellValue : List ℕ → ℕ → ℕ

@@ -1,27 +1,19 @@
 // What a filing says, read from the noted offsets of its records.
+use cell_amounts::amount_at;
 use contents::Contents;
 use contents::FiledTiers;
 use contents::NO_CONTENTS;
-use fields::amendment_state;
-use fields::amendment_value;
 use fields::holds_numbers;
 use fields::number_of;
-use fields::record_cell;
-use fields::record_kind;
-use fields::record_value;
 use fields::sheet_number;
 use fields::tier_count;
 use records::KINDS;
-use records::kinds::AMENDMENT_KIND;
-use records::kinds::FINE_COUPON_KIND;
 use records::kinds::FLAT_RATES_KIND;
 use records::kinds::RATE_PATH_KIND;
 use records::kinds::TIERS_KIND;
 use records::kinds::YIELDS_KIND;
 use schedule::CELLS;
 use schedule::limits::TIER_LIMIT;
-use schedule::tables::COUPON_CLASS;
-use schedule::tables::cell_class;
 ghost use mathlib.Core.Path.{_≡_};
 ghost use mathlib.Core.Bool.{cond};
 ghost use Prim.Native.Nat.{_+_, _/_, _≤_, _<_};
@@ -29,12 +21,12 @@ ghost use lib.Dec.{ltb};
 ghost use lib.ListN.{length, getD};
 ghost use Rattle.lists.specs.Tables.{table, tableFrom};
 ghost use Rattle.schedule.specs.Cells.{cellCount};
-ghost use Rattle.schedule.specs.Limits.{cellClass, heldLimit, monthsLimit, tierLimit};
-ghost use Rattle.fields.specs.Records.{recordCell, sheetNumber};
+ghost use Rattle.schedule.specs.Limits.{monthsLimit, tierLimit};
+ghost use Rattle.fields.specs.Records.{sheetNumber};
 ghost use Rattle.records.specs.Kinds.{yieldsKind, flatRatesKind, ratePathKind};
 ghost use Rattle.notes.specs.Inner.Notes.{notedBefore};
 ghost use Rattle.record_verdicts.specs.RecordVerdicts.{firstFaulty};
-ghost use Rattle.decode.specs.Contents.{filedValue, amountAt, sheetOffset, rateCount, tierNumber, tiersAt, contentsOf};
+ghost use Rattle.decode.specs.Contents.{sheetOffset, rateCount, tierNumber, tiersAt, contentsOf};
 
 // What a filing says whose records are sound, from where all of them stand.
 pub fn contents_of(s: &[u8], sheets: &[usize; KINDS], counting: &[usize; CELLS]) -> Contents
@@ -67,37 +59,6 @@ fn fill_cells(s: &[u8], offsets: &[usize; CELLS], cells: &mut [u64; CELLS])
         cells[i] = amount_at(s, offsets[i]);
         i += 1;
     }
-}
-
-// The value that the record at an offset gives its cell: a coupon that is not filed in thousandths counts tenfold.
-fn amount_at(s: &[u8], at: usize) -> u64
-    requires { ⌜ amountAt (now s) at ≤ heldLimit (cellClass (recordCell (now s) at)) ⌝ }
-    ensures { λ r. ⌜ r ≡ amountAt (now (s .entry)) at ⌝ }
-{
-    if s.len() <= at {
-        return 0;
-    }
-    let value = filed_value(s, at);
-    if record_kind(s, at) == FINE_COUPON_KIND {
-        return value;
-    }
-    if cell_class(record_cell(s, at)) == COUPON_CLASS {
-        return 10 * value;
-    }
-    value
-}
-
-// The value that the record at an offset holds for its cell, in the record's unit: an amendment that withdraws its cell holds none.
-fn filed_value(s: &[u8], at: usize) -> u64
-    ensures { λ r. ⌜ r ≡ filedValue (now (s .entry)) at ⌝ }
-{
-    if record_kind(s, at) != AMENDMENT_KIND {
-        return record_value(s, at);
-    }
-    if amendment_state(s, at) != 0 {
-        return 0;
-    }
-    amendment_value(s, at)
 }
 
 // Fills in the CD yields of months 1 to 120, from the sheet at an offset.

@@ -9,7 +9,7 @@ use Rattle.lists.proofs.TableLaws.{table-getD, table-ext}
 use Rattle.withdrawal.specs.Tiers.{TierTable}
 use Rattle.pricing.specs.Rounding.{Rounding, down, up}
 use Rattle.pricing.proofs.RunLaws.{run-ext}
-use Rattle.month_steps.specs.Multipliers.{factorOf}
+use Rattle.month_multipliers.specs.Multipliers.{factorOf}
 use Rattle.discounts.specs.Inner.Factors.{factorIn}
 use Rattle.discounts.specs.Inner.Tables.{HoldsFactors, factorsOf}
 use Rattle.discounts.proofs.TableLaws.{held-factor}

@@ -12,7 +12,7 @@ use Rattle.withdrawal.specs.Inner.Incentives.{partsOf, incentiveFrom}
 use Rattle.withdrawal.proofs.MonthSurvivalLaws.{early-month}
 use Rattle.month_levels.specs.Levels.{LevelFor, lastLevel}
 use Rattle.month_levels.proofs.LevelLaws.{level-last, last-le, level-survival}
-use Rattle.month_steps.specs.Multipliers.{multipliersOf}
+use Rattle.month_multipliers.specs.Multipliers.{multipliersOf}
 use Rattle.pricing.specs.Scales.{couponGrowth}
 use Rattle.deposits.specs.declared.Deposit.{Deposit}
 use Rattle.deposits.specs.DepositTerms.{servicingCost}

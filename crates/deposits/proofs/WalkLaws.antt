@@ -11,9 +11,9 @@ use Rattle.withdrawal.specs.declared.WithdrawalTiers.{WithdrawalTiers}
 use Rattle.withdrawal.specs.MonthSurvival.{accountOf, monthSurvival}
 use Rattle.withdrawal.specs.Inner.TierArrays.{tierTable, Usable}
 use Rattle.withdrawal.proofs.MonthSurvivalLaws.{monthSurvival-le}
-use Rattle.month_steps.specs.declared.MonthMultipliers.{MonthMultipliers}
-use Rattle.month_steps.specs.Multipliers.{carriedOf, multipliersOf, factorOf, lastBy}
-use Rattle.month_steps.proofs.StepLaws.{step-is, last-is, paid-pos}
+use Rattle.month_multipliers.specs.declared.MonthMultipliers.{MonthMultipliers}
+use Rattle.month_multipliers.specs.Multipliers.{carriedOf, multipliersOf, factorOf, lastBy}
+use Rattle.month_multipliers.proofs.StepLaws.{step-is, last-is, paid-pos}
 use Rattle.pricing.specs.declared.Run.{Run}
 use Rattle.pricing.specs.Scales.{par, couponGrowth, amountLimit}
 use Rattle.pricing.specs.Rounding.{Rounding, down, up}

@@ -5,8 +5,8 @@ use mathlib.Core.List.{List}
 use lib.ListN.{getD}
 use Rattle.pricing.specs.Scales.{par}
 use Rattle.pricing.specs.Rounding.{Rounding, down, up}
-use Rattle.month_steps.specs.Multipliers.{factorOf}
-use Rattle.month_steps.proofs.DiscountLaws.{factor-back, discounts-lower, discounts-upper}
+use Rattle.month_multipliers.specs.Multipliers.{factorOf}
+use Rattle.month_multipliers.proofs.DiscountLaws.{factor-back, discounts-lower, discounts-upper}
 use Rattle.discounts.specs.Inner.Factors.{AtMostPar}
 use Rattle.discounts.specs.Inner.Tables.{HoldsFactors, Discounting}
 

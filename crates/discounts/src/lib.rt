@@ -1,9 +1,9 @@
 // Discount factors of every month and scenario, and tables of their multipliers.
+use factor_chains::lower_factors;
+use factor_chains::upper_factors;
+use factor_chains::upper_multipliers;
 use lists::write;
-use month_steps::multipliers::discount_multiplier;
-use pricing::discounting::lower_factors;
-use pricing::discounting::upper_factors;
-use pricing::discounting::upper_multipliers;
+use month_multipliers::discount_multiplier;
 use schedule::scenarios::shifted_rates;
 ghost use mathlib.Core.Path.{_≡_};
 ghost use Prim.Native.Nat.{_*_, _<_, _≤_};

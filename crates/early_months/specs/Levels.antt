@@ -11,8 +11,8 @@ use Rattle.month_levels.specs.Levels.{LevelFor, lastLevel, levelSurvival}
 use Rattle.pricing.specs.declared.Run.{Run}
 use Rattle.pricing.specs.Scales.{par, amountLimit}
 use Rattle.pricing.specs.Rounding.{Rounding}
-use Rattle.month_steps.specs.declared.MonthMultipliers.{MonthMultipliers}
-use Rattle.month_steps.specs.Multipliers.{carriedOf, multipliersOf, stepBy, lastBy}
+use Rattle.month_multipliers.specs.declared.MonthMultipliers.{MonthMultipliers}
+use Rattle.month_multipliers.specs.Multipliers.{carriedOf, multipliersOf, stepBy, lastBy}
 
 -- the level of a month, counted from 0, in a scenario: the highest scenario's stands first
 unfoldable pub levelAt : List (List ℕ) → ℕ → ℕ → ℕ

@@ -4,7 +4,7 @@ use incentives::coupon_parts;
 use month_levels::last_level;
 use month_levels::level_survival;
 use month_levels::month_levels;
-use month_steps::multipliers::multipliers_of;
+use month_multipliers::multipliers_of;
 use schedule::limits::TIER_LIMIT;
 ghost use Prim.Native.Nat.{ℕ, _≤_};
 ghost use mathlib.Core.Path.{_≡_};

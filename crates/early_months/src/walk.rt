@@ -1,9 +1,9 @@
 // The run over all months but the last.
 use crate::Levels;
 use crate::Runs;
-use month_steps::MonthMultipliers;
-use month_steps::steps::next_lower;
-use month_steps::steps::next_upper;
+use month_multipliers::MonthMultipliers;
+use month_steps::next_lower;
+use month_steps::next_upper;
 use pricing::PAR;
 use pricing::Run;
 ghost use mathlib.Core.Path.{_≡_};

@@ -27,7 +27,8 @@ use Rattle.fields.proofs.SearchLaws.{Reached}
 use Rattle.scan.proofs.NotingLaws.{table-same}
 use Rattle.fields.proofs.FirstLaws.{first-found, first-earlier, first-reached}
 use Rattle.notes.proofs.CountingLaws.{ranked-cell, counting-most, counting-holds}
-use Rattle.decode.specs.Contents.{filedValue, amountAt, cellOffset, cellValue, sheetOffset, rateCount, rateNumber, tierNumber, tiersAt, contentsOf}
+use Rattle.cell_amounts.specs.Amounts.{filedValue, amountAt}
+use Rattle.decode.specs.Contents.{cellOffset, cellValue, sheetOffset, rateCount, rateNumber, tierNumber, tiersAt, contentsOf}
 use Rattle.filing.specs.Survivors.{withdraws, survives, Surviving}
 
 module _ (t : List ℕ) (sound : firstRefused t (recordVerdict t) ≡ length t)

@@ -10,7 +10,8 @@ use Rattle.fields.specs.Records.{recordKind, amendmentState, sheetNumber, first
 use Rattle.records.specs.Kinds.{amendmentKind}
 use Rattle.records.specs.Items.{firstWith}
 use Rattle.record_verdicts.specs.RecordVerdicts.{firstFaulty}
-use Rattle.decode.specs.Contents.{amountAt, cellOffset, sheetOffset}
+use Rattle.cell_amounts.specs.Amounts.{amountAt}
+use Rattle.decode.specs.Contents.{cellOffset, sheetOffset}
 
 -- the record withdraws its cell
 unfoldable pub withdraws : List ℕ → ℕ → Bool

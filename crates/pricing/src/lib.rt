@@ -1,8 +1,4 @@
-// Prices of certificate deposits by the monthly run, at either rounding.
-pub mod discounting;
-pub mod products;
-mod rounding;
-pub mod values;
+// Prices of certificate deposits by the monthly run, at either rounding, and exact; with their laws. Nothing runs here.
 
 // The opening balance, and the scale of balances, flows, survivals, discount factors and prices: billionths.
 pub const PAR: u64 = 1_000_000_000;

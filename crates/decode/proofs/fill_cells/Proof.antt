@@ -7,7 +7,8 @@ use mathlib.Core.List.{List}
 use lib.ListN.{getD}
 use Rattle.lists.proofs.FillLaws.{Filled, fill-more}
 use Rattle.schedule.specs.Cells.{firstCell, cellCount}
-use Rattle.decode.specs.Contents.{amountAt, cellOffset, cellValue, contentsOf}
+use Rattle.cell_amounts.specs.Amounts.{amountAt}
+use Rattle.decode.specs.Contents.{cellOffset, cellValue, contentsOf}
 use Rattle.decode.proofs.ContentsLaws.{filled-from, cell-noted, value-noted}
 use Rattle.decode.proofs.SoundLaws.{offset-limit}
 use Rattle.decode.proofs.fill_cells.Statement.{statement}

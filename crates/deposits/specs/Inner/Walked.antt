@@ -5,8 +5,8 @@ use mathlib.Core.Bool.{Bool}
 use mathlib.Core.List.{List, [], _∷_}
 use Rattle.pricing.specs.Scales.{valueScale}
 use Rattle.pricing.specs.Rounding.{down, up, quotient}
-use Rattle.month_steps.specs.declared.MonthMultipliers.{MonthMultipliers}
-use Rattle.month_steps.specs.Multipliers.{carriedOf}
+use Rattle.month_multipliers.specs.declared.MonthMultipliers.{MonthMultipliers}
+use Rattle.month_multipliers.specs.Multipliers.{carriedOf}
 use Rattle.early_months.specs.Levels.{pricedBy, Walkable}
 use Rattle.deposits.specs.declared.Bounds.{Bounds}
 

@@ -5,7 +5,7 @@ use native.Mathlib.Omega.{arith}
 use lib.ListN.{getD}
 use lib.Seq.{getD-set-other}
 use Rattle.lists.proofs.FillLaws.{FilledBy, filled-start, filled-more}
-use Rattle.month_steps.specs.Multipliers.{discountMultiplier}
+use Rattle.month_multipliers.specs.Multipliers.{discountMultiplier}
 use Rattle.pricing.specs.Rounding.{roundingOf}
 use Rattle.discounts.proofs.to_multipliers.Statement.{statement}
 use Rattle.discounts.proofs.to_multipliers.Tie as tie

@@ -7,7 +7,7 @@ use Rattle.lists.specs.Tables.{table}
 use Rattle.schedule.specs.Shift.{scenarioCount}
 use Rattle.pricing.specs.Scales.{par}
 use Rattle.pricing.specs.Rounding.{Rounding}
-use Rattle.month_steps.specs.Multipliers.{discountMultiplier, factorOf, Discounts}
+use Rattle.month_multipliers.specs.Multipliers.{discountMultiplier, factorOf, Discounts}
 
 -- a table holds the multipliers of a list's factors, over some months
 abbrev pub HoldsFactors : Rounding → ℕ → List ℕ → List ℕ → Type 0

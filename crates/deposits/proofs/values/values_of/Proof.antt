@@ -13,7 +13,7 @@ use Rattle.withdrawal.specs.MonthSurvival.{accountOf}
 use Rattle.pricing.specs.Scales.{par, couponGrowth}
 use Rattle.pricing.specs.Rounding.{down, up}
 use Rattle.month_levels.proofs.LevelLaws.{level-survival-le}
-use Rattle.month_steps.specs.Multipliers.{multipliersOf}
+use Rattle.month_multipliers.specs.Multipliers.{multipliersOf}
 use Rattle.deposits.specs.DepositTerms.{servicingCost}
 use Rattle.discounts.specs.Inner.Tables.{Discounting}
 use Rattle.deposits.specs.Inner.Walked.{walkedPrices, valuesAt}

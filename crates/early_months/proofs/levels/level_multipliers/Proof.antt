@@ -5,7 +5,7 @@ use mathlib.Core.Bool.{Bool, false}
 use native.Mathlib.Omega.{arith}
 use Rattle.lists.proofs.FillLaws.{FilledBy, filled-none, filled-more}
 use Rattle.month_levels.proofs.LevelLaws.{last-le}
-use Rattle.month_steps.specs.declared.MonthMultipliers.{MonthMultipliers}
+use Rattle.month_multipliers.specs.declared.MonthMultipliers.{MonthMultipliers}
 use Rattle.early_months.specs.Levels.{multipliersAt}
 use Rattle.early_months.proofs.levels.level_multipliers.Statement.{statement}
 use Rattle.early_months.proofs.levels.level_multipliers.Tie as tie
