@@ -20,8 +20,8 @@ use Rattle.pricing.specs.Scales.{par}
 use Rattle.pricing.specs.Rounding.{down, up}
 use Rattle.discounts.specs.Inner.Factors.{factorsBy, AtMostPar}
 use Rattle.discounts.proofs.FactorLaws.{factors-at-most-par, upper-factor-pos}
-use Rattle.place_values.specs.Inner.FiledLimits.{FiledLimits}
-use Rattle.place_values.proofs.FilingTierLaws.{filed-limits}
+use Rattle.filing_tiers.specs.Inner.FiledLimits.{FiledLimits}
+use Rattle.filing_tiers.proofs.FilingTierLaws.{filed-limits}
 use Rattle.place_values.proofs.HeldLaws.{rates-within}
 use Rattle.book_sheets.specs.Sheets.{aboveLimit, noneAbove, isZero, noneZero, notRising, tiersUsable, sheetsUsable}
 

@@ -11,7 +11,7 @@ use Rattle.contents.specs.declared.FiledTiers.{FiledTiers}
 use Rattle.sub_balances.specs.declared.SubBalance.{SubBalance}
 use Rattle.sub_balances.specs.Places.{noValues}
 use Rattle.pricing.specs.Scales.{par}
-use Rattle.place_values.specs.PlaceTerms.{tiersOf}
+use Rattle.filing_tiers.specs.FilingTiers.{tiersOf}
 use Rattle.place_values.specs.Inner.PlaceRows.{tabledHeld}
 
 -- number i of a list is above a limit

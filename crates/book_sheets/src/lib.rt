@@ -3,7 +3,7 @@ use contents::FiledTiers;
 use deposits::RatePaths;
 use discounts::FactorTable;
 use discounts::to_multipliers;
-use place_values::filing_tiers::tiers_of;
+use filing_tiers::tiers_of;
 use place_values::place_row::held_values;
 use pricing::PAR;
 use schedule::limits::RATE_LIMIT;

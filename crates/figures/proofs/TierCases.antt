@@ -8,7 +8,7 @@ use lib.ListN.{length}
 use Rattle.lists.specs.Tables.{tableFrom}
 use Rattle.withdrawal.specs.Gain.{atMost}
 use Rattle.withdrawal.specs.Tiers.{TierTable, tier, houseTiers, reached, firstReached, annualWithdrawal, someReached, highestReached, edgesAbove, edgesTried}
-use Rattle.place_values.specs.PlaceTerms.{ownTiers, tiersOf}
+use Rattle.filing_tiers.specs.FilingTiers.{ownTiers, tiersOf}
 
 -- tiers as a filing carries them, each an edge and a withdrawal, lowest edge first
 abbrev carried : List (ℕ × ℕ) → TierTable

@@ -20,7 +20,8 @@ use Rattle.shares.specs.Places.{placeAt}
 use Rattle.sub_balances.specs.PlaceOrder.{positionOf}
 use Rattle.deposits.specs.DepositTerms.{termsOf}
 use Rattle.deposits.proofs.TermsLaws.{flat-terms}
-use Rattle.place_values.specs.PlaceTerms.{depositAt, rateAt, filingTiers, termsHeld}
+use Rattle.filing_tiers.specs.FilingTiers.{filingTiers}
+use Rattle.place_values.specs.PlaceTerms.{depositAt, rateAt, termsHeld}
 use Rattle.place_values.proofs.PlaceTermsLaws.{deposit-limits}
 
 module _ (s : List ℕ) (flat : length s ≤ sheetOffset s ratePathKind) where

@@ -33,7 +33,8 @@ use Rattle.deposits.specs.Inner.Values.{tabledValues}
 use Rattle.deposits.proofs.TermsLaws.{terms-of-bounded}
 use Rattle.deposits.proofs.ValueLaws.{values-are, no-values}
 use Rattle.deposits.proofs.DiscountLaws.{values-by}
-use Rattle.place_values.specs.PlaceTerms.{depositAt, rateAt, filingTiers, termsHeld, monthYield}
+use Rattle.filing_tiers.specs.FilingTiers.{filingTiers}
+use Rattle.place_values.specs.PlaceTerms.{depositAt, rateAt, termsHeld, monthYield}
 use Rattle.place_values.specs.HeldValues.{exactHeld, valueHeld, boundsHeld, valuesHeld}
 use Rattle.place_values.specs.Inner.PlaceRows.{tabledHeld}
 

@@ -1,4 +1,3 @@
 -- Definitions for the contracts of inner functions. What the promise says does not rest on them.
 pub mod LongestTerm
 pub mod PlaceRows
-pub mod FiledLimits

@@ -1,4 +1,3 @@
 pub mod PlaceTerms
 pub mod HeldValues
-pub mod TierAnswers
 pub mod Inner

@@ -1,19 +1,14 @@
 -- The deposit at a place, from what the place holds, and its terms in each scenario (01:48-56) under what a filing says. Definitions only.
-use Prim.Native.Nat.{ℕ, _-_}
-use mathlib.Core.Bool.{cond}
-use lib.Dec.{eqb}
-use lib.ListN.{getD}
-use Rattle.lists.specs.Tables.{table}
+use Prim.Native.Nat.{ℕ}
 use Rattle.schedule.specs.Shift.{shiftedRate}
 use Rattle.contents.specs.declared.Contents.{Contents}
-use Rattle.contents.specs.declared.FiledTiers.{FiledTiers}
 use Rattle.contents.specs.Contents.{cdYield, retailRate}
 use Rattle.sub_balances.specs.declared.SubBalance.{SubBalance}
 use Rattle.sub_balances.specs.PlaceOrder.{positionOf, isBrokered}
-use Rattle.withdrawal.specs.Tiers.{TierTable, tier, houseTiers}
 use Rattle.pricing.specs.Terms.{Terms}
 use Rattle.deposits.specs.DepositTerms.{termsOf}
 use Rattle.deposits.specs.declared.Deposit.{Deposit}
+use Rattle.filing_tiers.specs.FilingTiers.{filingTiers}
 
 -- the deposit at a place, 0 to 35, from what the place holds
 unfoldable pub depositAt : ℕ → SubBalance → Deposit
@@ -28,22 +23,6 @@ depositAt place held =
 -- the shifted retail rate of a place's column in a month (02:CR 3), hundredths of a percent a year
 unfoldable pub rateAt : Contents → ℕ → ℕ → ℕ → ℕ
 rateAt k scenario place month = shiftedRate scenario (retailRate k (positionOf place .column) month)
-
--- a filing's own tiers (02:CR 1), highest edge first. The first edge, 0, covers every lower ratio too, so the first withdrawal holds also where no edge
--- is reached
-unfoldable pub ownTiers : FiledTiers → TierTable
-ownTiers t =
-    record {
-      tiers = table (t .count) (λ (i : ℕ). tier (getD (t .edges) (t .count - 1 - i) 0) (getD (t .withdrawals) (t .count - 1 - i) 0));
-      otherwise = getD (t .withdrawals) 0 0;
-    }
-
--- the tiers of what is filed: its own, or the house's where it has none
-unfoldable pub tiersOf : FiledTiers → TierTable
-tiersOf t = cond (eqb (t .count) 0) houseTiers (ownTiers t)
-
-abbrev pub filingTiers : Contents → TierTable
-filingTiers k = tiersOf (k .tiers)
 
 -- the terms of what a place holds in a scenario, 0 to 6, under a filing's rates and tiers
 unfoldable pub termsHeld : Contents → ℕ → ℕ → SubBalance → Terms

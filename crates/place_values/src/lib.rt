@@ -1,5 +1,3 @@
-// The places of a filing valued one by one: its withdrawal tiers, the longest term that has to be discounted, and the fifteen numbers of a place.
-pub mod filing_tiers;
+// The places of a filing valued one by one: the longest term that has to be discounted, and the fifteen numbers of a place.
 pub mod longest_term;
 pub mod place_row;
-pub mod tier_search;

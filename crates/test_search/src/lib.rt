@@ -3,8 +3,8 @@ use input_numbers::number_at;
 use output::end_line;
 use output::next_number;
 use output::text;
-use place_values::tier_search::TierAnswer;
-use place_values::tier_search::tier_for;
+use tier_search::TierAnswer;
+use tier_search::tier_for;
 use withdrawal::Incentive;
 
 // Prints the tier that is reached. An input has what the gain adds, what it takes off and the cost, 8 bytes each, and the filing.

@@ -26,7 +26,8 @@ use Rattle.deposits.specs.Inner.Prices.{DepositLimits}
 use Rattle.discounts.specs.Inner.Tables.{HoldsFactors, factorsOf, Discounting}
 use Rattle.discounts.proofs.FactorLaws.{factors-at-most-par, upper-factor-pos}
 use Rattle.discounts.proofs.TableLaws.{lower-discounting, upper-discounting}
-use Rattle.place_values.specs.PlaceTerms.{depositAt, filingTiers}
+use Rattle.filing_tiers.specs.FilingTiers.{filingTiers}
+use Rattle.place_values.specs.PlaceTerms.{depositAt}
 use Rattle.valuation.specs.Run.{valueAt}
 use Rattle.valuation.specs.Numbers.{valuesOf, placeNumbers}
 use Rattle.place_values.specs.Inner.LongestTerm.{termOf, longestTo, longestTerm}

@@ -3,8 +3,8 @@
 use conditions::ColumnSums;
 use contents::FiledTiers;
 use discounts::discount_tables;
+use filing_tiers::tiers_of;
 use lists::write;
-use place_values::filing_tiers::tiers_of;
 use place_values::longest_term::longest_term;
 use place_values::place_row::row_of;
 use schedule::CELLS;

@@ -12,7 +12,7 @@ use Rattle.contents.specs.Contents.{contentsWith}
 use Rattle.valuation.specs.Numbers.{placeNumbers}
 use Rattle.shares.specs.Places.{placesOf}
 use Rattle.place_values.specs.Inner.LongestTerm.{longestTerm}
-use Rattle.place_values.proofs.FilingTierLaws.{filed-limits}
+use Rattle.filing_tiers.proofs.FilingTierLaws.{filed-limits}
 use Rattle.valuation.proofs.NumberLaws.{row-length}
 use Rattle.place_values.proofs.HeldLaws.{yields-within, rates-within}
 use Rattle.valuation.proofs.RowLaws.{Prepared, longest-limit, held-limits, tables, row-is}

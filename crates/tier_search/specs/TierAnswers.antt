@@ -10,9 +10,9 @@ use Rattle.filing.specs.Verdict.{filingVerdict, Accepted}
 use Rattle.withdrawal.specs.declared.Incentive.{Incentive}
 use Rattle.withdrawal.specs.Reached.{reachedTier}
 use Rattle.withdrawal.specs.Inner.Incentives.{gainLimit, costLimit, gainOf}
-use Rattle.place_values.specs.declared.tier_search.TierAnswer.{TierAnswer}
-use Rattle.place_values.specs.declared.tier_search.TierAnswer.the-variants.{Reached, Refused, TooLarge}
-use Rattle.place_values.specs.PlaceTerms.{filingTiers}
+use Rattle.tier_search.specs.declared.TierAnswer.{TierAnswer}
+use Rattle.tier_search.specs.declared.TierAnswer.the-variants.{Reached, Refused, TooLarge}
+use Rattle.filing_tiers.specs.FilingTiers.{filingTiers}
 
 -- a part of the gain, or the cost, is above its limit
 unfoldable pub tooLarge : Incentive → Bool

@@ -19,9 +19,9 @@ use Rattle.withdrawal.specs.declared.ReachedTier.{ReachedTier}
 use Rattle.withdrawal.specs.Tiers.{TierTable}
 use Rattle.withdrawal.specs.Reached.{reachedTier}
 use Rattle.withdrawal.specs.Inner.Incentives.{gainLimit, costLimit, gainOf, Small}
-use Rattle.place_values.specs.declared.tier_search.TierAnswer.the-variants.{Reached, Refused, TooLarge}
-use Rattle.place_values.specs.PlaceTerms.{filingTiers}
-use Rattle.place_values.specs.TierAnswers.{tooLarge, TierAnswered}
+use Rattle.tier_search.specs.declared.TierAnswer.the-variants.{Reached, Refused, TooLarge}
+use Rattle.filing_tiers.specs.FilingTiers.{filingTiers}
+use Rattle.tier_search.specs.TierAnswers.{tooLarge, TierAnswered}
 
 -- an incentive that is not too large is small
 pub small-of-test : (x : Incentive) → tooLarge x ≡ false → Small x

@@ -1,8 +1,8 @@
--- `place_values::tier_search::too_large` meets its contract. Assumes nothing.
+-- `tier_search::too_large` meets its contract. Assumes nothing.
 use borrow.Author.Tests.{lt-ltb, le-ltb}
-use Rattle.place_values.specs.TierAnswers.{tooLarge}
-use Rattle.place_values.proofs.tier_search.too_large.Statement.{statement}
-use Rattle.place_values.proofs.tier_search.too_large.Tie as tie
+use Rattle.tier_search.specs.TierAnswers.{tooLarge}
+use Rattle.tier_search.proofs.too_large.Statement.{statement}
+use Rattle.tier_search.proofs.too_large.Tie as tie
 
 returns : tie.Need-returns
 unfolding tooLarge

@@ -1,4 +1,4 @@
--- `place_values::filing_tiers::tiers_of` meets its contract. Assumes nothing.
+-- `filing_tiers::tiers_of` meets its contract. Assumes nothing.
 use Prim.Native.Nat.{ℕ, _-_, _≤_}
 use mathlib.Core.List.{List}
 use mathlib.Core.Path.{_≡_, refl, sym, _∙_}
@@ -9,12 +9,12 @@ use Rattle.schedule.specs.Limits.{edgeLimit, withdrawalLimit}
 use Rattle.withdrawal.specs.Inner.TierArrays.{tierArray, TiersFit}
 use Rattle.withdrawal.proofs.HeldLaws.{padded-le, padded-table, padded-usable}
 use Rattle.contents.specs.declared.FiledTiers.{FiledTiers}
-use Rattle.place_values.specs.PlaceTerms.{ownTiers, tiersOf}
-use Rattle.place_values.specs.Inner.FiledLimits.{FiledLimits}
-use Rattle.place_values.proofs.FilingTierLaws.{own-falling}
+use Rattle.filing_tiers.specs.FilingTiers.{ownTiers, tiersOf}
+use Rattle.filing_tiers.specs.Inner.FiledLimits.{FiledLimits}
+use Rattle.filing_tiers.proofs.FilingTierLaws.{own-falling}
 use borrow.Author.Needs.{needs}
-use Rattle.place_values.proofs.filing_tiers.tiers_of.Statement.{statement}
-use Rattle.place_values.proofs.filing_tiers.tiers_of.Tie as tie
+use Rattle.filing_tiers.proofs.tiers_of.Statement.{statement}
+use Rattle.filing_tiers.proofs.tiers_of.Tie as tie
 
 house-requires : tie.Need-house-requires
 house-requires c κs = search needs

@@ -1,13 +1,13 @@
 // The search in a filing's withdrawal tiers by itself, for an incentive that is given.
-use crate::filing_tiers::tiers_of;
 use answers::Answer;
 use answers::number;
 use filing::read;
+use filing_tiers::tiers_of;
 use reached_tiers::reached_tier;
 use withdrawal::Incentive;
 use withdrawal::ReachedTier;
 ghost use mathlib.Core.Path.{_≡_};
-ghost use Rattle.place_values.specs.TierAnswers.{TierAnswered, tooLarge};
+ghost use Rattle.tier_search.specs.TierAnswers.{TierAnswered, tooLarge};
 
 // The largest parts of a gain, and the largest cost.
 const GAIN_LIMIT: u64 = 10_000_000_000_000_000;

@@ -13,8 +13,8 @@ use Rattle.withdrawal.proofs.HighestLaws.{highest-withdrawal}
 use Rattle.contents.specs.declared.Contents.{Contents}
 use Rattle.contents.specs.declared.FiledTiers.{FiledTiers}
 use Rattle.contents.specs.Valid.{Valid}
-use Rattle.place_values.specs.PlaceTerms.{ownTiers, tiersOf, filingTiers}
-use Rattle.place_values.specs.Inner.FiledLimits.{FiledLimits}
+use Rattle.filing_tiers.specs.FilingTiers.{ownTiers, tiersOf, filingTiers}
+use Rattle.filing_tiers.specs.Inner.FiledLimits.{FiledLimits}
 
 -- from the top the edges that rise fall
 pub own-falling : (t : FiledTiers) → FiledLimits t → Falling (ownTiers t .tiers)
@@ -35,7 +35,7 @@ unfolding tiersOf
 filing-falling k v =
     either (λ (x : TierTable). Falling (x .tiers)) (eqb (k .tiers .count) 0) house-falling (own-falling (k .tiers) (filed-limits k v))
 
--- the tier at place i has the highest edge k with 100 × gain ≥ k × cost: the annual withdrawal is its own
+-- tier i has the highest edge k with 100 × gain ≥ k × cost: the annual withdrawal is its own
 pub filing-withdrawal : (k : Contents) → Valid k → (gain : ℤ) (cost i : ℕ) → Highest gain cost (filingTiers k .tiers) i
     → annualWithdrawal (filingTiers k) gain cost ≡ getD (filingTiers k .tiers) i (tier 0 0) .withdrawal
 filing-withdrawal k v gain cost i h = highest-withdrawal (filingTiers k) gain cost (filing-falling k v) i h

@@ -1,4 +1,4 @@
--- `place_values::filing_tiers::from_the_top` meets its contract. The loop's invariant: the first i places hold the last i numbers, turned round. Assumes
+-- `filing_tiers::from_the_top` meets its contract. The loop's invariant: the first i entries hold the last i numbers, turned round. Assumes
 -- nothing.
 use Prim.Native.Nat.{ℕ, _-_, _≤_}
 use mathlib.Core.Path.{_≡_}
@@ -8,8 +8,8 @@ use lib.ListN.{getD, replicate}
 use Rattle.lists.proofs.TestLaws.{entries-le, stored-le}
 use Rattle.schedule.specs.Limits.{tierLimit, edgeLimit}
 use Rattle.withdrawal.proofs.HeldLaws.{Stored, stored-none, stored-more, stored-all}
-use Rattle.place_values.proofs.filing_tiers.from_the_top.Statement.{statement}
-use Rattle.place_values.proofs.filing_tiers.from_the_top.Tie as tie
+use Rattle.filing_tiers.proofs.from_the_top.Statement.{statement}
+use Rattle.filing_tiers.proofs.from_the_top.Tie as tie
 
 abbrev Inv-loop : tie.InvT-loop
 Inv-loop count numbers turned₀ i₀ turned i = (i ≤ count) × (count ≤ 16) × Stored (λ (j : ℕ). getD numbers (count - 1 - j) 0) i turned × ((j : ℕ) → getD turned j 0 ≤ edgeLimit)

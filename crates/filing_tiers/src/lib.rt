@@ -10,8 +10,8 @@ ghost use lib.ListN.{getD};
 ghost use Rattle.lists.specs.Tables.{table};
 ghost use Rattle.schedule.specs.Limits.{tierLimit, edgeLimit};
 ghost use Rattle.withdrawal.specs.Inner.TierArrays.{tierArray, tierTable, Usable};
-ghost use Rattle.place_values.specs.PlaceTerms.{tiersOf};
-ghost use Rattle.place_values.specs.Inner.FiledLimits.{FiledLimits};
+ghost use Rattle.filing_tiers.specs.FilingTiers.{tiersOf};
+ghost use Rattle.filing_tiers.specs.Inner.FiledLimits.{FiledLimits};
 
 // Its own tiers, highest edge first, or the house's where it has none.
 pub fn tiers_of(filed: FiledTiers) -> WithdrawalTiers

@@ -1,11 +1,11 @@
--- `place_values::tier_search::tier_for` meets its contract. Assumes nothing.
+-- `tier_search::tier_for` meets its contract. Assumes nothing.
 use mathlib.Core.Path.{sym, _∙_}
 use Rattle.filing.proofs.ReadingLaws.{reading-accepted}
-use Rattle.place_values.proofs.FilingTierLaws.{filed-limits}
-use Rattle.place_values.proofs.TierAnswerLaws.{small-of-test, refused-tier, large-tier, reached-tier}
+use Rattle.filing_tiers.proofs.FilingTierLaws.{filed-limits}
+use Rattle.tier_search.proofs.TierAnswerLaws.{small-of-test, refused-tier, large-tier, reached-tier}
 use borrow.Author.Needs.{needs}
-use Rattle.place_values.proofs.tier_search.tier_for.Statement.{statement}
-use Rattle.place_values.proofs.tier_search.tier_for.Tie as tie
+use Rattle.tier_search.proofs.tier_for.Statement.{statement}
+use Rattle.tier_search.proofs.tier_for.Tie as tie
 
 read-requires : tie.Need-read-requires
 read-requires c κs = search needs

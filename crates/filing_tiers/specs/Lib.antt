@@ -1,0 +1,2 @@
+pub mod FilingTiers
+pub mod Inner
