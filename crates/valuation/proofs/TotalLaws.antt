@@ -51,7 +51,7 @@ module _ (k : Contents) (rest : List ℕ) where
       rw (short-sum low, short-sum high, long-sum low, long-sum high)
       (rw (lowers scenario h isShort, uppers scenario h isShort, lowers scenario h isLong, uppers scenario h isLong))
 
--- a list whose first 540 places are overwritten by the rows
+-- a list whose first 540 numbers are overwritten by the rows
 module _ (k : Contents) (before after : List ℕ) (long : 568 ≤ length before) (written-rows : after ≡ rows k ++ drop 540 before) where
   rows-in : Overwritten (rows k) 540 before after
   rows-in = overwritten-is (rows k) 540 before after (rows-length k) (omega arith) written-rows
