@@ -6,6 +6,7 @@ use discounts::to_multipliers;
 use filing_tiers::tiers_of;
 use place_values::place_row::held_values;
 use pricing::PAR;
+use schedule::limits::MONTHS;
 use schedule::limits::RATE_LIMIT;
 use schedule::limits::TIER_LIMIT;
 use schedule::limits::WITHDRAWAL_LIMIT;
@@ -41,7 +42,7 @@ pub fn values_in<'a>(
     let mut above = *upper;
     to_multipliers(&mut below, held.remaining_months, false);
     to_multipliers(&mut above, held.remaining_months, true);
-    let mut months = [[0u8; 7]; 120];
+    let mut months = [[0u8; 7]; MONTHS];
     held_values(
         held,
         place,

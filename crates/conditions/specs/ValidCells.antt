@@ -1,4 +1,5 @@
--- What holds of the cells of every accepted filing: each limit (01:24) and conditions 7 to 9 (01:37-39). Definitions only.
+-- What holds of the cells of every accepted filing: each limit (01:24; of a coupon 02:CR 4), in the
+-- units of Limits, and conditions 7 to 9 (01:37-39). Definitions only.
 use Prim.Native.Nat.{ℕ, _≤_, _<_}
 use mathlib.Core.Path.{_≡_}
 use mathlib.Core.List.{List}

@@ -7,7 +7,8 @@ use Rattle.conditions.specs.Conditions.{cellIn}
 use Rattle.contents.specs.declared.Contents.{Contents}
 use Rattle.contents.specs.declared.FiledTiers.{FiledTiers}
 
--- what a filing says, of its parts: its cells, CD yields, retail rates and tiers. Nowhere else are they put together
+-- what a filing says, of its parts: its cells (01:6-11), CD yields, retail rates (02:CR 3) and tiers (02:CR 1), in their own units. Nowhere else are they
+-- put together
 abbrev pub contentsWith : List ℕ → List ℕ → List ℕ → FiledTiers → Contents
 contentsWith cells yields rates tiers = record { cells = cells; yields = yields; rates = rates; tiers = tiers }
 

@@ -1,12 +1,13 @@
 // What an accepted filing says.
 use schedule::CELLS;
+use schedule::limits::MONTHS;
 use schedule::limits::TIER_LIMIT;
 
 // The values of cells 601 to 661, the CD yields of months 1 to 120, the retail rates of months 1 to 120 column by column, and its tiers of annual withdrawal.
 // Cells are in their own units, coupons among them in thousandths of a percent a year, yields and rates in hundredths.
 pub struct Contents {
     pub cells: [u64; CELLS],
-    pub yields: [u16; 120],
+    pub yields: [u16; MONTHS],
     pub rates: [u16; 360],
     pub tiers: FiledTiers,
 }
@@ -22,7 +23,7 @@ pub struct FiledTiers {
 // What a filing without records says: every number is 0. No other contents are spelled: a filing's are these, filled in.
 pub const NO_CONTENTS: Contents = Contents {
     cells: [0; CELLS],
-    yields: [0; 120],
+    yields: [0; MONTHS],
     rates: [0; 360],
     tiers: FiledTiers {
         count: 0,

@@ -13,6 +13,7 @@ use records::kinds::RATE_PATH_KIND;
 use records::kinds::TIERS_KIND;
 use records::kinds::YIELDS_KIND;
 use schedule::CELLS;
+use schedule::limits::MONTHS;
 use schedule::limits::TIER_LIMIT;
 ghost use mathlib.Core.Path.{_≡_};
 ghost use mathlib.Core.Bool.{cond};
@@ -62,7 +63,7 @@ fn fill_cells(s: &[u8], offsets: &[usize; CELLS], cells: &mut [u64; CELLS])
 }
 
 // Fills in the CD yields of months 1 to 120, from the sheet at an offset.
-fn fill_yields(s: &[u8], at: usize, yields: &mut [u16; 120])
+fn fill_yields(s: &[u8], at: usize, yields: &mut [u16; MONTHS])
     requires { ⌜ (at ≡ sheetOffset (now s) yieldsKind) × (length (now yields) ≡ monthsLimit) ⌝ }
     ensures { λ _. ⌜ now (yields .exit) ≡ contentsOf (now (s .entry)) .yields ⌝ }
 {

@@ -4,6 +4,7 @@ use factor_chains::upper_factors;
 use factor_chains::upper_multipliers;
 use lists::write;
 use month_multipliers::discount_multiplier;
+use schedule::limits::MONTHS;
 use schedule::scenarios::shifted_rates;
 ghost use mathlib.Core.Path.{_≡_};
 ghost use Prim.Native.Nat.{_*_, _<_, _≤_};
@@ -22,7 +23,7 @@ pub type MultiplierTable = [u64; 840];
 
 // The multipliers of the lower and the upper factors of a sheet of CD yields up to the longest term, written into tables of zeros.
 pub fn discount_tables(
-    yields: &[u16; 120],
+    yields: &[u16; MONTHS],
     longest: u64,
     lower: &mut MultiplierTable,
     upper: &mut MultiplierTable,
@@ -37,7 +38,7 @@ pub fn discount_tables(
 
 // The lower and the upper factors of a sheet of CD yields, written into tables of zeros. Months past the longest term are left 0.
 pub fn fill_factors(
-    yields: &[u16; 120],
+    yields: &[u16; MONTHS],
     longest: u64,
     lower: &mut FactorTable,
     upper: &mut FactorTable,
@@ -46,7 +47,7 @@ pub fn fill_factors(
     ensures { λ _. ⌜ (now (lower .exit) ≡ factorsBy down (now (yields .entry)) longest) × (now (upper .exit) ≡ factorsBy up (now (yields .entry)) longest) ⌝ }
 {
     let mut month: usize = 0;
-    while month < 120 {
+    while month < MONTHS {
         if longest <= month as u64 {
             return;
         }
@@ -56,7 +57,12 @@ pub fn fill_factors(
 }
 
 // The factors of a month, counted from 0, in the seven scenarios. The lower ones are written before the upper ones are made, so that both are made in registers.
-fn fill_month(yields: &[u16; 120], month: usize, lower: &mut FactorTable, upper: &mut FactorTable)
+fn fill_month(
+    yields: &[u16; MONTHS],
+    month: usize,
+    lower: &mut FactorTable,
+    upper: &mut FactorTable,
+)
     requires { ⌜ WithinRates (now yields) × (month < monthsLimit) ⌝ }
     ensures { λ _. ⌜ (now (lower .exit) ≡ written (now (lower .entry)) (7 * month) (yieldFactors down (now (yields .entry)) month))
         × (now (upper .exit) ≡ written (now (upper .entry)) (7 * month) (yieldFactors up (now (yields .entry)) month)) ⌝ }

@@ -5,6 +5,7 @@ use month_levels::last_level;
 use month_levels::level_survival;
 use month_levels::month_levels;
 use month_multipliers::multipliers_of;
+use schedule::limits::MONTHS;
 use schedule::limits::TIER_LIMIT;
 ghost use Prim.Native.Nat.{ℕ, _≤_};
 ghost use mathlib.Core.Path.{_≡_};
@@ -14,9 +15,6 @@ ghost use Rattle.schedule.specs.Limits.{couponLimit, penaltyLimit, monthsLimit,
 ghost use Rattle.pricing.specs.Scales.{par, growthLimit, servicingLimit};
 ghost use Rattle.month_levels.specs.Levels.{EdgesFit, levelSurvival};
 ghost use Rattle.early_months.specs.Levels.{Levelled, Multiplied};
-
-// The months of a column's path of rates.
-const MONTHS: usize = 120;
 
 // Writes the levels of all months but the last, at the retail rates of a column, 1 to 3, which are not shifted. As a slice the room is known to have 120
 // months; what stood in it is of no account.

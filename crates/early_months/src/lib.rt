@@ -3,9 +3,10 @@ pub mod levels;
 pub mod walk;
 
 use pricing::Run;
+use schedule::limits::MONTHS;
 
 // Seven levels for each month: the highest scenario's first.
-pub type Levels = [[u8; 7]; 120];
+pub type Levels = [[u8; 7]; MONTHS];
 
 // The lower and the upper run.
 pub struct Runs {

@@ -1,4 +1,5 @@
-// The limits of the form, inclusive (01:24, 01:51; 02:CR 1, CR 4): the only place in the code that has their figures.
+// The limits of the form, inclusive (01:24, 01:51; 02:CR 1, CR 4). The code takes them from here; the lengths of sheets (`records`) and the months of the rows
+// (src/positions.rt) are figures of their own.
 
 // Of a balance, of a column's brokered balance or balance subject to penalty, and of the total, in thousands of dollars.
 pub const BALANCE_LIMIT: u64 = 999_999_999;
@@ -12,8 +13,10 @@ pub const FILED_COUPON_LIMIT: u64 = 1_500;
 
 pub const COUPON_LIMIT: u64 = 15_000;
 
-// Of remaining months, and of a penalty in hundredths of a month.
-pub const MONTHS_LIMIT: u64 = 120;
+// Of remaining months, also as the length of an array with an entry for each month, and of a penalty in hundredths of a month.
+pub const MONTHS: usize = 120;
+
+pub const MONTHS_LIMIT: u64 = MONTHS as u64;
 
 pub const PENALTY_LIMIT: u64 = 3_600;
 

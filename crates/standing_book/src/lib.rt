@@ -9,6 +9,7 @@ use book_sheets::values_in;
 use discounts::fill_factors;
 use filing::read;
 use place_limits::fits;
+use schedule::limits::MONTHS_LIMIT;
 use sub_balances::NO_PLACE;
 use sub_balances::SubBalance;
 ghost use Rattle.books.specs.Changes.{setPlace, clearPlace};
@@ -21,7 +22,12 @@ pub fn open(filing: &[u8]) -> Answered
     let reading = read(filing);
     let mut lower = [0u64; 840];
     let mut upper = [0u64; 840];
-    fill_factors(&reading.contents.yields, 120, &mut lower, &mut upper);
+    fill_factors(
+        &reading.contents.yields,
+        MONTHS_LIMIT,
+        &mut lower,
+        &mut upper,
+    );
     let rates = reading.contents.rates;
     let tiers = reading.contents.tiers;
     let answer = reading.answer;

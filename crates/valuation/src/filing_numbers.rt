@@ -8,6 +8,7 @@ use lists::write;
 use place_values::longest_term::longest_term;
 use place_values::place_row::row_of;
 use schedule::CELLS;
+use schedule::limits::MONTHS;
 use shares::places::places_of;
 use totals::totals_of;
 ghost use mathlib.Core.Path.{_≡_};
@@ -26,7 +27,7 @@ ghost use Rattle.valuation.specs.Numbers.{placeNumbers, numbers, numberC
 pub(crate) fn write_numbers<'a>(
     cells: &'a [u64; CELLS],
     sums: ColumnSums,
-    yields: &'a [u16; 120],
+    yields: &'a [u16; MONTHS],
     rates: &'a [u16; 360],
     tiers: FiledTiers,
     list: &mut [u64],
@@ -45,7 +46,7 @@ pub(crate) fn write_numbers<'a>(
 fn write_rows(
     cells: &[u64; CELLS],
     sums: ColumnSums,
-    yields: &[u16; 120],
+    yields: &[u16; MONTHS],
     rates: &[u16; 360],
     filed: FiledTiers,
     list: &mut [u64],
@@ -61,7 +62,7 @@ fn write_rows(
     let mut lower = [0u64; 840];
     let mut upper = [0u64; 840];
     discount_tables(yields, longest, &mut lower, &mut upper);
-    let mut months = [[0u8; 7]; 120];
+    let mut months = [[0u8; 7]; MONTHS];
     let mut place: usize = 0;
     while place < 36 {
         let row = row_of(
