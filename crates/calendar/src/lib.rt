@@ -1,8 +1,8 @@
 // Days of the Gregorian years 1900 to 2199, their order, and the months between them.
 use schedule::tables::entry_at;
+use schedule::tables::within;
 ghost use mathlib.Core.Path.{_≡_};
 ghost use mathlib.Core.Bool.{true, cond};
-ghost use Rattle.lists.specs.Ranges.{within};
 ghost use Rattle.calendar.specs.Dates.{isLeap, lastDay, isDate, monthIndex, onOrAfter, monthsBetween};
 ghost use Rattle.calendar.specs.Inner.Days.{Day};
 
@@ -61,16 +61,6 @@ pub fn is_date(d: Date) -> bool
         return false;
     }
     within(1, last_day(d.year, d.month), d.day)
-}
-
-// A number is one of least to most.
-fn within(least: u64, most: u64, x: u64) -> bool
-    ensures { λ r. ⌜ r ≡ within least most x ⌝ }
-{
-    if x < least {
-        return false;
-    }
-    x <= most
 }
 
 // The last day of a month, 1 to 12; 0 for another number.

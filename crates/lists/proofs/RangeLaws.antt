@@ -31,6 +31,10 @@ module _ (least most x : ℕ) where
   unfolding within
   within-above l h = rw (le-leb least x l, lt-leb x most h)
 
+-- at least k, and not k
+pub above : {i : ℕ} (k : ℕ) → k ≤ i → (i ≡ k → ⊥) → suc k ≤ i
+above k l h = omega (arith, h)
+
 -- a number that passes, where none below it does, is the least
 pub least-is : (test : ℕ → Bool) (from n m : ℕ) → from ≤ m → m < from + n → test m ≡ true
     → ((k : ℕ) → from ≤ k → k < m → test k ≡ false)

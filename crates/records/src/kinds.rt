@@ -1,10 +1,9 @@
 // The kinds of record: what a sheet of each kind holds, and the length that a record is to have.
-use crate::KINDS;
 use fields::record_kind;
 use fields::tier_count;
 use schedule::limits::RATE_LIMIT;
 ghost use mathlib.Core.Path.{_≡_};
-ghost use Rattle.records.specs.Kinds.{givesCell, namesCell, sheetKind, dueLength};
+ghost use Rattle.records.specs.Kinds.{givesCell, namesCell, sheetOf, sheetKind, dueLength};
 
 // The kinds: a cell, CD yields, flat retail rates, tiers, retail rates by month, a coupon in thousandths, an amendment.
 pub const CELL_KIND: usize = 1;
@@ -27,53 +26,28 @@ pub struct SheetKind {
     pub limit: u16,
 }
 
-const SHEET_KINDS: [SheetKind; KINDS] = [
-    SheetKind {
-        numbers: 0,
-        limit: 0,
-    },
-    SheetKind {
-        numbers: 0,
-        limit: 0,
-    },
-    SheetKind {
-        numbers: 120,
-        limit: RATE_LIMIT,
-    },
-    SheetKind {
-        numbers: 3,
-        limit: RATE_LIMIT,
-    },
-    SheetKind {
-        numbers: 0,
-        limit: 0,
-    },
-    SheetKind {
-        numbers: 360,
-        limit: RATE_LIMIT,
-    },
-    SheetKind {
-        numbers: 0,
-        limit: 0,
-    },
-    SheetKind {
-        numbers: 0,
-        limit: 0,
-    },
-];
-
 // The sheet of a kind.
 pub fn sheet_kind(kind: usize) -> SheetKind
     ensures { λ r. ⌜ r ≡ sheetKind kind ⌝ }
 {
-    if kind < KINDS {
-        SHEET_KINDS[kind]
-    } else {
-        SheetKind {
-            numbers: 0,
-            limit: 0,
-        }
+    match kind {
+        0 => sheet_of(0, 0),
+        1 => sheet_of(0, 0),
+        2 => sheet_of(120, RATE_LIMIT),
+        3 => sheet_of(3, RATE_LIMIT),
+        4 => sheet_of(0, 0),
+        5 => sheet_of(360, RATE_LIMIT),
+        6 => sheet_of(0, 0),
+        7 => sheet_of(0, 0),
+        _ => sheet_of(0, 0),
     }
+}
+
+// A sheet of so many numbers up to a limit.
+fn sheet_of(numbers: u16, limit: u16) -> SheetKind
+    ensures { λ r. ⌜ r ≡ sheetOf numbers limit ⌝ }
+{
+    SheetKind { numbers, limit }
 }
 
 // A kind that gives a cell its value.

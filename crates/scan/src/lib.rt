@@ -9,7 +9,6 @@ use reader::step_at;
 use record_verdicts::check_record;
 use records::KINDS;
 use schedule::CELLS;
-use schedule::cell_limits::cell_limits;
 use sound_records::sound_record;
 ghost use mathlib.Core.Path.{_≡_};
 ghost use Prim.Native.Nat.{_<_};
@@ -19,7 +18,6 @@ ghost use Rattle.fields.specs.Records.{nextRecord};
 ghost use Rattle.notes.specs.Inner.Notes.{notedAs, notedBefore};
 ghost use Rattle.scan.specs.Inner.Scans.{Visited};
 ghost use Rattle.record_verdicts.specs.Inner.PlainVerdicts.{firstPlain, plainsVerdict};
-ghost use Rattle.sound_records.specs.Inner.SoundRecords.{cellLimits};
 
 // The answer on the records by all tests but 16, and the offset of the first faulty one: the input's length where none is.
 pub struct Scanned {
@@ -44,10 +42,9 @@ pub fn scan(
     *cells = [s.len(); CELLS];
     *counting = [s.len(); CELLS];
     *falling = [false; BLOCKS];
-    let limits = cell_limits();
     let mut at = 0;
     while at < s.len() {
-        let answer = visit(s, at, sheets, cells, counting, falling, &limits);
+        let answer = visit(s, at, sheets, cells, counting, falling);
         if number(answer) != 0 {
             return Scanned { answer, end: at };
         }
@@ -67,12 +64,11 @@ fn visit(
     cells: &mut [usize; CELLS],
     counting: &mut [usize; CELLS],
     falling: &mut [bool; BLOCKS],
-    limits: &[u64; CELLS],
 ) -> Answer
-    requires { ⌜ (at < length (now s)) × (notedAs (now sheets) (now cells) (now counting) (now falling) ≡ notedBefore (now s) at) × (now limits ≡ cellLimits) ⌝ }
+    requires { ⌜ (at < length (now s)) × (notedAs (now sheets) (now cells) (now counting) (now falling) ≡ notedBefore (now s) at) ⌝ }
     ensures { λ r. ⌜ Visited (now (s .entry)) at r (notedAs (now (sheets .exit)) (now (cells .exit)) (now (counting .exit)) (now (falling .exit))) ⌝ }
 {
-    if sound_record(s, at, cells, limits) {
+    if sound_record(s, at, cells) {
         note_named(s, at, cells, counting, falling);
         return Answer::Accepted;
     }

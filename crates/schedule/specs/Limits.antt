@@ -66,11 +66,10 @@ edgeLimit = 65535
 abbrev pub withdrawalLimit : ℕ
 withdrawalLimit = 600
 
--- the largest value of a class, as filed. An unused cell takes any 8-byte value
-unfoldable pub classLimit : ℕ → ℕ
-classLimit class =
-    getD
-    (0
+-- the largest value of each class, as filed. An unused cell takes any 8-byte value
+abbrev pub classLimits : List ℕ
+classLimits =
+    0
     ∷ balanceLimit
     ∷ filedCouponLimit
     ∷ monthsLimit
@@ -78,8 +77,10 @@ classLimit class =
     ∷ penaltyLimit
     ∷ totalLimit
     ∷ (2 ^ 64 - 1)
-    ∷ [])
-    class 0
+    ∷ []
+
+unfoldable pub classLimit : ℕ → ℕ
+classLimit class = getD classLimits class 0
 
 -- the largest value of a class in what a filing says: a coupon is in thousandths there
 unfoldable pub heldLimit : ℕ → ℕ

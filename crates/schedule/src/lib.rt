@@ -1,5 +1,4 @@
 // Schedule CMR: its cells, their classes and limits, and the rate scenarios.
-pub mod cell_limits;
 pub mod limits;
 pub mod positions;
 pub mod scenarios;

@@ -1,6 +1,6 @@
 // The nine positions of Schedule CMR, 0 to 8 by ascending balance cell. The check tests the tables against the definitions.
 use crate::Position;
-use crate::tables::entry_at;
+use crate::tables::within;
 ghost use mathlib.Core.Path.{_≡_};
 ghost use Rattle.schedule.specs.Cells as specs;
 ghost use Rattle.schedule.specs.Cells.{positionAt, withinRow};
@@ -40,10 +40,12 @@ fn position_of(row: usize, column: usize, balance: usize, coupon: usize, months:
 pub fn within_row(row: usize, months: u64) -> bool
     ensures { λ r. ⌜ r ≡ withinRow row months ⌝ }
 {
-    let least = entry_at(&[0, 1, 4, 13, 37], row);
-    let most = entry_at(&[0, 3, 12, 36, 120], row);
-    if months < least {
-        return false;
+    match row {
+        0 => within(0, 0, months),
+        1 => within(1, 3, months),
+        2 => within(4, 12, months),
+        3 => within(13, 36, months),
+        4 => within(37, 120, months),
+        _ => within(0, 0, months),
     }
-    months <= most
 }

@@ -1,4 +1,5 @@
-// The class of a cell and the limit of a class, from tables that the check tests against the definitions.
+// The class of a cell and the limit of a class, from tables that the check tests against the definitions. Their numbers stand in the code: a constant array is
+// built anew at each read.
 use crate::FIRST_CELL;
 use crate::LAST_CELL;
 use crate::limits::BALANCE_LIMIT;
@@ -11,23 +12,12 @@ use crate::limits::UNUSED_LIMIT;
 ghost use mathlib.Core.Path.{_≡_};
 ghost use Prim.Native.Nat.{_<_};
 ghost use lib.ListN.{getD};
+ghost use Rattle.lists.specs.Ranges.{within};
 ghost use Rattle.schedule.specs.Limits.{cellClass, classLimit};
 ghost use Rattle.schedule.specs.Inner.Classes.{sixteenClasses};
 
 // The class of a coupon.
 pub const COUPON_CLASS: usize = 2;
-
-// The largest value of each class, as filed.
-const LIMITS: [u64; 8] = [
-    0,
-    BALANCE_LIMIT,
-    FILED_COUPON_LIMIT,
-    MONTHS_LIMIT,
-    COLUMN_LIMIT,
-    PENALTY_LIMIT,
-    TOTAL_LIMIT,
-    UNUSED_LIMIT,
-];
 
 // The class of a cell: 0 where it is not listed.
 pub fn cell_class(cell: u64) -> usize
@@ -43,7 +33,7 @@ pub fn cell_class(cell: u64) -> usize
     ((sixteen_classes(i / 16) >> (4 * (i % 16))) % 16) as usize
 }
 
-// The classes of sixteen cells, a hexadecimal digit each, the lowest cell's last. The numbers stand in the code: a constant array is built anew at each read.
+// The classes of sixteen cells, a hexadecimal digit each, the lowest cell's last.
 fn sixteen_classes(part: u64) -> u64
     requires { ⌜ part < 4 ⌝ }
     ensures { λ r. ⌜ r ≡ sixteenClasses part ⌝ }
@@ -56,11 +46,21 @@ fn sixteen_classes(part: u64) -> u64
     }
 }
 
-// The largest value of a class, as filed.
+// The largest value of a class, as filed: 0 of one that no listed cell has.
 pub fn class_limit(class: usize) -> u64
     ensures { λ r. ⌜ r ≡ classLimit class ⌝ }
 {
-    entry_at(&LIMITS, class)
+    match class {
+        0 => 0,
+        1 => BALANCE_LIMIT,
+        2 => FILED_COUPON_LIMIT,
+        3 => MONTHS_LIMIT,
+        4 => COLUMN_LIMIT,
+        5 => PENALTY_LIMIT,
+        6 => TOTAL_LIMIT,
+        7 => UNUSED_LIMIT,
+        _ => 0,
+    }
 }
 
 // The entry at an index of a table: 0 past its end.
@@ -68,4 +68,14 @@ pub fn entry_at(table: &[u64], i: usize) -> u64
     ensures { λ r. ⌜ r ≡ getD (now (table .entry)) i 0 ⌝ }
 {
     if i < table.len() { table[i] } else { 0 }
+}
+
+// A number is one of least to most.
+pub fn within(least: u64, most: u64, x: u64) -> bool
+    ensures { λ r. ⌜ r ≡ within least most x ⌝ }
+{
+    if x < least {
+        return false;
+    }
+    x <= most
 }

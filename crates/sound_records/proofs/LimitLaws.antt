@@ -1,26 +1,21 @@
--- The limit of a cell says whether it is listed, and whether it is a coupon.
+-- The limit of a cell says whether it is listed.
 -- Assumes nothing.
-use Prim.Native.Nat.{ℕ, _+_, _-_, _≤_, _<_}
-use native.Mathlib.Omega.{arith}
-use mathlib.Core.Path.{_≡_, refl, sym, ap, _∙_}
+use Prim.Native.Nat.{ℕ, _-_}
+use mathlib.Core.Path.{_≡_, refl, sym, _∙_}
 use mathlib.Core.Bool.{Bool, true, false, cond}
-use mathlib.Core.Logic.{inl, inr}
 use mathlib.Core.List.{List, [], _∷_, map}
 use borrow.Author.Tests.{eqb-true, eq-eqb}
 use lib.Dec.{eqb}
-use lib.ListN.{getD}
 use Rattle.lists.specs.Tables.{contains}
-use Rattle.lists.proofs.TableLaws.{tableFrom-getD}
 use Rattle.lists.proofs.TestLaws.{either}
 use Rattle.schedule.specs.declared.Position.{Position}
-use Rattle.schedule.specs.Cells.{firstCell, cellCount, positions, brokeredCell, penaltyBalanceCell, penaltyMonthsCell, totalCell, unusedCells}
-use Rattle.schedule.specs.Limits.{couponClass, filedCouponLimit, couponLimit, cellClass, classLimit}
-use Rattle.schedule.proofs.ClassLaws.{class-outside}
+use Rattle.schedule.specs.Cells.{positions, brokeredCell, penaltyBalanceCell, penaltyMonthsCell, totalCell, unusedCells}
+use Rattle.schedule.specs.Limits.{couponClass, couponLimit, cellClass, classLimit}
 use Rattle.fields.specs.Records.{recordKind, recordCell}
 use Rattle.records.specs.Kinds.{fineCouponKind, amendmentKind}
 use Rattle.records.specs.Items.{recordClass}
 use Rattle.bodies.specs.Bodies.{valueLimit}
-use Rattle.sound_records.specs.Inner.SoundRecords.{cellLimits, mostIn}
+use Rattle.sound_records.specs.Inner.SoundRecords.{mostIn}
 
 -- what holds of each class holds of the class of a cell
 of-class : (P : ℕ → Type 0) → P 0 → P 1 → P 2 → P 3 → P 4 → P 5 → P 6 → P 7 → (cell : ℕ) → P (cellClass cell)
@@ -38,31 +33,9 @@ of-class P p0 p1 p2 p3 p4 p5 p6 p7 cell =
     columns : List ℕ
     columns = 1 ∷ 2 ∷ 3 ∷ []
 
-pub limit-listed : (cell : ℕ) → eqb (classLimit (cellClass cell)) 0 ≡ eqb (cellClass cell) 0
+limit-listed : (cell : ℕ) → eqb (classLimit (cellClass cell)) 0 ≡ eqb (cellClass cell) 0
 unfolding classLimit
 limit-listed = of-class (λ (class : ℕ). eqb (classLimit class) 0 ≡ eqb class 0) refl refl refl refl refl refl refl refl
-
-pub limit-coupon : (cell : ℕ) → eqb (classLimit (cellClass cell)) filedCouponLimit ≡ eqb (cellClass cell) couponClass
-unfolding classLimit
-limit-coupon = of-class (λ (class : ℕ). eqb (classLimit class) filedCouponLimit ≡ eqb class couponClass) refl refl refl refl refl refl refl refl
-
--- a cell outside the table is not listed
-pub limit-below : (cell : ℕ) → cell < firstCell → 0 ≡ classLimit (cellClass cell)
-unfolding classLimit
-limit-below cell h = rw (class-outside cell (inl h))
-
-pub limit-above : (cell : ℕ) → firstCell + cellCount ≤ cell → 0 ≡ classLimit (cellClass cell)
-unfolding classLimit
-limit-above cell h = rw (class-outside cell (inr h))
-
--- the table's entry of a cell
-pub limit-read : (limits : List ℕ) (cell : ℕ) → limits ≡ cellLimits → firstCell ≤ cell → cell < firstCell + cellCount
-    → getD limits (cell - firstCell) 0 ≡ classLimit (cellClass cell)
-limit-read limits cell is l u =
-    let index : firstCell + (cell - firstCell) ≡ cell = omega arith in
-    ap (λ (list : List ℕ). getD list (cell - firstCell) 0) is
-    ∙ tableFrom-getD firstCell cellCount (λ (n : ℕ). classLimit (cellClass n)) (cell - firstCell) 0 (omega arith)
-    ∙ ap (λ (n : ℕ). classLimit (cellClass n)) index
 
 -- the largest value of a record's cell is 0 just where the cell is not listed for its kind
 module _ (s : List ℕ) (at : ℕ) where

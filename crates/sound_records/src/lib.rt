@@ -1,8 +1,7 @@
-// The sound records of cells and of amendments, the most frequent ones, told at once by the limits of the cells.
+// The sound records of cells and of amendments, the most frequent ones, told at once.
 
 mod limits;
 
-use crate::limits::limit_in;
 use crate::limits::most_in;
 use fields::field_within;
 use records::kinds::AMENDMENT_KIND;
@@ -10,6 +9,8 @@ use records::kinds::FINE_COUPON_KIND;
 use records::kinds::gives_cell;
 use schedule::CELLS;
 use schedule::FIRST_CELL;
+use schedule::tables::cell_class;
+use schedule::tables::class_limit;
 ghost use mathlib.Core.Path.{_≡_};
 ghost use mathlib.Core.Bool.{true, cond, not};
 ghost use Prim.Native.Nat.{_+_, _≤_};
@@ -18,11 +19,11 @@ ghost use lib.ListN.{length};
 ghost use Rattle.fields.specs.Records.{recordKind};
 ghost use Rattle.records.specs.Kinds.{fineCouponKind, amendmentKind, givesCell};
 ghost use Rattle.notes.specs.Inner.Notes.{notedBefore};
-ghost use Rattle.sound_records.specs.Inner.SoundRecords.{soundNamed, cellLimits};
+ghost use Rattle.sound_records.specs.Inner.SoundRecords.{soundNamed};
 
 // A record of kind 1, 6 or 7 that has no fault but perhaps 16.
-pub fn sound_record(s: &[u8], at: usize, cells: &[usize; CELLS], limits: &[u64; CELLS]) -> bool
-    requires { ⌜ (now cells ≡ notedBefore (now s) at .cells) × (now limits ≡ cellLimits) ⌝ }
+pub fn sound_record(s: &[u8], at: usize, cells: &[usize; CELLS]) -> bool
+    requires { ⌜ now cells ≡ notedBefore (now s) at .cells ⌝ }
     ensures { λ r. ⌜ r ≡ soundNamed (now (s .entry)) at ⌝ }
 {
     if s.len() < 14 {
@@ -33,31 +34,25 @@ pub fn sound_record(s: &[u8], at: usize, cells: &[usize; CELLS], limits: &[u64; 
     }
     let kind = field_within(s, at, 2, 2) as usize;
     if kind == AMENDMENT_KIND {
-        return sound_amendment(s, at, limits);
+        return sound_amendment(s, at);
     }
     if !gives_cell(kind) {
         return false;
     }
-    sound_value(s, at, kind == FINE_COUPON_KIND, cells, limits)
+    sound_value(s, at, kind == FINE_COUPON_KIND, cells)
 }
 
 // The same of a record of kind 1, or of kind 6 where `fine`, that may lie within the bytes.
-fn sound_value(
-    s: &[u8],
-    at: usize,
-    fine: bool,
-    cells: &[usize; CELLS],
-    limits: &[u64; CELLS],
-) -> bool
+fn sound_value(s: &[u8], at: usize, fine: bool, cells: &[usize; CELLS]) -> bool
     requires { ⌜ (at + 14 ≤ length (now s)) × (givesCell (recordKind (now s) at) ≡ true) × (fine ≡ eqb (recordKind (now s) at) fineCouponKind) ⌝ }
-    requires { ⌜ (now cells ≡ notedBefore (now s) at .cells) × (now limits ≡ cellLimits) ⌝ }
+    requires { ⌜ now cells ≡ notedBefore (now s) at .cells ⌝ }
     ensures { λ r. ⌜ r ≡ soundNamed (now (s .entry)) at ⌝ }
 {
     if field_within(s, at, 0, 2) != 12 {
         return false;
     }
     let cell = field_within(s, at, 4, 2);
-    let limit = most_in(limits, cell, fine);
+    let limit = most_in(cell, fine);
     if limit == 0 {
         return false;
     }
@@ -69,8 +64,8 @@ fn sound_value(
 }
 
 // The same of an amendment.
-fn sound_amendment(s: &[u8], at: usize, limits: &[u64; CELLS]) -> bool
-    requires { ⌜ (at + 14 ≤ length (now s)) × (recordKind (now s) at ≡ amendmentKind) × (now limits ≡ cellLimits) ⌝ }
+fn sound_amendment(s: &[u8], at: usize) -> bool
+    requires { ⌜ (at + 14 ≤ length (now s)) × (recordKind (now s) at ≡ amendmentKind) ⌝ }
     ensures { λ r. ⌜ r ≡ soundNamed (now (s .entry)) at ⌝ }
 {
     if s.len() - at < 18 {
@@ -79,7 +74,7 @@ fn sound_amendment(s: &[u8], at: usize, limits: &[u64; CELLS]) -> bool
     if field_within(s, at, 0, 2) != 16 {
         return false;
     }
-    let limit = limit_in(limits, field_within(s, at, 4, 2));
+    let limit = class_limit(cell_class(field_within(s, at, 4, 2)));
     if limit == 0 {
         return false;
     }

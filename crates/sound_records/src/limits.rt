@@ -1,39 +1,22 @@
-// The largest value of a cell in a record, from the table of the cells' limits: 0 where the cell is not listed.
-use schedule::CELLS;
-use schedule::FIRST_CELL;
+// The largest value of a cell in a record of kind 1 or 6.
 use schedule::limits::COUPON_LIMIT;
-use schedule::limits::FILED_COUPON_LIMIT;
+use schedule::tables::COUPON_CLASS;
+use schedule::tables::cell_class;
+use schedule::tables::class_limit;
 ghost use mathlib.Core.Path.{_≡_};
-ghost use Rattle.schedule.specs.Limits.{cellClass, classLimit};
-ghost use Rattle.sound_records.specs.Inner.SoundRecords.{cellLimits, mostIn};
+ghost use Rattle.sound_records.specs.Inner.SoundRecords.{mostIn};
 
-// In a record of kind 1, or of kind 6 where `fine`: coupons alone, which are in thousandths there. The limit of a coupon is that of no other class.
-pub(crate) fn most_in(limits: &[u64; CELLS], cell: u64, fine: bool) -> u64
-    requires { ⌜ now limits ≡ cellLimits ⌝ }
+// In a record of kind 1, or of kind 6 where `fine`: coupons alone, which are in thousandths there. 0 where the cell is not listed for the kind.
+pub(crate) fn most_in(cell: u64, fine: bool) -> u64
     ensures { λ r. ⌜ r ≡ mostIn fine cell ⌝ }
 {
-    let limit = limit_in(limits, cell);
+    let class = cell_class(cell);
     if !fine {
-        return limit;
+        return class_limit(class);
     }
-    if limit == FILED_COUPON_LIMIT {
+    if class == COUPON_CLASS {
         COUPON_LIMIT
     } else {
         0
     }
-}
-
-// By the class of the cell.
-pub(crate) fn limit_in(limits: &[u64; CELLS], cell: u64) -> u64
-    requires { ⌜ now limits ≡ cellLimits ⌝ }
-    ensures { λ r. ⌜ r ≡ classLimit (cellClass cell) ⌝ }
-{
-    if cell < FIRST_CELL {
-        return 0;
-    }
-    if FIRST_CELL + (CELLS as u64) <= cell {
-        return 0;
-    }
-    let i = (cell - FIRST_CELL) as usize;
-    limits[i]
 }

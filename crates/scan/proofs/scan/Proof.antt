@@ -14,28 +14,25 @@ use Rattle.scan.proofs.scan.Statement.{statement}
 use Rattle.scan.proofs.scan.Tie as tie
 
 abbrev Inv-loop : tie.InvT-loop
-Inv-loop s sheets₀ cells₀ counting₀ falling₀ limits at₀ sheets cells counting falling at = Scanning s (notedAs sheets cells counting falling) at
+Inv-loop s sheets₀ cells₀ counting₀ falling₀ at₀ sheets cells counting falling at = Scanning s (notedAs sheets cells counting falling) at
 
 abbrev μ-loop : tie.MeasureT-loop
-μ-loop s sheets₀ cells₀ counting₀ falling₀ limits at₀ sheets cells counting falling at = length s - at
-
-cell-limits-requires : tie.Need-cell-limits-requires Inv-loop μ-loop
-cell-limits-requires c κs = search needs
+μ-loop s sheets₀ cells₀ counting₀ falling₀ at₀ sheets cells counting falling at = length s - at
 
 loop-holds : tie.Need-loop-holds Inv-loop μ-loop
 loop-holds c = scanning-start _
 
 visit-requires : tie.Need-visit-requires Inv-loop μ-loop
 visit-requires c κs =
-    let in-loop = c .before .before .before .before .before in
-    (in-loop .loop-test .taken, in-loop .before .loop .inv .noted-is, in-loop .before .before .cell-limits .ensures)
+    let in-loop = c .before .before .before .before in
+    (in-loop .loop-test .taken, in-loop .before .loop .inv .noted-is)
 
 number-requires : tie.Need-number-requires Inv-loop μ-loop
 number-requires c κs = search needs
 
 -- where the loop's test was reached before a visit
 abbrev tested : tie.After-visit Inv-loop μ-loop → tie.In-loop Inv-loop μ-loop
-tested c = c .before .before .before .before .before .before
+tested c = c .before .before .before .before .before
 
 returns : tie.Need-returns Inv-loop μ-loop
 unfolding verdictOf
@@ -52,7 +49,7 @@ next-of-requires c κs = tested (c .before .before) .loop-test .taken
 loop-less : tie.Need-loop-less Inv-loop μ-loop
 loop-less c =
     let in-loop = tested (c .before .before .before) in
-    omega (arith, next-lt (in-loop .before .before .before .before .before .before .before .before .args .s .now) (in-loop .before .loop .at), c .next-of .ensures, in-loop .loop-test .taken)
+    omega (arith, next-lt (in-loop .before .before .before .before .before .before .before .args .s .now) (in-loop .before .loop .at), c .next-of .ensures, in-loop .loop-test .taken)
 
 loop-again : tie.Need-loop-again Inv-loop μ-loop
 unfolding verdictOf
@@ -74,7 +71,6 @@ scan-spec =
     (tie.spec
     Inv-loop
     μ-loop
-    cell-limits-requires
     loop-holds
     visit-requires
     number-requires

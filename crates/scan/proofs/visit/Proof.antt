@@ -13,7 +13,7 @@ use Rattle.scan.proofs.visit.Statement.{statement}
 use Rattle.scan.proofs.visit.Tie as tie
 
 sound-record-requires : tie.Need-sound-record-requires
-sound-record-requires c κs = (ap (λ (n : Noted). n .cells) (c .before .before .pre .1), c .before .before .pre .2)
+sound-record-requires c κs = ap (λ (n : Noted). n .cells) (c .before .before .pre .1)
 
 note-named-requires : tie.Need-note-named-requires
 note-named-requires c κs =

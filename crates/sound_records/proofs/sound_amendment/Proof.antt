@@ -21,10 +21,12 @@ size-is c =
     let start = c .before .before .before in
     c .field-within .ensures ∙ ap (λ (i : ℕ). numberAt (start .args .s .now) i 2) (add-zero (start .args .at))
 
-limit-is : (c : tie.After-limit-in)
-    → c .limit-in .result
-    ≡ classLimit (cellClass (recordCell (c .before .before .before .before .before .before .args .s .now) (c .before .before .before .before .before .before .args .at)))
-limit-is c = c .limit-in .ensures ∙ ap (λ (n : ℕ). classLimit (cellClass n)) (c .before .field-within2 .ensures)
+limit-is : (c : tie.After-class-limit)
+    → c .class-limit .result
+    ≡ classLimit (cellClass (recordCell (c .before .before .before .before .before .before .before .args .s .now) (c .before .before .before .before .before .before .before .args .at)))
+limit-is c =
+    let class = c .before in
+    c .class-limit .ensures ∙ ap classLimit (class .cell-class .ensures ∙ ap cellClass (class .before .field-within2 .ensures))
 
 sub-if1 : tie.Need-sub-if1
 sub-if1 c = search needs
@@ -45,12 +47,15 @@ returns-2 c =
 field-within-requires-2 : tie.Need-field-within-requires-2
 field-within-requires-2 c κs = search needs
 
-limit-in-requires : tie.Need-limit-in-requires
-limit-in-requires c κs = search needs
+cell-class-requires : tie.Need-cell-class-requires
+cell-class-requires c κs = search needs
+
+class-limit-requires : tie.Need-class-limit-requires
+class-limit-requires c κs = search needs
 
 returns-3 : tie.Need-returns-3
 returns-3 c =
-    let start = c .before .before .before .before .before .before .before in
+    let start = c .before .before .before .before .before .before .before .before in
     not-told _ _ (λ t. class-limit _ _ (start .pre .1) (told-amendment _ _ (start .pre .1) t .listed) (sym (limit-is (c .before)) ∙ c .if3 .taken))
 
 field-within-requires-3 : tie.Need-field-within-requires-3
@@ -72,7 +77,7 @@ returns-4 c =
     let number = state .before in
     let known = number .before in
     let limit = known .before in
-    let size = limit .before .before in
+    let size = limit .before .before .before in
     let start = size .before .before .before .before in
     let amends = start .pre .1 in
     let is = fit-is _ _ amends (limit-is limit) (number .field-within3 .ensures) (state .field-within4 .ensures) (value .field-within5 .ensures) in
@@ -94,7 +99,8 @@ sound-amendment-spec =
     field-within-requires
     returns-2
     field-within-requires-2
-    limit-in-requires
+    cell-class-requires
+    class-limit-requires
     returns-3
     field-within-requires-3
     field-within-requires-4

@@ -56,7 +56,7 @@ noted-at : (c : tie.Else2)
     ≡ getD (notedBefore (bytes (c .before)) (offset (c .before)) .cells) (recordCell (bytes (c .before)) (offset (c .before)) - firstCell) 0
 noted-at c =
     let cell = c .before .before .field-within2 in
-    ap (λ (l : List ℕ). getD l (cell .result - firstCell) 0) (start-of (c .before) .pre .1 .0)
+    ap (λ (l : List ℕ). getD l (cell .result - firstCell) 0) (start-of (c .before) .pre .1)
     ∙ ap (λ (n : ℕ). getD (notedBefore (bytes (c .before)) (offset (c .before)) .cells) (n - firstCell) 0) (cell .ensures)
 
 field-within-requires : tie.Need-field-within-requires

@@ -3,8 +3,6 @@ use Prim.Native.Nat.{ℕ}
 use mathlib.Core.Bool.{Bool, cond, _&&_}
 use mathlib.Core.List.{List}
 use lib.Dec.{eqb}
-use Rattle.lists.specs.Tables.{tableFrom}
-use Rattle.schedule.specs.Cells.{firstCell, cellCount}
 use Rattle.schedule.specs.Limits.{couponClass, couponLimit, cellClass, classLimit}
 use Rattle.fields.specs.Records.{recordKind}
 use Rattle.records.specs.Kinds.{namesCell}
@@ -13,10 +11,6 @@ use Rattle.record_verdicts.specs.Inner.PlainVerdicts.{plainVerdict}
 -- a record of kind 1, 6 or 7 that no test but perhaps 16 refuses
 unfoldable pub soundNamed : List ℕ → ℕ → Bool
 soundNamed s at = namesCell (recordKind s at) && eqb (plainVerdict s at .number) 0
-
--- the largest values of cells 601 to 661 in a record of kind 1, 0 where a cell is not listed
-abbrev pub cellLimits : List ℕ
-cellLimits = tableFrom firstCell cellCount (λ (cell : ℕ). classLimit (cellClass cell))
 
 -- the largest value of a cell in a record of kind 1, or of kind 6 where `fine`; 0 where it is not listed for the kind
 unfoldable pub mostIn : Bool → ℕ → ℕ

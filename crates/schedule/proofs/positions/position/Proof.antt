@@ -1,9 +1,10 @@
 -- `position` meets its contract: each arm gives the definition's entry, and past the ninth nothing stands. Assumes nothing.
-use Prim.Native.Nat.{ℕ, suc, _≤_}
+use Prim.Native.Nat.{_≤_}
 use native.Mathlib.Omega.{arith}
 use borrow.Author.Needs.{needs}
-use mathlib.Core.Path.{_≡_, sym, ap, _∙_}
+use mathlib.Core.Path.{sym, ap, _∙_}
 use lib.ListN.{List·getD-eq-default}
+use Rattle.lists.proofs.RangeLaws.{above}
 use Rattle.schedule.specs.Cells.{position, positions, positionAt}
 use Rattle.schedule.proofs.positions.position.Statement.{statement}
 use Rattle.schedule.proofs.positions.position.Tie as tie
@@ -73,9 +74,6 @@ returns-8 c = c .position-of8 .ensures ∙ ap positionAt (sym (c .before .match 
 returns-9 : tie.Need-returns-9
 unfolding position positions positionAt
 returns-9 c = c .position-of9 .ensures ∙ ap positionAt (sym (c .before .match .keys9))
-
-above : {i : ℕ} (k : ℕ) → k ≤ i → (i ≡ k → ⊥) → suc k ≤ i
-above k l h = omega (arith, h)
 
 returns-10 : tie.Need-returns-10
 unfolding position positions positionAt

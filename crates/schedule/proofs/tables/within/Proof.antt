@@ -1,8 +1,8 @@
 -- `within` meets its contract. Assumes nothing.
 use borrow.Author.Tests.{lt-leb, le-leb}
 use Rattle.lists.specs.Ranges.{within}
-use Rattle.calendar.proofs.within.Statement.{statement}
-use Rattle.calendar.proofs.within.Tie as tie
+use Rattle.schedule.proofs.tables.within.Statement.{statement}
+use Rattle.schedule.proofs.tables.within.Tie as tie
 
 returns : tie.Need-returns
 unfolding within
