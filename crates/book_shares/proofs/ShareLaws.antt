@@ -18,9 +18,8 @@ use Rattle.lists.proofs.SumLaws.{sumWhere-ext}
 use Rattle.schedule.specs.Cells.{withinRow, totalCell}
 use Rattle.schedule.specs.Limits.{balanceLimit, couponLimit, penaltyLimit}
 use Rattle.answers.specs.Verdict.{accepted}
-use Rattle.contents.specs.declared.Contents.{Contents}
 use Rattle.decode.specs.Contents.{contentsOf}
-use Rattle.contents.specs.Contents.{cell}
+use Rattle.contents.specs.Contents.{Contents, cell}
 use Rattle.filing.specs.Verdict.{filingVerdict}
 use Rattle.contents.specs.Valid.{Valid}
 use Rattle.sub_balances.specs.declared.SubBalance.{SubBalance}

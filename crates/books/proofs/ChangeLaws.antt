@@ -7,7 +7,7 @@ use borrow.Author.Tests.{ltb-true}
 use Rattle.answers.specs.declared.Answer.the-variants.{Accepted, OutsidePlaceLimits}
 use Rattle.answers.specs.Answers.{verdictOf}
 use Rattle.answers.specs.Verdict.{Verdict, accepted, refused, refusedIf}
-use Rattle.contents.specs.declared.Contents.{Contents}
+use Rattle.contents.specs.Contents.{Contents}
 use Rattle.decode.specs.Contents.{contentsOf}
 use Rattle.filing.specs.Verdict.{filingVerdict}
 use Rattle.filing.proofs.ReadLaws.{contents-accepted}

@@ -12,7 +12,7 @@ use Rattle.lists.proofs.SumLaws.{sumWhere-ext, sumWhere-split}
 use Rattle.lists.proofs.TableLaws.{joined-getD}
 use Rattle.fraction.specs.Fraction.{Encloses}
 use Rattle.fraction.proofs.EnclosureLaws.{total-encloses}
-use Rattle.contents.specs.declared.Contents.{Contents}
+use Rattle.contents.specs.Contents.{Contents}
 use Rattle.decode.specs.Contents.{contentsOf}
 use Rattle.sub_balances.specs.PlaceOrder.{subBalanceCount, isShort, isLong}
 use Rattle.pricing.specs.Rounding.{down, up}

@@ -12,7 +12,7 @@ use Rattle.lists.proofs.TableLaws.{table-ext}
 use Rattle.lists.proofs.TestLaws.{and-true, either, entries-le}
 use Rattle.schedule.specs.Cells.{withinRow, leastMonths, mostMonths}
 use Rattle.schedule.specs.Limits.{balanceLimit, couponLimit, penaltyLimit, monthsLimit}
-use Rattle.contents.specs.declared.Contents.{Contents}
+use Rattle.contents.specs.Contents.{Contents}
 use Rattle.sub_balances.specs.PlaceOrder.{subBalanceCount, positionOf, withPenalty}
 use Rattle.sub_balances.specs.Places.{noPlace, noValues}
 use Rattle.pricing.specs.Scales.{valueScale}

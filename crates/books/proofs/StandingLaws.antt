@@ -12,7 +12,7 @@ use Rattle.lists.specs.Sums.{sumWhere, everywhere}
 use Rattle.lists.proofs.SumLaws.{sumWhere-ext}
 use Rattle.lists.proofs.TableLaws.{zeros-getD, table-length, table-getD, joined-le}
 use Rattle.schedule.specs.Limits.{balanceLimit}
-use Rattle.contents.specs.declared.Contents.{Contents}
+use Rattle.contents.specs.Contents.{Contents}
 use Rattle.contents.specs.Valid.{Valid}
 use Rattle.sub_balances.specs.declared.SubBalance.{SubBalance}
 use Rattle.sub_balances.specs.Places.{noPlace}

@@ -2,7 +2,7 @@
 use Prim.Native.Nat.{ℕ}
 use mathlib.Core.List.{List}
 use Rattle.schedule.specs.Limits.{monthsLimit}
-use Rattle.contents.specs.declared.Contents.{Contents}
+use Rattle.contents.specs.Contents.{Contents}
 use Rattle.filing.specs.Readings.{readContents}
 use Rattle.sub_balances.specs.declared.SubBalance.{SubBalance}
 use Rattle.pricing.specs.Rounding.{down, up}

@@ -4,11 +4,18 @@ use mathlib.Core.List.{List}
 use lib.ListN.{getD}
 use Rattle.schedule.specs.Shift.{pathRate}
 use Rattle.conditions.specs.Conditions.{cellIn}
-use Rattle.contents.specs.declared.Contents.{Contents}
 use Rattle.contents.specs.declared.FiledTiers.{FiledTiers}
 
--- what a filing says, of its parts: its cells (01:6-11), CD yields, retail rates (02:CR 3) and tiers (02:CR 1), in their own units. Nowhere else are they
--- put together
+-- what a filing says: the values of cells 601 to 661 (01:6-11), the CD yields of months 1 to 120, the retail rates of months 1 to 120 column by column
+-- (02:CR 3), and its tiers (02:CR 1). Cells are in their own units, coupons among them in thousandths of a percent a year (02:CR 4), yields and rates in
+-- hundredths
+pub record Contents : Type 0 where
+  pub cells : List ℕ
+  pub yields : List ℕ
+  pub rates : List ℕ
+  pub tiers : FiledTiers
+
+-- of its parts. Nowhere else are they put together
 abbrev pub contentsWith : List ℕ → List ℕ → List ℕ → FiledTiers → Contents
 contentsWith cells yields rates tiers = record { cells = cells; yields = yields; rates = rates; tiers = tiers }
 

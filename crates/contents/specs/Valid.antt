@@ -4,8 +4,7 @@ use Prim.Native.Nat.{ℕ, suc, _≤_, _<_}
 use lib.ListN.{getD}
 use Rattle.schedule.specs.Limits.{rateLimit, tierLimit, withdrawalLimit}
 use Rattle.conditions.specs.ValidCells.{ValidCells}
-use Rattle.contents.specs.declared.Contents.{Contents}
-use Rattle.contents.specs.Contents.{cdYield, retailRate}
+use Rattle.contents.specs.Contents.{Contents, cdYield, retailRate}
 
 -- j: a column; t: a month; i: a tier, from 0
 pub record Valid (k : Contents) : Type 0 where

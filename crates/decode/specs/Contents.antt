@@ -12,9 +12,8 @@ use Rattle.records.specs.Kinds.{yieldsKind, flatRatesKind, tiersKind, ratePathK
 use Rattle.records.specs.declared.items.Item.the-variants.{Sheet}
 use Rattle.records.specs.Items.{firstWith}
 use Rattle.notes.specs.Counting.{countingBefore}
-use Rattle.contents.specs.declared.Contents.{Contents}
 use Rattle.contents.specs.declared.FiledTiers.{FiledTiers}
-use Rattle.contents.specs.Contents.{contentsWith}
+use Rattle.contents.specs.Contents.{Contents, contentsWith}
 use Rattle.cell_amounts.specs.Amounts.{amountAt}
 
 -- the offset of the record that counts for a cell (02:CR 6), or the input's length where there is none

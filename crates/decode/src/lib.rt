@@ -1,8 +1,6 @@
 // What a filing says, read from the noted offsets of its records.
 use cell_amounts::amount_at;
-use contents::Contents;
 use contents::FiledTiers;
-use contents::NO_CONTENTS;
 use fields::holds_numbers;
 use fields::number_of;
 use fields::sheet_number;
@@ -14,6 +12,7 @@ use records::kinds::TIERS_KIND;
 use records::kinds::YIELDS_KIND;
 use schedule::CELLS;
 use schedule::limits::MONTHS;
+use schedule::limits::RATES;
 use schedule::limits::TIER_LIMIT;
 ghost use mathlib.Core.Path.{_≡_};
 ghost use mathlib.Core.Bool.{cond};
@@ -27,26 +26,27 @@ ghost use Rattle.fields.specs.Records.{sheetNumber};
 ghost use Rattle.records.specs.Kinds.{yieldsKind, flatRatesKind, ratePathKind};
 ghost use Rattle.notes.specs.Inner.Notes.{notedBefore};
 ghost use Rattle.record_verdicts.specs.RecordVerdicts.{firstFaulty};
+ghost use Rattle.contents.specs.Contents.{contentsWith};
 ghost use Rattle.decode.specs.Contents.{sheetOffset, rateCount, tierNumber, tiersAt, contentsOf};
 
-// What a filing says whose records are sound, from where all of them stand.
-pub fn contents_of(s: &[u8], sheets: &[usize; KINDS], counting: &[usize; CELLS]) -> Contents
+// Fills in the cells, yields and rates of a filing whose records are sound, from where all of them stand, and answers its tiers.
+pub fn fill_contents(
+    s: &[u8],
+    sheets: &[usize; KINDS],
+    counting: &[usize; CELLS],
+    cells: &mut [u64; CELLS],
+    yields: &mut [u16; MONTHS],
+    rates: &mut [u16; RATES],
+) -> FiledTiers
     requires { ⌜ firstFaulty (now s) ≡ length (now s) ⌝ }
     requires { ⌜ (now sheets ≡ notedBefore (now s) (length (now s)) .sheets) × (now counting ≡ notedBefore (now s) (length (now s)) .counting) ⌝ }
-    ensures { λ r. ⌜ r ≡ contentsOf (now (s .entry)) ⌝ }
+    requires { ⌜ (length (now cells) ≡ cellCount) × (length (now yields) ≡ monthsLimit) × (length (now rates) ≡ rateCount) ⌝ }
+    ensures { λ r. ⌜ contentsWith (now (cells .exit)) (now (yields .exit)) (now (rates .exit)) r ≡ contentsOf (now (s .entry)) ⌝ }
 {
-    let mut contents = NO_CONTENTS;
-    fill_cells(s, counting, &mut contents.cells);
-    fill_yields(s, sheets[YIELDS_KIND], &mut contents.yields);
-    fill_rates(
-        s,
-        sheets[FLAT_RATES_KIND],
-        sheets[RATE_PATH_KIND],
-        &mut contents.rates,
-    );
-    let tiers = tiers_at(s, sheets[TIERS_KIND]);
-    contents.tiers = tiers;
-    contents
+    fill_cells(s, counting, cells);
+    fill_yields(s, sheets[YIELDS_KIND], yields);
+    fill_rates(s, sheets[FLAT_RATES_KIND], sheets[RATE_PATH_KIND], rates);
+    tiers_at(s, sheets[TIERS_KIND])
 }
 
 // Fills in the values of cells 601 to 661, from the records that count for them.
@@ -83,7 +83,7 @@ fn fill_numbers(s: &[u8], at: usize, numbers: &mut [u16])
 }
 
 // Fills in the retail rates column by column, by the sheets of flat ones and of those by month.
-fn fill_rates(s: &[u8], flat: usize, path: usize, rates: &mut [u16; 360])
+fn fill_rates(s: &[u8], flat: usize, path: usize, rates: &mut [u16; RATES])
     requires { ⌜ (flat ≡ sheetOffset (now s) flatRatesKind) × (path ≡ sheetOffset (now s) ratePathKind) × (length (now rates) ≡ rateCount) ⌝ }
     ensures { λ _. ⌜ now (rates .exit) ≡ contentsOf (now (s .entry)) .rates ⌝ }
 {
@@ -95,24 +95,24 @@ fn fill_rates(s: &[u8], flat: usize, path: usize, rates: &mut [u16; 360])
 }
 
 // Fills in the retail rates of a sheet of flat ones: each in the 120 months of its column.
-fn fill_flat(s: &[u8], flat: usize, rates: &mut [u16; 360])
+fn fill_flat(s: &[u8], flat: usize, rates: &mut [u16; RATES])
     ensures { λ _. ⌜ now (rates .exit) ≡ table rateCount (λ i. sheetNumber (now (s .entry)) flat (i / monthsLimit + 1)) ⌝ }
 {
     let first = sheet_number(s, flat, 1);
     let second = sheet_number(s, flat, 2);
     let third = sheet_number(s, flat, 3);
-    *rates = [first; 360];
+    *rates = [first; RATES];
     fill_from(rates, 120, second);
     fill_from(rates, 240, third);
 }
 
 // Fills in a rate from an index on.
-fn fill_from(rates: &mut [u16; 360], from: usize, rate: u16)
+fn fill_from(rates: &mut [u16; RATES], from: usize, rate: u16)
     requires { ⌜ (from ≤ rateCount) × (length (now rates) ≡ rateCount) ⌝ }
     ensures { λ _. ⌜ now (rates .exit) ≡ table rateCount (λ i. cond (ltb i from) (getD (now (rates .entry)) i 0) rate) ⌝ }
 {
     let mut i = from;
-    while i < 360 {
+    while i < RATES {
         rates[i] = rate;
         i += 1;
     }

@@ -3,6 +3,7 @@ mod prices;
 pub mod values;
 
 use early_months::Levels;
+use schedule::limits::RATES;
 
 // A deposit as its cash flows see it: coupon in thousandths of a percent a year, penalty in hundredths of a month, remaining months.
 pub struct Deposit {
@@ -13,7 +14,7 @@ pub struct Deposit {
 }
 
 // Retail rates in hundredths of a percent a year: of months 1 to 120 of column 1, then of column 2, then of column 3.
-pub type RatePaths = [u16; 360];
+pub type RatePaths = [u16; RATES];
 
 // Room for the levels of a deposit's months.
 pub type MonthLevels = Levels;

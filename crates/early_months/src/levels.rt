@@ -6,6 +6,7 @@ use month_levels::level_survival;
 use month_levels::month_levels;
 use month_multipliers::multipliers_of;
 use schedule::limits::MONTHS;
+use schedule::limits::RATES;
 use schedule::limits::TIER_LIMIT;
 ghost use Prim.Native.Nat.{ℕ, _≤_};
 ghost use mathlib.Core.Path.{_≡_};
@@ -23,7 +24,7 @@ pub fn early_levels(
     coupon: u64,
     penalty: u64,
     months: u64,
-    rates: &[u16; 360],
+    rates: &[u16; RATES],
     column: usize,
     count: usize,
     edges: &[u64; TIER_LIMIT],

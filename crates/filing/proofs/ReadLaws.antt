@@ -4,13 +4,18 @@ use Prim.Native.Nat.{ℕ}
 use mathlib.Core.Path.{_≡_, sym, ap, _∙_}
 use mathlib.Core.List.{List}
 use borrow.Author.Tests.{eq-eqb, ne-eqb}
+use lib.ListN.{length}
+use Rattle.lists.proofs.TableLaws.{table-length}
+use Rattle.schedule.specs.Cells.{cellCount}
+use Rattle.schedule.specs.Limits.{monthsLimit}
 use Rattle.answers.specs.declared.Answer.{Answer}
 use Rattle.answers.specs.Verdict.{Verdict, firstRefusal}
 use Rattle.answers.specs.Answers.{numberOf, verdictOf}
 use Rattle.answers.proofs.VerdictLaws.{first-passed, first-refused}
 use Rattle.record_verdicts.specs.RecordVerdicts.{recordsVerdict}
 use Rattle.conditions.specs.Inner.Sums.{columnSums}
-use Rattle.decode.specs.Contents.{contentsOf}
+use Rattle.contents.specs.Contents.{contentsWith}
+use Rattle.decode.specs.Contents.{rateCount, contentsOf}
 use Rattle.filing.specs.declared.Reading.{Reading}
 use Rattle.filing.specs.Verdict.{sheetVerdict, contentsVerdict, filingVerdict}
 use Rattle.filing.specs.Readings.{emptyContents, readContents}
@@ -40,11 +45,19 @@ module _ (s : List ℕ) where
   contents-accepted h = sym (simp (eq-eqb (filingVerdict s .number) 0 h))
 
   -- a refusal with the filing's verdict gives zeros
-  pub refused-reading : (r : Reading) (a : Answer) → (r .answer ≡ a) × (r .contents ≡ emptyContents) × (r .sums ≡ columnSums (r .contents .cells))
+  pub refused-reading : (cells yields rates : List ℕ) (r : Reading) (a : Answer)
+      → (cells ≡ emptyContents .cells) × (yields ≡ emptyContents .yields) × (rates ≡ emptyContents .rates)
+      → (r .answer ≡ a) × (r .tiers ≡ emptyContents .tiers) × (r .sums ≡ columnSums (emptyContents .cells))
       → verdictOf a ≡ filingVerdict s
       → (numberOf a ≡ 0 → ⊥)
-      → (verdictOf (r .answer) ≡ filingVerdict s) × ((r .contents ≡ readContents s) × (r .sums ≡ columnSums (r .contents .cells)))
+      → (verdictOf (r .answer) ≡ filingVerdict s) × ((contentsWith cells yields rates (r .tiers) ≡ readContents s) × (r .sums ≡ columnSums cells))
   unfolding verdictOf readContents
-  refused-reading r a e v h =
+  refused-reading cells yields rates r a zeros e v h =
       let refused = ne-eqb (filingVerdict s .number) 0 (λ z. h (ap (λ (u : Verdict). u .number) v ∙ z)) in
-      (ap verdictOf (e .0) ∙ v, (e .1 ∙ sym (simp refused), e .2))
+      (ap verdictOf (e .0) ∙ v, (rw (zeros .0, zeros .1, zeros .2, e .1, refused), e .2 ∙ ap columnSums (sym (zeros .0))))
+
+-- zeros for each cell, for each month, and for each month of each column
+pub empty-lengths : (cells yields rates : List ℕ) → (cells ≡ emptyContents .cells) × (yields ≡ emptyContents .yields) × (rates ≡ emptyContents .rates)
+    → (length cells ≡ cellCount) × (length yields ≡ monthsLimit) × (length rates ≡ rateCount)
+unfolding emptyContents contentsOf
+empty-lengths cells yields rates zeros = (ap length (zeros .0) ∙ table-length _ _ _, ap length (zeros .1) ∙ table-length _ _ _, ap length (zeros .2) ∙ table-length _ _ _)

@@ -7,7 +7,7 @@ use Rattle.answers.specs.declared.Answer.{Answer}
 use Rattle.answers.specs.Verdict.{Verdict}
 use Rattle.answers.specs.Answers.{numberOf, verdictOf}
 use Rattle.answers.proofs.AnswerLaws.{accepted-answer}
-use Rattle.contents.specs.declared.Contents.{Contents}
+use Rattle.contents.specs.Contents.{Contents}
 use Rattle.decode.specs.Contents.{contentsOf}
 use Rattle.filing.specs.Verdict.{filingVerdict}
 use Rattle.filing.specs.Readings.{readContents}

@@ -10,7 +10,7 @@ use Rattle.answers.specs.Verdict.{Verdict, accepted, refusedIf, firstRefusal}
 use Rattle.records.specs.Kinds.{yieldsKind, flatRatesKind, ratePathKind}
 use Rattle.record_verdicts.specs.RecordVerdicts.{recordsVerdict}
 use Rattle.conditions.specs.CellVerdicts.{cellsVerdict}
-use Rattle.contents.specs.declared.Contents.{Contents}
+use Rattle.contents.specs.Contents.{Contents}
 use Rattle.decode.specs.Contents.{sheetOffset, contentsOf}
 
 -- 6: kind 2 is missing, or both of kinds 3 and 5

@@ -9,39 +9,52 @@ use answers::number;
 use conditions::ColumnSums;
 use conditions::NO_SUMS;
 use conditions::check_cells;
-use contents::Contents;
-use contents::NO_CONTENTS;
-use decode::contents_of;
+use contents::FiledTiers;
+use contents::NO_TIERS;
+use decode::fill_contents;
 use notes::BLOCKS;
 use records::KINDS;
 use schedule::CELLS;
+use schedule::limits::MONTHS;
+use schedule::limits::RATES;
 ghost use mathlib.Core.Path.{_≡_};
 ghost use lib.ListN.{length};
 ghost use Rattle.answers.specs.Answers.{verdictOf};
 ghost use Rattle.notes.specs.Inner.Notes.{notedBefore};
 ghost use Rattle.record_verdicts.specs.RecordVerdicts.{recordsVerdict};
+ghost use Rattle.schedule.specs.Cells.{cellCount};
+ghost use Rattle.schedule.specs.Limits.{monthsLimit};
+ghost use Rattle.contents.specs.Contents.{contentsWith};
+ghost use Rattle.decode.specs.Contents.{rateCount};
 ghost use Rattle.conditions.specs.Inner.Sums.{columnSums};
 ghost use Rattle.filing.specs.Verdict.{sheetVerdict, filingVerdict};
 ghost use Rattle.filing.specs.Readings.{readContents, emptyContents};
 
-// The answer on a filing, what the filing says, and the sums of its columns: on a refusal all numbers are 0.
+// The answer on a filing, its tiers, and the sums of its columns: on a refusal all numbers are 0.
 pub struct Reading {
     pub answer: Answer,
-    pub contents: Contents,
+    pub tiers: FiledTiers,
     pub sums: ColumnSums,
 }
 
-// Reads a filing: its records front to back, then the sheets that must be there, then the conditions on what it says.
-pub fn read(filing: &[u8]) -> Reading
+// Reads a filing: its records front to back, then the sheets that must be there, then the conditions on what it says. The lent arrays hold what it says, and
+// zeros on a refusal.
+pub fn read(
+    filing: &[u8],
+    cells: &mut [u64; CELLS],
+    yields: &mut [u16; MONTHS],
+    rates: &mut [u16; RATES],
+) -> Reading
     ensures { λ r. ⌜ verdictOf (r .answer) ≡ filingVerdict (now (filing .entry)) ⌝ }
-    ensures { λ r. ⌜ r .contents ≡ readContents (now (filing .entry)) ⌝ }
-    ensures { λ r. ⌜ r .sums ≡ columnSums (r .contents .cells) ⌝ }
+    ensures { λ r. ⌜ contentsWith (now (cells .exit)) (now (yields .exit)) (now (rates .exit)) (r .tiers) ≡ readContents (now (filing .entry)) ⌝ }
+    ensures { λ r. ⌜ r .sums ≡ columnSums (now (cells .exit)) ⌝ }
 {
+    clear(cells, yields, rates);
     let mut sheets = [0; KINDS];
-    let mut cells = [0; CELLS];
+    let mut noted = [0; CELLS];
     let mut counting = [0; CELLS];
     let mut falling = [false; BLOCKS];
-    let checked = check_records(filing, &mut sheets, &mut cells, &mut counting, &mut falling);
+    let checked = check_records(filing, &mut sheets, &mut noted, &mut counting, &mut falling);
     let records = checked.answer;
     if number(records) != 0 {
         return refusal(records);
@@ -50,38 +63,56 @@ pub fn read(filing: &[u8]) -> Reading
     if number(missing) != 0 {
         return refusal(missing);
     }
-    read_contents(filing, &sheets, &counting)
+    read_contents(filing, &sheets, &counting, cells, yields, rates)
 }
 
 // Reads what a filing says whose records are sound and whose sheets are there.
-fn read_contents(filing: &[u8], sheets: &[usize; KINDS], counting: &[usize; CELLS]) -> Reading
+fn read_contents(
+    filing: &[u8],
+    sheets: &[usize; KINDS],
+    counting: &[usize; CELLS],
+    cells: &mut [u64; CELLS],
+    yields: &mut [u16; MONTHS],
+    rates: &mut [u16; RATES],
+) -> Reading
     requires { ⌜ (recordsVerdict (now filing) .number ≡ 0) × (sheetVerdict (now filing) .number ≡ 0) ⌝ }
     requires { ⌜ (now sheets ≡ notedBefore (now filing) (length (now filing)) .sheets) × (now counting ≡ notedBefore (now filing) (length (now filing)) .counting) ⌝ }
+    requires { ⌜ (length (now cells) ≡ cellCount) × (length (now yields) ≡ monthsLimit) × (length (now rates) ≡ rateCount) ⌝ }
     ensures { λ r. ⌜ verdictOf (r .answer) ≡ filingVerdict (now (filing .entry)) ⌝ }
-    ensures { λ r. ⌜ r .contents ≡ readContents (now (filing .entry)) ⌝ }
-    ensures { λ r. ⌜ r .sums ≡ columnSums (r .contents .cells) ⌝ }
+    ensures { λ r. ⌜ contentsWith (now (cells .exit)) (now (yields .exit)) (now (rates .exit)) (r .tiers) ≡ readContents (now (filing .entry)) ⌝ }
+    ensures { λ r. ⌜ r .sums ≡ columnSums (now (cells .exit)) ⌝ }
 {
-    let contents = contents_of(filing, sheets, counting);
-    let checked = check_cells(&contents.cells);
+    let tiers = fill_contents(filing, sheets, counting, cells, yields, rates);
+    let checked = check_cells(cells);
     let answer = checked.answer;
     if number(answer) != 0 {
+        clear(cells, yields, rates);
         return refusal(answer);
     }
     let sums = checked.sums;
     Reading {
         answer,
-        contents,
+        tiers,
         sums,
     }
 }
 
-// The reading of a refused filing: its contents are those of an empty one, all 0.
+// Leaves zeros, as an empty filing has.
+fn clear(cells: &mut [u64; CELLS], yields: &mut [u16; MONTHS], rates: &mut [u16; RATES])
+    ensures { λ _. ⌜ (now (cells .exit) ≡ emptyContents .cells) × (now (yields .exit) ≡ emptyContents .yields) × (now (rates .exit) ≡ emptyContents .rates) ⌝ }
+{
+    *cells = [0; CELLS];
+    *yields = [0; MONTHS];
+    *rates = [0; RATES];
+}
+
+// The reading of a refused filing: its tiers and sums are those of an empty one.
 fn refusal(answer: Answer) -> Reading
-    ensures { λ r. ⌜ (r .answer ≡ answer) × (r .contents ≡ emptyContents) × (r .sums ≡ columnSums (r .contents .cells)) ⌝ }
+    ensures { λ r. ⌜ (r .answer ≡ answer) × (r .tiers ≡ emptyContents .tiers) × (r .sums ≡ columnSums (emptyContents .cells)) ⌝ }
 {
     Reading {
         answer,
-        contents: NO_CONTENTS,
+        tiers: NO_TIERS,
         sums: NO_SUMS,
     }
 }

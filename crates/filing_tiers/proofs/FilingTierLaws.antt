@@ -10,7 +10,7 @@ use Rattle.lists.proofs.TestLaws.{either}
 use Rattle.withdrawal.specs.Tiers.{TierTable, Falling, Highest, tier, annualWithdrawal}
 use Rattle.withdrawal.proofs.FallingLaws.{house-falling, falling-from}
 use Rattle.withdrawal.proofs.HighestLaws.{highest-withdrawal}
-use Rattle.contents.specs.declared.Contents.{Contents}
+use Rattle.contents.specs.Contents.{Contents}
 use Rattle.contents.specs.declared.FiledTiers.{FiledTiers}
 use Rattle.contents.specs.Valid.{Valid}
 use Rattle.filing_tiers.specs.FilingTiers.{ownTiers, tiersOf, filingTiers}

@@ -12,7 +12,7 @@ use Rattle.answers.specs.declared.Answer.{Answer}
 use Rattle.answers.specs.Answers.{numberOf, locationOf, verdictOf}
 use Rattle.answers.specs.Verdict.{Verdict}
 use Rattle.answers.proofs.VerdictLaws.{list-long}
-use Rattle.contents.specs.declared.Contents.{Contents}
+use Rattle.contents.specs.Contents.{Contents}
 use Rattle.filing.specs.Verdict.{filingVerdict}
 use Rattle.valuation.specs.Numbers.{numberCount, scenarioTotals, numbers}
 use Rattle.valuation.specs.Promise.{verdictOn, listAfter, Valued}

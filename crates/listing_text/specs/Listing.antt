@@ -8,7 +8,7 @@ use lib.ListN.{length}
 use Rattle.lists.specs.Tables.{table, joined}
 use Rattle.schedule.specs.Shift.{scenarioCount}
 use Rattle.answers.specs.Verdict.{Verdict}
-use Rattle.contents.specs.declared.Contents.{Contents}
+use Rattle.contents.specs.Contents.{Contents}
 use Rattle.decode.specs.Contents.{contentsOf}
 use Rattle.filing.specs.Verdict.{filingVerdict}
 use Rattle.valuation.specs.Numbers.{scenarioTotals}

@@ -10,8 +10,7 @@ use lib.Dec.{lit<}
 use Rattle.fraction.specs.Fraction.{Encloses}
 use Rattle.schedule.specs.Limits.{balanceLimit}
 use Rattle.schedule.specs.Shift.{pathRate}
-use Rattle.contents.specs.declared.Contents.{Contents}
-use Rattle.contents.specs.Contents.{cdYield}
+use Rattle.contents.specs.Contents.{Contents, cdYield}
 use Rattle.contents.specs.Valid.{Valid}
 use Rattle.sub_balances.specs.declared.SubBalance.{SubBalance}
 use Rattle.sub_balances.specs.PlaceOrder.{positionOf}

@@ -4,7 +4,7 @@ use native.Mathlib.Omega.{arith}
 use Rattle.lists.proofs.TestLaws.{either}
 use Rattle.schedule.specs.Cells.{positionAt}
 use Rattle.schedule.specs.Limits.{penaltyLimit}
-use Rattle.contents.specs.declared.Contents.{Contents}
+use Rattle.contents.specs.Contents.{Contents}
 use Rattle.contents.specs.Valid.{Valid}
 use Rattle.shares.specs.Places.{placeAt}
 use Rattle.sub_balances.specs.PlaceOrder.{positionOf, withPenalty}

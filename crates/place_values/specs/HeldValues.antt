@@ -4,7 +4,7 @@ use mathlib.Core.List.{List, [], _∷_}
 use Rattle.lists.specs.Tables.{table, joined}
 use Rattle.fraction.specs.Fraction.{Fraction}
 use Rattle.schedule.specs.Shift.{scenarioCount}
-use Rattle.contents.specs.declared.Contents.{Contents}
+use Rattle.contents.specs.Contents.{Contents}
 use Rattle.sub_balances.specs.declared.SubBalance.{SubBalance}
 use Rattle.pricing.specs.Rounding.{Rounding, down, up}
 use Rattle.pricing.specs.Exact.{exactValue}

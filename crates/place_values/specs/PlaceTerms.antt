@@ -1,8 +1,7 @@
 -- The deposit at a place, from what the place holds, and its terms in each scenario (01:48-56) under what a filing says. Definitions only.
 use Prim.Native.Nat.{ℕ}
 use Rattle.schedule.specs.Shift.{shiftedRate}
-use Rattle.contents.specs.declared.Contents.{Contents}
-use Rattle.contents.specs.Contents.{cdYield, retailRate}
+use Rattle.contents.specs.Contents.{Contents, cdYield, retailRate}
 use Rattle.sub_balances.specs.declared.SubBalance.{SubBalance}
 use Rattle.sub_balances.specs.PlaceOrder.{positionOf, isBrokered}
 use Rattle.pricing.specs.Terms.{Terms}

@@ -20,10 +20,9 @@ use Rattle.faults.specs.Faults.{incomplete, standsBefore, sheetBefore, pathBesi
 use Rattle.record_verdicts.specs.RecordVerdicts.{shapeVerdict, bodyVerdict, recordVerdict, firstRefused, verdictBy}
 use Rattle.conditions.specs.Conditions.{cellIn, monthsOutside, columnBalances, balances, aboveColumn, totalDiffers}
 use Rattle.conditions.specs.CellVerdicts.{positionVerdict, monthsVerdict, columnVerdict, columnsVerdict, totalVerdict, cellsVerdict}
-use Rattle.contents.specs.declared.Contents.{Contents}
 use Rattle.cell_amounts.specs.Amounts.{filedValue, amountAt}
 use Rattle.decode.specs.Contents.{cellOffset, cellValue, sheetOffset, rateNumber, tierNumber, tiersAt, contentsOf}
-use Rattle.contents.specs.Contents.{cell}
+use Rattle.contents.specs.Contents.{Contents, cell}
 use Rattle.filing.specs.Verdict.{sheetMissing, sheetVerdict, filingVerdict}
 use Rattle.case_filings.specs.Filings.{bytes, filed, fined, amendment, complete, Case, gives}
 

@@ -21,10 +21,9 @@ use Rattle.faults.specs.Faults.{incomplete, standsBefore, sheetBefore, pathBesi
 use Rattle.record_verdicts.specs.RecordVerdicts.{shapeVerdict, bodyVerdict, recordVerdict, firstRefused, verdictBy}
 use Rattle.conditions.specs.Conditions.{cellIn, monthsOutside, columnBalances, balances, aboveColumn, totalDiffers}
 use Rattle.conditions.specs.CellVerdicts.{positionVerdict, monthsVerdict, columnVerdict, columnsVerdict, totalVerdict, cellsVerdict}
-use Rattle.contents.specs.declared.Contents.{Contents}
 use Rattle.cell_amounts.specs.Amounts.{filedValue, amountAt}
 use Rattle.decode.specs.Contents.{cellOffset, cellValue, sheetOffset, rateNumber, tierNumber, tiersAt, contentsOf}
-use Rattle.contents.specs.Contents.{cell, retailRate}
+use Rattle.contents.specs.Contents.{Contents, cell, retailRate}
 use Rattle.filing.specs.Verdict.{sheetMissing, sheetVerdict, filingVerdict}
 use Rattle.case_filings.specs.Filings.{bytes, filed, yieldSheet, rateSheet, pathSheet, fined, complete, Case, gives}
 

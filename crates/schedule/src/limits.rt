@@ -13,8 +13,11 @@ pub const FILED_COUPON_LIMIT: u64 = 1_500;
 
 pub const COUPON_LIMIT: u64 = 15_000;
 
-// Of remaining months, also as the length of an array with an entry for each month, and of a penalty in hundredths of a month.
+// Of remaining months, also as the length of an array with an entry for each month, or for each month of the three columns, and of a penalty in hundredths
+// of a month.
 pub const MONTHS: usize = 120;
+
+pub const RATES: usize = 360;
 
 pub const MONTHS_LIMIT: u64 = MONTHS as u64;
 

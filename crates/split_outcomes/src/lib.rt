@@ -2,6 +2,9 @@
 use answers::Answer;
 use answers::number;
 use filing::read;
+use schedule::CELLS;
+use schedule::limits::MONTHS;
+use schedule::limits::RATES;
 use shares::places::places_of;
 use sub_balances::NO_PLACE;
 use sub_balances::SubBalance;
@@ -24,13 +27,16 @@ pub fn outcome_of(filing: &[u8], size: usize) -> Outcome
     if size < 36 {
         return refusal(Answer::ListTooShort(size));
     }
-    let reading = read(filing);
+    let mut cells = [0; CELLS];
+    let mut yields = [0; MONTHS];
+    let mut rates = [0; RATES];
+    let reading = read(filing, &mut cells, &mut yields, &mut rates);
     let answer = reading.answer;
     if number(answer) != 0 {
         return refusal(answer);
     }
     let sums = reading.sums;
-    let places = places_of(&reading.contents.cells, sums);
+    let places = places_of(&cells, sums);
     Outcome {
         answer,
         places,

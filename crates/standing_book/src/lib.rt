@@ -9,7 +9,10 @@ use book_sheets::values_in;
 use discounts::fill_factors;
 use filing::read;
 use place_limits::fits;
+use schedule::CELLS;
+use schedule::limits::MONTHS;
 use schedule::limits::MONTHS_LIMIT;
+use schedule::limits::RATES;
 use sub_balances::NO_PLACE;
 use sub_balances::SubBalance;
 ghost use Rattle.books.specs.Changes.{setPlace, clearPlace};
@@ -19,17 +22,14 @@ ghost use Rattle.books.specs.Promise.{OpenedOf, ChangedOf};
 pub fn open(filing: &[u8]) -> Answered
     ensures { λ r. ⌜ OpenedOf (now (filing .entry)) r ⌝ }
 {
-    let reading = read(filing);
+    let mut cells = [0; CELLS];
+    let mut yields = [0; MONTHS];
+    let mut rates = [0; RATES];
+    let reading = read(filing, &mut cells, &mut yields, &mut rates);
     let mut lower = [0u64; 840];
     let mut upper = [0u64; 840];
-    fill_factors(
-        &reading.contents.yields,
-        MONTHS_LIMIT,
-        &mut lower,
-        &mut upper,
-    );
-    let rates = reading.contents.rates;
-    let tiers = reading.contents.tiers;
+    fill_factors(&yields, MONTHS_LIMIT, &mut lower, &mut upper);
+    let tiers = reading.tiers;
     let answer = reading.answer;
     let book = empty_book(rates, tiers, lower, upper);
     Answered { answer, book }

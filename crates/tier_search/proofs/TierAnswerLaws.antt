@@ -10,7 +10,7 @@ use Rattle.answers.specs.Answers.{numberOf, verdictOf}
 use Rattle.answers.specs.Verdict.{Verdict, accepted}
 use Rattle.answers.proofs.AnswerLaws.{accepted-answer}
 use Rattle.lists.proofs.TestLaws.{neither}
-use Rattle.contents.specs.declared.Contents.{Contents}
+use Rattle.contents.specs.Contents.{Contents}
 use Rattle.filing.specs.Readings.{readContents}
 use Rattle.filing.specs.Verdict.{filingVerdict, Accepted}
 use Rattle.filing.proofs.ReadingLaws.{reading-accepted}

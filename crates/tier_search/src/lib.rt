@@ -4,6 +4,9 @@ use answers::number;
 use filing::read;
 use filing_tiers::tiers_of;
 use reached_tiers::reached_tier;
+use schedule::CELLS;
+use schedule::limits::MONTHS;
+use schedule::limits::RATES;
 use withdrawal::Incentive;
 use withdrawal::ReachedTier;
 ghost use mathlib.Core.Path.{_≡_};
@@ -25,7 +28,10 @@ pub enum TierAnswer {
 pub fn tier_for(filing: &[u8], incentive: Incentive) -> TierAnswer
     ensures { λ r. ⌜ TierAnswered (now (filing .entry)) incentive r ⌝ }
 {
-    let reading = read(filing);
+    let mut cells = [0; CELLS];
+    let mut yields = [0; MONTHS];
+    let mut rates = [0; RATES];
+    let reading = read(filing, &mut cells, &mut yields, &mut rates);
     let answer = reading.answer;
     if number(answer) != 0 {
         return TierAnswer::Refused(answer);
@@ -33,7 +39,7 @@ pub fn tier_for(filing: &[u8], incentive: Incentive) -> TierAnswer
     if too_large(incentive) {
         return TierAnswer::TooLarge;
     }
-    let filed = reading.contents.tiers;
+    let filed = reading.tiers;
     TierAnswer::Reached(reached_tier(tiers_of(filed), incentive))
 }
 

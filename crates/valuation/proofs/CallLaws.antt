@@ -10,7 +10,7 @@ use Rattle.answers.specs.declared.Answer.the-variants.{ListTooShort}
 use Rattle.answers.specs.Answers.{numberOf, verdictOf}
 use Rattle.answers.specs.Verdict.{Verdict, accepted, refused}
 use Rattle.answers.proofs.VerdictLaws.{list-short, list-long}
-use Rattle.contents.specs.declared.Contents.{Contents}
+use Rattle.contents.specs.Contents.{Contents}
 use Rattle.decode.specs.Contents.{contentsOf}
 use Rattle.filing.specs.Readings.{readContents}
 use Rattle.filing.specs.Verdict.{filingVerdict}

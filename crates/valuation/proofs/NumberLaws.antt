@@ -7,7 +7,7 @@ use lib.ListN.{length, getD, List·getD-append}
 use lib.Seq.{getD-append-add}
 use Rattle.lists.specs.Tables.{table, joined}
 use Rattle.lists.proofs.TableLaws.{joined-length, joined-getD}
-use Rattle.contents.specs.declared.Contents.{Contents}
+use Rattle.contents.specs.Contents.{Contents}
 use Rattle.shares.specs.SubBalances.{balanceAt}
 use Rattle.pricing.specs.Rounding.{down, up}
 use Rattle.valuation.specs.Run.{valueAt}

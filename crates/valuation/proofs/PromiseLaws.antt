@@ -10,9 +10,8 @@ use Rattle.lists.proofs.SumLaws.{sumWhere-ext}
 use Rattle.fraction.specs.Fraction.{Encloses}
 use Rattle.schedule.specs.declared.Position.{Position}
 use Rattle.schedule.specs.Cells.{positionAt, totalCell}
-use Rattle.contents.specs.declared.Contents.{Contents}
 use Rattle.decode.specs.Contents.{contentsOf}
-use Rattle.contents.specs.Contents.{cell}
+use Rattle.contents.specs.Contents.{Contents, cell}
 use Rattle.contents.specs.Valid.{Valid}
 use Rattle.sub_balances.specs.PlaceOrder.{positionOf, subBalanceCount, isShort, isLong}
 use Rattle.shares.specs.SubBalances.{fourOf, balanceAt}

@@ -11,7 +11,7 @@ use lib.ListN.{getD}
 use borrow.Author.Tests.{ne-eqb}
 use Rattle.lists.proofs.TableLaws.{table-getD, joined-le}
 use Rattle.schedule.specs.Limits.{balanceLimit, monthsLimit}
-use Rattle.contents.specs.declared.Contents.{Contents}
+use Rattle.contents.specs.Contents.{Contents}
 use Rattle.contents.specs.Valid.{Valid}
 use Rattle.sub_balances.specs.declared.SubBalance.{SubBalance}
 use Rattle.shares.specs.SubBalances.{balanceAt, monthsAt}

@@ -12,7 +12,7 @@ use Rattle.lists.proofs.RunLaws.{Overwritten, overwritten-is, overwritten-more}
 use Rattle.lists.proofs.SumLaws.{sumWhere-ext}
 use Rattle.lists.proofs.TableLaws.{table-ext, joined-le}
 use Rattle.schedule.specs.Cells.{positions, position, positionAt}
-use Rattle.contents.specs.declared.Contents.{Contents}
+use Rattle.contents.specs.Contents.{Contents}
 use Rattle.contents.specs.Valid.{Valid}
 use Rattle.sub_balances.specs.PlaceOrder.{positionOf, isShort, isLong}
 use Rattle.pricing.specs.Rounding.{down, up}

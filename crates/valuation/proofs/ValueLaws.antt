@@ -8,8 +8,7 @@ use Rattle.lists.proofs.SumLaws.{sumWhere-split}
 use Rattle.fraction.specs.Fraction.{Encloses}
 use Rattle.fraction.proofs.EnclosureLaws.{total-encloses}
 use Rattle.schedule.specs.Cells.{totalCell}
-use Rattle.contents.specs.declared.Contents.{Contents}
-use Rattle.contents.specs.Contents.{cell}
+use Rattle.contents.specs.Contents.{Contents, cell}
 use Rattle.contents.specs.Valid.{Valid}
 use Rattle.sub_balances.specs.PlaceOrder.{subBalanceCount, isShort, isLong}
 use Rattle.shares.specs.SubBalances.{balanceAt}

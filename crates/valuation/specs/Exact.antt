@@ -3,7 +3,7 @@ use Prim.Native.Nat.{ℕ}
 use mathlib.Core.Bool.{Bool}
 use Rattle.fraction.specs.Fraction.{Fraction}
 use Rattle.fraction.specs.Totals.{totalWhere}
-use Rattle.contents.specs.declared.Contents.{Contents}
+use Rattle.contents.specs.Contents.{Contents}
 use Rattle.sub_balances.specs.PlaceOrder.{subBalanceCount}
 use Rattle.shares.specs.Places.{placeAt}
 use Rattle.place_values.specs.HeldValues.{exactHeld}

@@ -3,7 +3,7 @@ use Prim.Native.Nat.{ℕ}
 use mathlib.Core.List.{List, [], _∷_, _++_}
 use Rattle.lists.specs.Tables.{table, joined}
 use Rattle.schedule.specs.Shift.{scenarioCount}
-use Rattle.contents.specs.declared.Contents.{Contents}
+use Rattle.contents.specs.Contents.{Contents}
 use Rattle.sub_balances.specs.PlaceOrder.{subBalanceCount, isShort, isLong}
 use Rattle.shares.specs.SubBalances.{balanceAt}
 use Rattle.pricing.specs.Rounding.{down, up}

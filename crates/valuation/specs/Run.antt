@@ -2,7 +2,7 @@
 use Prim.Native.Nat.{ℕ}
 use mathlib.Core.Bool.{Bool}
 use Rattle.lists.specs.Sums.{sumWhere}
-use Rattle.contents.specs.declared.Contents.{Contents}
+use Rattle.contents.specs.Contents.{Contents}
 use Rattle.sub_balances.specs.PlaceOrder.{subBalanceCount}
 use Rattle.shares.specs.Places.{placeAt}
 use Rattle.pricing.specs.Rounding.{Rounding}

@@ -9,6 +9,7 @@ use place_values::longest_term::longest_term;
 use place_values::place_row::row_of;
 use schedule::CELLS;
 use schedule::limits::MONTHS;
+use schedule::limits::RATES;
 use shares::places::places_of;
 use totals::totals_of;
 ghost use mathlib.Core.Path.{_≡_};
@@ -17,8 +18,7 @@ ghost use Prim.Native.Nat.{_≤_};
 ghost use lib.ListN.{length, drop};
 ghost use Rattle.lists.specs.Tables.{table, joined};
 ghost use Rattle.conditions.specs.Inner.Sums.{columnSums};
-ghost use Rattle.contents.specs.declared.Contents.{Contents};
-ghost use Rattle.contents.specs.Contents.{contentsWith};
+ghost use Rattle.contents.specs.Contents.{Contents, contentsWith};
 ghost use Rattle.contents.specs.Valid.{Valid};
 ghost use Rattle.sub_balances.specs.PlaceOrder.{subBalanceCount};
 ghost use Rattle.valuation.specs.Numbers.{placeNumbers, numbers, numberCount};
@@ -28,7 +28,7 @@ pub(crate) fn write_numbers<'a>(
     cells: &'a [u64; CELLS],
     sums: ColumnSums,
     yields: &'a [u16; MONTHS],
-    rates: &'a [u16; 360],
+    rates: &'a [u16; RATES],
     tiers: FiledTiers,
     list: &mut [u64],
 )
@@ -47,7 +47,7 @@ fn write_rows(
     cells: &[u64; CELLS],
     sums: ColumnSums,
     yields: &[u16; MONTHS],
-    rates: &[u16; 360],
+    rates: &[u16; RATES],
     filed: FiledTiers,
     list: &mut [u64],
 )

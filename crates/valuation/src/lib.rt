@@ -5,6 +5,9 @@ use crate::filing_numbers::write_numbers;
 use answers::Answer;
 use answers::number;
 use filing::read;
+use schedule::CELLS;
+use schedule::limits::MONTHS;
+use schedule::limits::RATES;
 ghost use Rattle.valuation.specs.Promise.{Valued};
 
 // Values a filing: the 568 numbers stand in the list where the answer is acceptance, and the list is as it was on a refusal. A list under 568
@@ -15,20 +18,16 @@ pub fn value(filing: &[u8], numbers: &mut [u64]) -> Answer
     if numbers.len() < 568 {
         return Answer::ListTooShort(numbers.len());
     }
-    let reading = read(filing);
+    let mut cells = [0; CELLS];
+    let mut yields = [0; MONTHS];
+    let mut rates = [0; RATES];
+    let reading = read(filing, &mut cells, &mut yields, &mut rates);
     let answer = reading.answer;
     if number(answer) != 0 {
         return answer;
     }
     let sums = reading.sums;
-    let tiers = reading.contents.tiers;
-    write_numbers(
-        &reading.contents.cells,
-        sums,
-        &reading.contents.yields,
-        &reading.contents.rates,
-        tiers,
-        numbers,
-    );
+    let tiers = reading.tiers;
+    write_numbers(&cells, sums, &yields, &rates, tiers, numbers);
     answer
 }

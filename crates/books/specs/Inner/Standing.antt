@@ -5,7 +5,7 @@ use mathlib.Core.Path.{_≡_}
 use lib.ListN.{length, getD}
 use Rattle.lists.specs.Sums.{sumWhere, everywhere}
 use Rattle.schedule.specs.Limits.{balanceLimit, monthsLimit}
-use Rattle.contents.specs.declared.Contents.{Contents}
+use Rattle.contents.specs.Contents.{Contents}
 use Rattle.contents.specs.Valid.{Valid}
 use Rattle.sub_balances.specs.declared.SubBalance.{SubBalance}
 use Rattle.sub_balances.specs.PlaceOrder.{subBalanceCount}

@@ -1,4 +1,4 @@
--- `refusal` meets its contract: an empty input has no record, so every number read of it is 0.
+-- `refusal` meets its contract: an empty input has no record, so it has no tier, and every sum is 0.
 -- Assumes nothing.
 use mathlib.Core.Path.{refl}
 use Rattle.lists.specs.Sums.{sumWhere}

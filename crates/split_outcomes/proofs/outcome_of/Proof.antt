@@ -1,11 +1,14 @@
 -- `outcome_of` meets its contract: each return says which part of the verdict answers. Assumes nothing.
 use borrow.Author.Needs.{needs}
-use mathlib.Core.Path.{refl, sym, ap, _∙_}
+use Prim.Native.Nat.{ℕ}
+use mathlib.Core.Path.{_≡_, refl, sym, ap, _∙_}
+use mathlib.Core.List.{List}
 use native.Mathlib.Omega.{arith}
 use Rattle.answers.specs.Answers.{numberOf, verdictOf}
-use Rattle.contents.specs.declared.Contents.{Contents}
+use Rattle.contents.specs.Contents.{Contents}
 use Rattle.filing.proofs.ReadingLaws.{reading-accepted}
 use Rattle.shares.specs.Places.{placesOf}
+use Rattle.split_outcomes.specs.Outcomes.{splitVerdict}
 use Rattle.split_outcomes.proofs.OutcomeLaws.{split-short, split-filing, outcome-refused, outcome-accepted}
 use Rattle.split_outcomes.proofs.outcome_of.Statement.{statement}
 use Rattle.split_outcomes.proofs.outcome_of.Tie as tie
@@ -30,31 +33,41 @@ number-requires c κs = search needs
 refusal-requires-2 : tie.Need-refusal-requires-2
 refusal-requires-2 c κs = search needs
 
+-- where the filing is read, the bytes and the size, and the contents that are read
+abbrev unread : tie.After-read → tie.Else1
+unread c = c .before .before .before .before
+
+abbrev bytes : tie.After-read → List ℕ
+bytes c = unread c .before .before .args .filing .now
+
+abbrev size : tie.After-read → ℕ
+size c = unread c .before .before .args .size
+
+read-is : (c : tie.After-read) → verdictOf (c .read .result .answer) ≡ splitVerdict (bytes c) (size c)
+read-is c = c .read .ensures .0 ∙ split-filing (bytes c) (size c) (unread c .if1 .left)
+
 returns-2 : tie.Need-returns-2
 returns-2 c =
-    let a = c .before .before .before .before .before .before .args in
+    let tested = c .before .before in
     let refusal = c .refusal2 .ensures in
-    outcome-refused (a .filing .now) (a .size) (c .refusal2 .result)
-    (ap verdictOf (refusal .0) ∙ c .before .before .before .read .ensures .0
-    ∙ split-filing (a .filing .now) (a .size) (c .before .before .before .before .if1 .left))
-    (λ z. c .before .if2 .taken (c .before .before .number .ensures ∙ sym (ap numberOf (refusal .0)) ∙ z)) (refusal .1) (refusal .2)
+    outcome-refused _ _ (c .refusal2 .result) (ap verdictOf (refusal .0) ∙ read-is (tested .before))
+    (λ z. c .before .if2 .taken (tested .number .ensures ∙ sym (ap numberOf (refusal .0)) ∙ z)) (refusal .1) (refusal .2)
+
+accepted : (c : tie.Else2) → numberOf (c .before .before .read .result .answer) ≡ 0
+accepted c = sym (c .before .number .ensures) ∙ c .if2 .left
 
 places-of-requires : tie.Need-places-of-requires
 places-of-requires c κs =
-    let read = c .before .before .before .before .before .read in
-    let zero = sym (c .before .before .before .before .number .ensures) ∙ c .before .before .before .if2 .left in
-    (reading-accepted _ (read .result .answer) (read .result .contents) (read .ensures .0) (read .ensures .1 .0) zero .1 .of-cells, read .ensures .1 .1)
+    let passed = c .before .before in
+    let read = passed .before .before .read in
+    (reading-accepted _ (read .result .answer) _ (read .ensures .0) (read .ensures .1 .0) (accepted passed) .1 .of-cells, read .ensures .1 .1)
 
 returns-3 : tie.Need-returns-3
 returns-3 c =
-    let a = c .before .before .before .before .before .before .before .before .before .args in
-    let read = c .before .before .before .before .before .before .read in
-    let zero = sym (c .before .before .before .before .before .number .ensures) ∙ c .before .before .before .before .if2 .left in
-    let k = read .result .contents in
-    let is = reading-accepted (a .filing .now) (read .result .answer) k (read .ensures .0) (read .ensures .1 .0) zero .0 in
-    outcome-accepted (a .filing .now) (a .size) _
-    (read .ensures .0 ∙ split-filing (a .filing .now) (a .size) (c .before .before .before .before .before .before .before .if1 .left)) zero
-    (c .places-of .ensures ∙ ap (λ (k : Contents). placesOf (k .cells)) is) refl
+    let passed = c .before .before .before in
+    let read = passed .before .before in
+    let is = reading-accepted (bytes read) (read .read .result .answer) _ (read .read .ensures .0) (read .read .ensures .1 .0) (accepted passed) .0 in
+    outcome-accepted _ _ _ (read-is read) (accepted passed) (c .places-of .ensures ∙ ap (λ (k : Contents). placesOf (k .cells)) is) refl
 
 pub outcome-of-spec : {M : Type 1} → statement M
 outcome-of-spec =

@@ -10,7 +10,7 @@ read-requires c κs = search needs
 
 fill-factors-requires : tie.Need-fill-factors-requires
 fill-factors-requires c κs =
-    let read = c .before .before .before .before in
+    let read = c .before .before .before in
     (opened-yields _ _ _ (read .read .ensures .0) (read .read .ensures .1 .0), refl, refl)
 
 empty-book-requires : tie.Need-empty-book-requires
@@ -18,9 +18,9 @@ empty-book-requires c κs = search needs
 
 returns : tie.Need-returns
 returns c =
-    let factors = c .before .before .before in
-    let read = factors .before .before .before .before .before in
-    let s = read .before .before .args .filing .now in
+    let factors = c .before .before in
+    let read = factors .before .before .before .before in
+    let s = read .before .before .before .before .before .args .filing .now in
     opened s _ (read .read .ensures .0) (read .read .ensures .1 .0) (factors .fill-factors .ensures .0) (factors .fill-factors .ensures .1) (c .empty-book .ensures)
 
 pub open-spec : {M : Type 1} → statement M

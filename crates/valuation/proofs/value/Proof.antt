@@ -1,5 +1,7 @@
 -- `valuation::value` keeps its promise: each way out is one of the call's laws. Assumes nothing.
+use Prim.Native.Nat.{_≤_}
 use mathlib.Core.Path.{sym, _∙_}
+use lib.ListN.{length}
 use borrow.Author.Needs.{needs}
 use Rattle.filing.proofs.ReadingLaws.{reading-accepted}
 use Rattle.valuation.proofs.CallLaws.{short-list, refused-filing, valued-filing}
@@ -15,17 +17,21 @@ read-requires c κs = search needs
 number-requires : tie.Need-number-requires
 number-requires c κs = search needs
 
+-- the list is long enough where the filing is read
+long : (c : tie.After-read) → 568 ≤ length (c .before .before .before .before .before .before .before .args .numbers .now)
+long c = c .before .before .before .before .if1 .left
+
 returns-2 : tie.Need-returns-2
 returns-2 c =
     let reading = c .before .before in
-    refused-filing _ _ (reading .before .if1 .left) _ (reading .read .ensures .0) (λ e. c .if2 .taken (c .before .number .ensures ∙ e))
+    refused-filing _ _ (long reading) _ (reading .read .ensures .0) (λ e. c .if2 .taken (c .before .number .ensures ∙ e))
 
 write-numbers-requires : tie.Need-write-numbers-requires
 write-numbers-requires c κs =
-    let accepted = c .before .before .before .before .before .before .before in
+    let accepted = c .before .before .before .before .before .before in
     let reading = accepted .before .before in
     let zero = sym (accepted .before .number .ensures) ∙ accepted .if2 .left in
-    (reading-accepted _ _ _ (reading .read .ensures .0) (reading .read .ensures .1 .0) zero .1, reading .read .ensures .1 .1, reading .before .if1 .left)
+    (reading-accepted _ _ _ (reading .read .ensures .0) (reading .read .ensures .1 .0) zero .1, reading .read .ensures .1 .1, long reading)
 
 same-length : tie.Need-same-length
 same-length c = search needs
@@ -33,9 +39,9 @@ same-length c = search needs
 returns-3 : tie.Need-returns-3
 returns-3 c =
     let written = c .before .before in
-    let accepted = written .before .before .before .before .before .before .before .before in
+    let accepted = written .before .before .before .before .before .before .before in
     let reading = accepted .before .before in
-    valued-filing _ _ (reading .before .if1 .left) _ (reading .read .ensures .0) (sym (accepted .before .number .ensures) ∙ accepted .if2 .left)
+    valued-filing _ _ (long reading) _ (reading .read .ensures .0) (sym (accepted .before .number .ensures) ∙ accepted .if2 .left)
     _ (reading .read .ensures .1 .0) _ (written .write-numbers .ensures)
 
 pub value-spec : {M : Type 1} → statement M

@@ -6,9 +6,8 @@ use native.Mathlib.Omega.{arith}
 use lib.ListN.{length}
 use Rattle.lists.specs.Tables.{tableFrom, table, joined}
 use Rattle.lists.proofs.RunLaws.{Overwritten, overwritten-none, overwritten-row}
-use Rattle.contents.specs.declared.Contents.{Contents}
 use Rattle.contents.specs.declared.FiledTiers.{FiledTiers}
-use Rattle.contents.specs.Contents.{contentsWith}
+use Rattle.contents.specs.Contents.{Contents, contentsWith}
 use Rattle.valuation.specs.Numbers.{placeNumbers}
 use Rattle.shares.specs.Places.{placesOf}
 use Rattle.place_values.specs.Inner.LongestTerm.{longestTerm}

@@ -1,20 +1,20 @@
--- `contents_of` meets its contract: each part is what its callee fills in.
+-- `fill_contents` meets its contract: each part is what its callee fills in or answers.
 -- Assumes nothing.
 use Prim.Native.Nat.{ℕ, _<_}
 use mathlib.Core.List.{List}
-use mathlib.Core.Path.{_≡_, refl, ap, _∙_}
+use mathlib.Core.Path.{_≡_, ap, _∙_}
 use lib.Dec.{lit<}
 use lib.ListN.{getD}
 use borrow.Author.Needs.{needs}
 use Rattle.records.specs.Kinds.{kindCount, yieldsKind, flatRatesKind, tiersKind, ratePathKind}
 use Rattle.decode.specs.Contents.{sheetOffset, contentsOf}
 use Rattle.decode.proofs.ContentsLaws.{sheet-noted}
-use Rattle.decode.proofs.contents_of.Statement.{statement}
-use Rattle.decode.proofs.contents_of.Tie as tie
+use Rattle.decode.proofs.fill_contents.Statement.{statement}
+use Rattle.decode.proofs.fill_contents.Tie as tie
 
 -- where a sheet stands
 sheet-is : (c : tie.Start) (kind : ℕ) → kind < kindCount → getD (c .args .sheets .now) kind 0 ≡ sheetOffset (c .args .s .now) kind
-sheet-is c kind h = ap (λ (l : List ℕ). getD l kind 0) (c .pre .1 .0) ∙ sheet-noted _ kind h
+sheet-is c kind h = ap (λ (l : List ℕ). getD l kind 0) (c .pre .1 .0 .0) ∙ sheet-noted _ kind h
 
 fill-cells-requires : tie.Need-fill-cells-requires
 fill-cells-requires c κs = search needs
@@ -23,7 +23,9 @@ element-copy-out-fill-yields : tie.Need-element-copy-out-fill-yields
 element-copy-out-fill-yields c = search needs
 
 fill-yields-requires : tie.Need-fill-yields-requires
-fill-yields-requires c κs = (sheet-is (c .before .before .before .before .before) yieldsKind (lit< tt), refl)
+fill-yields-requires c κs =
+    let start = c .before .before .before .before .before in
+    (sheet-is start yieldsKind (lit< tt), start .pre .1 .1 .1)
 
 element-copy-out-fill-rates : tie.Need-element-copy-out-fill-rates
 element-copy-out-fill-rates c = search needs
@@ -34,7 +36,7 @@ element-copy-out-fill-rates-2 c = search needs
 fill-rates-requires : tie.Need-fill-rates-requires
 fill-rates-requires c κs =
     let start = c .before .before .before .before .before .before .before .before .before in
-    (sheet-is start flatRatesKind (lit< tt), sheet-is start ratePathKind (lit< tt), refl)
+    (sheet-is start flatRatesKind (lit< tt), sheet-is start ratePathKind (lit< tt), start .pre .1 .1 .2)
 
 element-copy-out-tiers-at : tie.Need-element-copy-out-tiers-at
 element-copy-out-tiers-at c = search needs
@@ -57,8 +59,8 @@ returns c =
       sheet-is start tiersKind (lit< tt),
     )
 
-pub contents-of-spec : {M : Type 1} → statement M
-contents-of-spec =
+pub fill-contents-spec : {M : Type 1} → statement M
+fill-contents-spec =
     tie.close
     (tie.spec
     fill-cells-requires
