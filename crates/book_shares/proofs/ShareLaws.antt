@@ -35,9 +35,9 @@ use Rattle.pricing.proofs.RoundingLaws.{quotient-zero}
 use Rattle.place_values.specs.PlaceTerms.{depositAt, termsHeld}
 use Rattle.place_values.specs.HeldValues.{valueHeld}
 use Rattle.place_values.proofs.PlaceTermsLaws.{penalty-le}
-use Rattle.valuation.specs.Run.{valueAt, totalBy}
-use Rattle.valuation.specs.Numbers.{scenarioTotals}
-use Rattle.valuation.proofs.NumberLaws.{scenarioTotals-length}
+use Rattle.filing_numbers.specs.Run.{valueAt, totalBy}
+use Rattle.filing_numbers.specs.Numbers.{scenarioTotals}
+use Rattle.filing_numbers.proofs.NumberLaws.{scenarioTotals-length}
 use Rattle.book_places.specs.declared.Book.{Book}
 use Rattle.place_limits.specs.PlaceLimits.{penaltyWithin, fitsPlace}
 use Rattle.book_places.specs.BookPlaces.{heldIn}

@@ -13,7 +13,7 @@ use Rattle.contents.specs.Contents.{cell}
 use Rattle.filing.specs.Verdict.{filingVerdict}
 use Rattle.sub_balances.specs.PlaceOrder.{subBalanceCount}
 use Rattle.shares.specs.SubBalances.{balanceAt, couponAt, monthsAt, penaltyAt}
-use Rattle.valuation.specs.Numbers.{scenarioTotals}
+use Rattle.filing_numbers.specs.Numbers.{scenarioTotals}
 use Rattle.book_places.specs.declared.Book.{Book}
 use Rattle.books.specs.Books.{openedBook}
 use Rattle.books.specs.Changes.{Change, setPlace, bookAfterAll}

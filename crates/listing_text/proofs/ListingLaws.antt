@@ -14,9 +14,9 @@ use Rattle.answers.specs.Verdict.{Verdict}
 use Rattle.answers.proofs.VerdictLaws.{list-long}
 use Rattle.contents.specs.Contents.{Contents}
 use Rattle.filing.specs.Verdict.{filingVerdict}
-use Rattle.valuation.specs.Numbers.{numberCount, scenarioTotals, numbers}
+use Rattle.filing_numbers.specs.Numbers.{numberCount, scenarioTotals, numbers}
 use Rattle.valuation.specs.Promise.{verdictOn, listAfter, Valued}
-use Rattle.valuation.proofs.NumberLaws.{rows, totals, numbers-split, total-read}
+use Rattle.filing_numbers.proofs.NumberLaws.{rows, totals, numbers-split, total-read}
 use Rattle.text.specs.Lines.{filingLimit, refusalLine, tooLong}
 use Rattle.total_lines.specs.TotalLines.{totalsIn, lineIn, linesIn}
 use Rattle.listing_text.specs.Listing.{scenarioLine, scenarioLines, verdictText, listingText}

@@ -11,7 +11,7 @@ use Rattle.answers.specs.Verdict.{Verdict}
 use Rattle.contents.specs.Contents.{Contents}
 use Rattle.decode.specs.Contents.{contentsOf}
 use Rattle.filing.specs.Verdict.{filingVerdict}
-use Rattle.valuation.specs.Numbers.{scenarioTotals}
+use Rattle.filing_numbers.specs.Numbers.{scenarioTotals}
 use Rattle.text.specs.Decimal.{signed}
 use Rattle.text.specs.Lines.{filingLimit, restOfLine, refusalLine, tooLong}
 use Rattle.total_lines.specs.TotalLines.{shift}

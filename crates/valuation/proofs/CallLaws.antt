@@ -15,7 +15,7 @@ use Rattle.decode.specs.Contents.{contentsOf}
 use Rattle.filing.specs.Readings.{readContents}
 use Rattle.filing.specs.Verdict.{filingVerdict}
 use Rattle.filing.proofs.ReadingLaws.{reading-accepted}
-use Rattle.valuation.specs.Numbers.{numbers, numberCount}
+use Rattle.filing_numbers.specs.Numbers.{numbers, numberCount}
 use Rattle.valuation.specs.Promise.{verdictOn, listAfter, Valued}
 use Rattle.valuation.proofs.PromiseLaws.{enclosed}
 

@@ -18,11 +18,11 @@ use Rattle.shares.specs.SubBalances.{fourOf, balanceAt}
 use Rattle.shares.proofs.SubBalanceLaws.{four-sum, balanceAt-total}
 use Rattle.pricing.specs.Rounding.{down, up}
 use Rattle.valuation.specs.Exact.{exactValueAt, exactTotal}
-use Rattle.valuation.specs.Run.{valueAt, totalBy}
-use Rattle.valuation.specs.Numbers.{scenarioTotals, numbers}
+use Rattle.filing_numbers.specs.Run.{valueAt, totalBy}
+use Rattle.filing_numbers.specs.Numbers.{scenarioTotals, numbers}
 use Rattle.valuation.specs.Promise.{balanceIn, lowerIn, upperIn, totalNumber, Enclosed}
 use Rattle.valuation.proofs.ValueLaws.{valueAt-encloses, valueAt-width, totalBy-encloses, all-width}
-use Rattle.valuation.proofs.NumberLaws.{totals, numbers-split, balance-read, lower-read, upper-read, total-read}
+use Rattle.filing_numbers.proofs.NumberLaws.{totals, numbers-split, balance-read, lower-read, upper-read, total-read}
 
 -- one of a position's four places
 four-place : (k : Contents) (i r : ℕ) → r < 4 → balanceAt (k .cells) (4 * i + r) ≡ getD (fourOf (k .cells) (positionAt i)) r 0

@@ -17,7 +17,7 @@ use Rattle.shares.proofs.SubBalanceLaws.{balanceAt-total}
 use Rattle.totals.proofs.WidthLaws.{widths-add}
 use Rattle.pricing.specs.Rounding.{Rounding, down, up}
 use Rattle.valuation.specs.Exact.{exactValueAt, exactTotal}
-use Rattle.valuation.specs.Run.{valueAt, totalBy}
+use Rattle.filing_numbers.specs.Run.{valueAt, totalBy}
 use Rattle.place_values.proofs.PlaceTermsLaws.{deposit-limits}
 use Rattle.place_values.proofs.HeldLaws.{held-encloses, held-width}
 

@@ -1,4 +1,2 @@
 pub mod Exact
-pub mod Run
-pub mod Numbers
 pub mod Promise

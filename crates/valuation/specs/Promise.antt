@@ -17,7 +17,7 @@ use Rattle.contents.specs.Contents.{cell}
 use Rattle.filing.specs.Verdict.{filingVerdict}
 use Rattle.sub_balances.specs.PlaceOrder.{subBalanceCount, isShort, isLong}
 use Rattle.valuation.specs.Exact.{exactValueAt, exactTotal}
-use Rattle.valuation.specs.Numbers.{numbers, numberCount}
+use Rattle.filing_numbers.specs.Numbers.{numbers, numberCount}
 
 -- the verdict on a list and a filing: a list under 568 numbers is a 10, and comes first
 unfoldable pub verdictOn : List ℕ → List ℕ → Verdict

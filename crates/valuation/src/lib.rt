@@ -1,10 +1,8 @@
 // Certificate deposits under seven rate scenarios: from a filing's bytes to its 568 numbers.
-mod filing_numbers;
-
-use crate::filing_numbers::write_numbers;
 use answers::Answer;
 use answers::number;
 use filing::read;
+use filing_numbers::write_numbers;
 use schedule::CELLS;
 use schedule::limits::MONTHS;
 use schedule::limits::RATES;

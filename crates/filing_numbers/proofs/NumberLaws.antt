@@ -10,8 +10,8 @@ use Rattle.lists.proofs.TableLaws.{joined-length, joined-getD}
 use Rattle.contents.specs.Contents.{Contents}
 use Rattle.shares.specs.SubBalances.{balanceAt}
 use Rattle.pricing.specs.Rounding.{down, up}
-use Rattle.valuation.specs.Run.{valueAt}
-use Rattle.valuation.specs.Numbers.{valuesOf, placeNumbers, scenarioTotals, numbers}
+use Rattle.filing_numbers.specs.Run.{valueAt}
+use Rattle.filing_numbers.specs.Numbers.{valuesOf, placeNumbers, scenarioTotals, numbers}
 
 module _ (k : Contents) where
   -- the rows of the places and the totals of the scenarios

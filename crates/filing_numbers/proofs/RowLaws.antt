@@ -28,8 +28,8 @@ use Rattle.discounts.proofs.FactorLaws.{factors-at-most-par, upper-factor-pos}
 use Rattle.discounts.proofs.TableLaws.{lower-discounting, upper-discounting}
 use Rattle.filing_tiers.specs.FilingTiers.{filingTiers}
 use Rattle.place_values.specs.PlaceTerms.{depositAt}
-use Rattle.valuation.specs.Run.{valueAt}
-use Rattle.valuation.specs.Numbers.{valuesOf, placeNumbers}
+use Rattle.filing_numbers.specs.Run.{valueAt}
+use Rattle.filing_numbers.specs.Numbers.{valuesOf, placeNumbers}
 use Rattle.place_values.specs.Inner.LongestTerm.{termOf, longestTo, longestTerm}
 use Rattle.place_values.specs.HeldValues.{boundsHeld, valuesHeld}
 use Rattle.place_values.specs.Inner.PlaceRows.{rowOf}

@@ -1,4 +1,4 @@
--- `valuation::filing_numbers::write_rows` meets its contract: the rows of the places passed are written. Assumes nothing.
+-- `filing_numbers::write_rows` meets its contract: the rows of the places passed are written. Assumes nothing.
 use Prim.Native.Nat.{_+_, _*_, _-_, _≤_, _<_}
 use mathlib.Core.List.{[]}
 use mathlib.Core.Path.{_≡_, refl, ap, _∙_}
@@ -8,15 +8,15 @@ use Rattle.lists.specs.Tables.{tableFrom, table, joined}
 use Rattle.lists.proofs.RunLaws.{Overwritten, overwritten-none, overwritten-row}
 use Rattle.contents.specs.declared.FiledTiers.{FiledTiers}
 use Rattle.contents.specs.Contents.{Contents, contentsWith}
-use Rattle.valuation.specs.Numbers.{placeNumbers}
+use Rattle.filing_numbers.specs.Numbers.{placeNumbers}
 use Rattle.shares.specs.Places.{placesOf}
 use Rattle.place_values.specs.Inner.LongestTerm.{longestTerm}
 use Rattle.filing_tiers.proofs.FilingTierLaws.{filed-limits}
-use Rattle.valuation.proofs.NumberLaws.{row-length}
+use Rattle.filing_numbers.proofs.NumberLaws.{row-length}
 use Rattle.place_values.proofs.HeldLaws.{yields-within, rates-within}
-use Rattle.valuation.proofs.RowLaws.{Prepared, longest-limit, held-limits, tables, row-is}
-use Rattle.valuation.proofs.filing_numbers.write_rows.Statement.{statement}
-use Rattle.valuation.proofs.filing_numbers.write_rows.Tie as tie
+use Rattle.filing_numbers.proofs.RowLaws.{Prepared, longest-limit, held-limits, tables, row-is}
+use Rattle.filing_numbers.proofs.write_rows.Statement.{statement}
+use Rattle.filing_numbers.proofs.write_rows.Tie as tie
 
 -- the filing's own tiers are no variable of the loop: the rows are those of every filing with these arrays that the code is prepared for
 abbrev Inv-loop : tie.InvT-loop

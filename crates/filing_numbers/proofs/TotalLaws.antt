@@ -16,11 +16,11 @@ use Rattle.contents.specs.Contents.{Contents}
 use Rattle.contents.specs.Valid.{Valid}
 use Rattle.sub_balances.specs.PlaceOrder.{positionOf, isShort, isLong}
 use Rattle.pricing.specs.Rounding.{down, up}
-use Rattle.valuation.specs.Run.{valueAt, totalBy}
-use Rattle.valuation.specs.Numbers.{placeNumbers, scenarioTotals, numbers}
+use Rattle.filing_numbers.specs.Run.{valueAt, totalBy}
+use Rattle.filing_numbers.specs.Numbers.{placeNumbers, scenarioTotals, numbers}
 use Rattle.totals.specs.RowTotals.{valueLimit, WithinRows, numberAt, rowTotals}
-use Rattle.valuation.proofs.NumberLaws.{rows, totals, rows-length, totals-length, lower-read, upper-read}
-use Rattle.valuation.proofs.RowLaws.{row-le}
+use Rattle.filing_numbers.proofs.NumberLaws.{rows, totals, rows-length, totals-length, lower-read, upper-read}
+use Rattle.filing_numbers.proofs.RowLaws.{row-le}
 
 -- rows 1 and 2 are places 0 to 23, rows 3 and 4 places 24 to 35
 short-sum : (f : ℕ → ℕ) → sum (tableFrom 0 24 f) ≡ sumWhere isShort f 36

@@ -7,7 +7,7 @@ use Rattle.contents.specs.Contents.{Contents}
 use Rattle.sub_balances.specs.PlaceOrder.{subBalanceCount, isShort, isLong}
 use Rattle.shares.specs.SubBalances.{balanceAt}
 use Rattle.pricing.specs.Rounding.{down, up}
-use Rattle.valuation.specs.Run.{valueAt, totalBy}
+use Rattle.filing_numbers.specs.Run.{valueAt, totalBy}
 
 abbrev pub numberCount : ℕ
 numberCount = 568

@@ -21,10 +21,10 @@ ghost use Rattle.conditions.specs.Inner.Sums.{columnSums};
 ghost use Rattle.contents.specs.Contents.{Contents, contentsWith};
 ghost use Rattle.contents.specs.Valid.{Valid};
 ghost use Rattle.sub_balances.specs.PlaceOrder.{subBalanceCount};
-ghost use Rattle.valuation.specs.Numbers.{placeNumbers, numbers, numberCount};
+ghost use Rattle.filing_numbers.specs.Numbers.{placeNumbers, numbers, numberCount};
 
 // The rows of the places, and then the totals, which are taken from the rows. The rest of the list is left as it was.
-pub(crate) fn write_numbers<'a>(
+pub fn write_numbers<'a>(
     cells: &'a [u64; CELLS],
     sums: ColumnSums,
     yields: &'a [u16; MONTHS],

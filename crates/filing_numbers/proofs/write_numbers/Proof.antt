@@ -1,9 +1,9 @@
--- `valuation::filing_numbers::write_numbers` meets its contract. Assumes nothing.
+-- `filing_numbers::write_numbers` meets its contract. Assumes nothing.
 use mathlib.Core.Path.{_∙_}
-use Rattle.valuation.proofs.TotalLaws.{rows-within, numbers-written}
+use Rattle.filing_numbers.proofs.TotalLaws.{rows-within, numbers-written}
 use borrow.Author.Needs.{needs}
-use Rattle.valuation.proofs.filing_numbers.write_numbers.Statement.{statement}
-use Rattle.valuation.proofs.filing_numbers.write_numbers.Tie as tie
+use Rattle.filing_numbers.proofs.write_numbers.Statement.{statement}
+use Rattle.filing_numbers.proofs.write_numbers.Tie as tie
 
 write-rows-requires : tie.Need-write-rows-requires
 write-rows-requires c κs = search needs
