@@ -1,5 +1,5 @@
 -- The months that are walked by multipliers are the months of the run. Assumes nothing.
-use Prim.Native.Nat.{ℕ, zero, suc, _+_, _*_, _-_, _≤_, _<_}
+use Prim.Native.Nat.{ℕ, zero, suc, _+_, _*_, _≤_, _<_}
 use mathlib.Core.Path.{_≡_, refl, sym, ap, _∙_}
 use mathlib.Core.Bool.{Bool}
 use mathlib.Core.List.{List}
@@ -12,7 +12,7 @@ use Rattle.withdrawal.specs.MonthSurvival.{accountOf, monthSurvival}
 use Rattle.withdrawal.specs.Inner.TierArrays.{tierTable, Usable}
 use Rattle.withdrawal.proofs.MonthSurvivalLaws.{monthSurvival-le}
 use Rattle.month_multipliers.specs.declared.MonthMultipliers.{MonthMultipliers}
-use Rattle.month_multipliers.specs.Multipliers.{carriedOf, multipliersOf, factorOf, lastBy}
+use Rattle.month_multipliers.specs.Multipliers.{carriedOf, multipliersOf, factorOf}
 use Rattle.month_multipliers.proofs.StepLaws.{step-is, last-is, paid-pos}
 use Rattle.pricing.specs.declared.Run.{Run}
 use Rattle.pricing.specs.Scales.{par, couponGrowth, amountLimit}
@@ -25,20 +25,12 @@ use Rattle.discounts.specs.Inner.Factors.{factorIn, AtMostPar}
 use Rattle.deposits.specs.Inner.Prices.{tabledPrice, tabledPrices, shiftedPath, DepositLimits}
 use Rattle.deposits.specs.Inner.Values.{tabledValue, valueBounds}
 use Rattle.discounts.specs.Inner.Tables.{factorsOf, Discounting}
-use Rattle.deposits.specs.Inner.Walked.{walkedPrices, valuesAt, Priceable}
+use Rattle.deposit_prices.specs.Inner.Walked.{walkedPrices, valuesAt, Priceable}
 use Rattle.deposits.specs.Inner.Levels.{Levelled, Multiplied}
 use Rattle.early_months.specs.Levels.{levelAt, heldAt, walkedBy, pricedBy, Walkable}
 use Rattle.deposits.proofs.TermsLaws.{servicing-pos}
 use Rattle.deposits.proofs.LevelLaws.{level-within, level-at-le, multipliers-here}
 use Rattle.deposits.proofs.PriceLaws.{tabled-price-limit, early-on, last-on, month-small, last-survival, last-price, no-price}
-
--- the price after a term of at least one month
-pub priced-suc : (ρ : Rounding) (paid left carried : List ℕ) (whole : List Bool) (levels : List (List ℕ)) (last : MonthMultipliers) (discounts : List ℕ) (scenario n : ℕ) → 0 < n
-    → pricedBy ρ paid left carried whole levels last discounts scenario n
-    ≡ lastBy ρ last (getD discounts (7 * (n - 1) + scenario) 0) (walkedBy ρ paid left carried whole levels discounts scenario (n - 1))
-unfolding pricedBy
-priced-suc ρ paid left carried whole levels last discounts scenario zero h = absurd (omega arith)
-priced-suc ρ paid left carried whole levels last discounts scenario (suc t) h = let e : suc t - 1 ≡ t = omega arith in rw e
 
 module _ (ρ : Rounding) (t : WithdrawalTiers) (d : Deposit) (rates : List ℕ) (column : ℕ) (paid left carried : List ℕ) (whole : List Bool) (levels : List (List ℕ))
     (discounts : List ℕ) (scenario : ℕ) (l : DepositLimits d) (u : Usable t) (levelled : Levelled t d rates column levels) (multiplied : Multiplied t d paid left carried whole)

@@ -1,5 +1,4 @@
 -- Definitions for the contracts of inner functions. What the promise says does not rest on them.
-pub mod Walked
 pub mod Levels
 pub mod Prices
 pub mod Values

@@ -1,5 +1,4 @@
-// One deposit in each scenario: its lower and upper prices and values.
-mod prices;
+// One deposit in each scenario: its lower and upper values.
 pub mod values;
 
 use early_months::Levels;
@@ -18,9 +17,3 @@ pub type RatePaths = [u16; RATES];
 
 // Room for the levels of a deposit's months.
 pub type MonthLevels = Levels;
-
-// A lower and an upper figure.
-pub struct Bounds {
-    pub lower: u64,
-    pub upper: u64,
-}

@@ -1,29 +1,25 @@
 // The value of a balance: lower and upper in each scenario.
 use crate::Deposit;
 use crate::RatePaths;
-use crate::prices::coupon_growth;
-use crate::prices::price_of;
-use crate::prices::servicing_cost;
+use deposit_prices::coupon_growth;
+use deposit_prices::value_bounds;
 use discounts::MultiplierTable;
 use early_months::Levels;
 use early_months::levels::early_levels;
 use early_months::levels::level_multipliers;
 use lists::write;
-use month_multipliers::MonthMultipliers;
 use month_multipliers::multipliers_of;
 use pricing::PAR;
-use rounded_values::values::value_of;
 use schedule::limits::TIER_LIMIT;
 use schedule::scenarios::Scenario;
 ghost use mathlib.Core.Path.{_≡_};
 ghost use Prim.Native.Nat.{_<_, _≤_};
-ghost use Rattle.schedule.specs.Limits.{balanceLimit, monthsLimit};
-ghost use Rattle.schedule.specs.Shift.{scenarioCount};
+ghost use Rattle.schedule.specs.Limits.{balanceLimit};
+ghost use Rattle.withdrawal.specs.MonthSurvival.{accountOf};
 ghost use Rattle.withdrawal.specs.Inner.TierArrays.{tierTable, Usable};
-ghost use Rattle.pricing.specs.Scales.{amountLimit};
 ghost use Rattle.pricing.specs.Rounding.{down, up};
 ghost use Rattle.discounts.specs.Inner.Tables.{factorsOf, Discounting};
-ghost use Rattle.deposits.specs.Inner.Walked.{walkedPrices, valuesAt, Priceable};
+ghost use Rattle.deposits.specs.DepositTerms.{servicingCost};
 ghost use Rattle.deposits.specs.Inner.Levels.{lentTiers};
 ghost use Rattle.deposits.specs.Inner.Prices.{ColumnRates, DepositLimits};
 ghost use Rattle.deposits.specs.Inner.Values.{tabledValues};
@@ -105,39 +101,9 @@ pub fn values_of<'a>(
     values
 }
 
-// Lower and upper value in a scenario.
-fn value_bounds<'a>(
-    balance: u64,
-    months: u64,
-    levels: &Levels,
-    paid: &'a [u64; 17],
-    left: &'a [u64; 17],
-    carried: &'a [u64; 17],
-    whole: &'a [bool; 17],
-    last: MonthMultipliers,
-    lower: &MultiplierTable,
-    upper: &MultiplierTable,
-    scenario: usize,
-) -> [u64; 2]
-    requires { ⌜ (balance ≤ balanceLimit) × (months ≤ monthsLimit) × (scenario < scenarioCount) ⌝ }
-    requires { ⌜ Priceable (now paid) (now left) (now carried) (now whole) (now levels) last (now lower) (now upper) scenario months ⌝ }
-    requires { ⌜ (walkedPrices (now paid) (now left) (now carried) (now whole) (now levels) last (now lower) (now upper) scenario months .lower ≤ amountLimit) × (walkedPrices (now paid) (now left) (now carried) (now whole) (now levels) last (now lower) (now upper) scenario months .upper ≤ amountLimit) ⌝ }
-    ensures { λ r. ⌜ r ≡ valuesAt balance (walkedPrices (now (paid .entry)) (now (left .entry)) (now (carried .entry)) (now (whole .entry)) (now (levels .entry)) last (now (lower .entry)) (now (upper .entry)) scenario months) ⌝ }
+// The month's servicing cost in billionths of the balance.
+fn servicing_cost(brokered: bool) -> u64
+    ensures { λ r. ⌜ r ≡ servicingCost (accountOf brokered) ⌝ }
 {
-    let price = price_of(
-        months,
-        levels,
-        paid,
-        left,
-        carried,
-        whole,
-        last,
-        lower,
-        upper,
-        scenario,
-    );
-    [
-        value_of(balance, price.lower, false),
-        value_of(balance, price.upper, true),
-    ]
+    if brokered { 19000 } else { 175000 }
 }

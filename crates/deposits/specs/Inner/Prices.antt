@@ -9,7 +9,7 @@ use Rattle.pricing.specs.Rounding.{Rounding, down, up}
 use Rattle.pricing.specs.Run.{discountedBy}
 use Rattle.discounts.specs.Inner.Factors.{factorIn}
 use Rattle.deposits.specs.declared.Deposit.{Deposit}
-use Rattle.deposits.specs.declared.Bounds.{Bounds}
+use Rattle.deposit_prices.specs.declared.Bounds.{Bounds}
 use Rattle.deposits.specs.DepositTerms.{termsOf}
 
 -- the price of a deposit at a rounding and the shifted retail rates of the months, billionths, with discount factors from a list

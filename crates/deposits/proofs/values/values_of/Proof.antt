@@ -16,7 +16,7 @@ use Rattle.month_levels.proofs.LevelLaws.{level-survival-le}
 use Rattle.month_multipliers.specs.Multipliers.{multipliersOf}
 use Rattle.deposits.specs.DepositTerms.{servicingCost}
 use Rattle.discounts.specs.Inner.Tables.{Discounting}
-use Rattle.deposits.specs.Inner.Walked.{walkedPrices, valuesAt}
+use Rattle.deposit_prices.specs.Inner.Walked.{walkedPrices, valuesAt}
 use Rattle.deposits.specs.Inner.Levels.{lentTiers}
 use Rattle.deposits.specs.Inner.Values.{tabledValues}
 use Rattle.deposits.proofs.TermsLaws.{servicing-le}

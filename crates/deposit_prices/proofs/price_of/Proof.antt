@@ -1,13 +1,13 @@
--- `deposits::prices::price_of` meets its contract. Assumes nothing.
+-- `deposit_prices::price_of` meets its contract. Assumes nothing.
 use Prim.Native.Nat.{_-_, _<_}
 use native.Mathlib.Omega.{arith}
 use Rattle.pricing.specs.Rounding.{down, up}
 use Rattle.early_months.specs.Levels.{pricedBy}
-use Rattle.deposits.specs.Inner.Walked.{walkedPrices}
-use Rattle.deposits.proofs.WalkLaws.{priced-suc}
+use Rattle.deposit_prices.specs.Inner.Walked.{walkedPrices}
+use Rattle.deposit_prices.proofs.PriceLaws.{priced-suc}
 use borrow.Author.Needs.{needs}
-use Rattle.deposits.proofs.prices.price_of.Statement.{statement}
-use Rattle.deposits.proofs.prices.price_of.Tie as tie
+use Rattle.deposit_prices.proofs.price_of.Statement.{statement}
+use Rattle.deposit_prices.proofs.price_of.Tie as tie
 
 returns : tie.Need-returns
 unfolding walkedPrices pricedBy

@@ -1,9 +1,9 @@
--- `deposits::values::value_bounds` meets its contract. Assumes nothing.
+-- `deposit_prices::value_bounds` meets its contract. Assumes nothing.
 use Rattle.pricing.specs.Rounding.{roundingOf}
-use Rattle.deposits.specs.Inner.Walked.{valuesAt}
+use Rattle.deposit_prices.specs.Inner.Walked.{valuesAt}
 use borrow.Author.Needs.{needs}
-use Rattle.deposits.proofs.values.value_bounds.Statement.{statement}
-use Rattle.deposits.proofs.values.value_bounds.Tie as tie
+use Rattle.deposit_prices.proofs.value_bounds.Statement.{statement}
+use Rattle.deposit_prices.proofs.value_bounds.Tie as tie
 
 price-of-requires : tie.Need-price-of-requires
 price-of-requires c κs = search needs

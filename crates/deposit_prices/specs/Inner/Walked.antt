@@ -8,7 +8,7 @@ use Rattle.pricing.specs.Rounding.{down, up, quotient}
 use Rattle.month_multipliers.specs.declared.MonthMultipliers.{MonthMultipliers}
 use Rattle.month_multipliers.specs.Multipliers.{carriedOf}
 use Rattle.early_months.specs.Levels.{pricedBy, Walkable}
-use Rattle.deposits.specs.declared.Bounds.{Bounds}
+use Rattle.deposit_prices.specs.declared.Bounds.{Bounds}
 
 -- lower and upper price of the months that are walked, billionths
 unfoldable pub walkedPrices : List ℕ → List ℕ → List ℕ → List Bool → List (List ℕ) → MonthMultipliers → List ℕ → List ℕ → ℕ → ℕ → Bounds

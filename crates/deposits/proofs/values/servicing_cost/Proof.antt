@@ -1,8 +1,8 @@
 -- `servicing_cost` meets its contract. Assumes nothing.
 use Rattle.withdrawal.specs.MonthSurvival.{accountOf}
 use Rattle.deposits.specs.DepositTerms.{servicingCost}
-use Rattle.deposits.proofs.prices.servicing_cost.Statement.{statement}
-use Rattle.deposits.proofs.prices.servicing_cost.Tie as tie
+use Rattle.deposits.proofs.values.servicing_cost.Statement.{statement}
+use Rattle.deposits.proofs.values.servicing_cost.Tie as tie
 
 returns : tie.Need-returns
 unfolding servicingCost accountOf
