@@ -1,9 +1,9 @@
 // Discount factors of every month and scenario, and tables of their multipliers.
 use factor_chains::lower_factors;
 use factor_chains::upper_factors;
-use factor_chains::upper_multipliers;
 use lists::write;
 use month_multipliers::discount_multiplier;
+use rate_multipliers::upper_multipliers;
 use schedule::limits::MONTHS;
 use schedule::scenarios::shifted_rates;
 ghost use mathlib.Core.Path.{_≡_};

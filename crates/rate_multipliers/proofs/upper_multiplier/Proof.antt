@@ -1,4 +1,4 @@
--- `factor_chains::upper_multiplier` meets its contract. Assumes nothing.
+-- `rate_multipliers::upper_multiplier` meets its contract. Assumes nothing.
 use Prim.Native.Nat.{_+_, _-_, _^_}
 use mathlib.Core.Path.{refl}
 use native.Mathlib.Nat.{div-mul-le-self}
@@ -6,8 +6,8 @@ use native.Mathlib.Omega.{arith}
 use Rattle.pricing.specs.Scales.{rateScale}
 use Rattle.pricing.specs.Inner.Multipliers.{multiplierBy}
 use borrow.Author.Needs.{needs}
-use Rattle.factor_chains.proofs.upper_multiplier.Statement.{statement}
-use Rattle.factor_chains.proofs.upper_multiplier.Tie as tie
+use Rattle.rate_multipliers.proofs.upper_multiplier.Statement.{statement}
+use Rattle.rate_multipliers.proofs.upper_multiplier.Tie as tie
 
 add-result : tie.Need-add-result
 add-result c = search needs

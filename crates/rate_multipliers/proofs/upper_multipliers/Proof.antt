@@ -1,4 +1,4 @@
--- `factor_chains::upper_multipliers` meets its contract: the multipliers before i are filled. Assumes nothing.
+-- `rate_multipliers::upper_multipliers` meets its contract: the multipliers before i are filled. Assumes nothing.
 use Prim.Native.Nat.{ℕ, _-_, _≤_}
 use mathlib.Core.Path.{_≡_}
 use native.Mathlib.Omega.{arith}
@@ -6,8 +6,8 @@ use lib.ListN.{getD}
 use Rattle.lists.proofs.FillLaws.{Filled, fill-none, fill-more, fill-all}
 use Rattle.pricing.specs.Rounding.{up}
 use Rattle.pricing.specs.Inner.Multipliers.{multiplierBy, multipliersBy}
-use Rattle.factor_chains.proofs.upper_multipliers.Statement.{statement}
-use Rattle.factor_chains.proofs.upper_multipliers.Tie as tie
+use Rattle.rate_multipliers.proofs.upper_multipliers.Statement.{statement}
+use Rattle.rate_multipliers.proofs.upper_multipliers.Tie as tie
 
 abbrev Inv-loop : tie.InvT-loop
 Inv-loop rates multipliers₀ i₀ multipliers i = (i ≤ 7) × Filled (λ (j : ℕ). multiplierBy up (getD rates j 0)) 0 7 i multipliers

@@ -1,4 +1,4 @@
--- `factor_chains::lower_multiplier` meets its contract. Assumes nothing.
+-- `rate_multipliers::lower_multiplier` meets its contract. Assumes nothing.
 use Prim.Native.Nat.{ℕ, zero, suc, _+_, _^_, _≤_, _<_}
 use native.Mathlib.Omega.{arith}
 use mathlib.Core.Path.{_≡_, refl}
@@ -7,8 +7,8 @@ use Rattle.pricing.specs.Scales.{rateScale}
 use Rattle.pricing.specs.Rounding.{down, up}
 use Rattle.pricing.specs.Inner.Multipliers.{multiplierBy}
 use Rattle.pricing.proofs.MultiplierLaws.{one-part-more, lower-fits}
-use Rattle.factor_chains.proofs.lower_multiplier.Statement.{statement}
-use Rattle.factor_chains.proofs.lower_multiplier.Tie as tie
+use Rattle.rate_multipliers.proofs.lower_multiplier.Statement.{statement}
+use Rattle.rate_multipliers.proofs.lower_multiplier.Tie as tie
 
 -- of a rate above 0
 fits : (z : ℕ) → z ≤ shiftedLimit → (z ≡ 0 → ⊥) → multiplierBy up z + rateScale < 2 ^ 64

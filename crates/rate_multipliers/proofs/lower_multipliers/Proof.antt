@@ -1,4 +1,4 @@
--- `factor_chains::lower_multipliers` meets its contract: the multipliers before i are filled. Assumes nothing.
+-- `rate_multipliers::lower_multipliers` meets its contract: the multipliers before i are filled. Assumes nothing.
 use Prim.Native.Nat.{ℕ, _-_, _≤_}
 use mathlib.Core.List.{List}
 use mathlib.Core.Path.{_≡_, ap, _∙_}
@@ -8,8 +8,8 @@ use Rattle.lists.proofs.FillLaws.{Filled, fill-none, fill-more, fill-all}
 use Rattle.lists.proofs.TableLaws.{table-getD}
 use Rattle.pricing.specs.Rounding.{down, up}
 use Rattle.pricing.specs.Inner.Multipliers.{multiplierBy, multipliersBy}
-use Rattle.factor_chains.proofs.lower_multipliers.Statement.{statement}
-use Rattle.factor_chains.proofs.lower_multipliers.Tie as tie
+use Rattle.rate_multipliers.proofs.lower_multipliers.Statement.{statement}
+use Rattle.rate_multipliers.proofs.lower_multipliers.Tie as tie
 
 abbrev Inv-loop : tie.InvT-loop
 Inv-loop rates above multipliers₀ i₀ multipliers i = (i ≤ 7) × Filled (λ (j : ℕ). multiplierBy down (getD rates j 0)) 0 7 i multipliers
