@@ -1,7 +1,7 @@
 // Discount factors of every month and scenario, and tables of their multipliers.
-use factor_chains::lower_factors;
-use factor_chains::upper_factors;
 use lists::write;
+use month_factors::lower_factors;
+use month_factors::upper_factors;
 use month_multipliers::discount_multiplier;
 use rate_multipliers::upper_multipliers;
 use schedule::limits::MONTHS;

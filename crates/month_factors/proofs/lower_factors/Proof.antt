@@ -1,4 +1,4 @@
--- `factor_chains::lower_factors` meets its contract: the factors before i are filled. Assumes nothing.
+-- `month_factors::lower_factors` meets its contract: the factors before i are filled. Assumes nothing.
 use Prim.Native.Nat.{ℕ, _-_, _≤_}
 use mathlib.Core.Path.{_≡_, _∙_}
 use native.Mathlib.Omega.{arith}
@@ -7,8 +7,8 @@ use Rattle.lists.proofs.FillLaws.{Filled, fill-none, fill-more, fill-all}
 use Rattle.pricing.specs.Rounding.{down, roundingOf}
 use Rattle.pricing.specs.Inner.Multipliers.{factorBy}
 use Rattle.pricing.proofs.MultiplierLaws.{chained-at-most, chained-is}
-use Rattle.factor_chains.proofs.lower_factors.Statement.{statement}
-use Rattle.factor_chains.proofs.lower_factors.Tie as tie
+use Rattle.month_factors.proofs.lower_factors.Statement.{statement}
+use Rattle.month_factors.proofs.lower_factors.Tie as tie
 
 abbrev Inv-loop : tie.InvT-loop
 Inv-loop rates above n chain factors₀ i₀ factors i = (i ≤ 7) × Filled (λ (j : ℕ). factorBy down (getD rates j 0) (getD chain j 0)) 0 7 i factors

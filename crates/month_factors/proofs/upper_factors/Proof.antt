@@ -1,4 +1,4 @@
--- `factor_chains::upper_factors` meets its contract: the factors before i are filled. Assumes nothing.
+-- `month_factors::upper_factors` meets its contract: the factors before i are filled. Assumes nothing.
 use Prim.Native.Nat.{ℕ, suc, _-_, _≤_}
 use mathlib.Core.Path.{_≡_, _∙_}
 use native.Mathlib.Numerals.{add-one}
@@ -7,8 +7,8 @@ use lib.ListN.{getD}
 use Rattle.lists.proofs.FillLaws.{Filled, fill-none, fill-more, fill-all}
 use Rattle.pricing.specs.Scales.{par}
 use Rattle.pricing.specs.Rounding.{roundingOf}
-use Rattle.factor_chains.proofs.upper_factors.Statement.{statement}
-use Rattle.factor_chains.proofs.upper_factors.Tie as tie
+use Rattle.month_factors.proofs.upper_factors.Statement.{statement}
+use Rattle.month_factors.proofs.upper_factors.Tie as tie
 
 abbrev Inv-loop : tie.InvT-loop
 Inv-loop above n chain factors₀ i₀ factors i = (i ≤ 7) × Filled (λ (j : ℕ). suc (getD chain j 0)) 0 7 i factors

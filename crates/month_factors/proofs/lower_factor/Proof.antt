@@ -1,10 +1,10 @@
--- `factor_chains::lower_factor` meets its contract. Assumes nothing.
+-- `month_factors::lower_factor` meets its contract. Assumes nothing.
 use Prim.Native.Nat.{ℕ, zero, suc}
 use mathlib.Core.Path.{_≡_, refl}
 use Rattle.pricing.specs.Rounding.{down}
 use Rattle.pricing.specs.Inner.Multipliers.{factorBy}
-use Rattle.factor_chains.proofs.lower_factor.Statement.{statement}
-use Rattle.factor_chains.proofs.lower_factor.Tie as tie
+use Rattle.month_factors.proofs.lower_factor.Statement.{statement}
+use Rattle.month_factors.proofs.lower_factor.Tie as tie
 
 some-rate : (z x : ℕ) → (z ≡ 0 → ⊥) → x ≡ factorBy down z x
 unfolding factorBy
