@@ -17,7 +17,8 @@ use Rattle.answers.specs.Verdict.{Verdict, accepted, refusedIf, firstRefusal, f
 use Rattle.conditions.specs.Conditions.{cellIn, monthsOutside, columnBalances, balances, aboveColumn, totalDiffers}
 use Rattle.conditions.specs.CellVerdicts.{positionVerdict, monthsVerdict, columnVerdict, columnsVerdict, totalVerdict, cellsVerdict}
 use Rattle.decode.specs.Contents.{contentsOf}
-use Rattle.filing.specs.Verdict.{sheetVerdict, filingVerdict}
+use Rattle.required_sheets.specs.RequiredSheets.{sheetVerdict}
+use Rattle.filing.specs.Verdict.{filingVerdict}
 use Rattle.calendar.specs.declared.Date.{Date}
 use Rattle.certificate_terms.specs.Terms.{certificateCount}
 use Rattle.filled_cells.specs.declared.Totals.{Totals}

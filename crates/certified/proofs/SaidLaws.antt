@@ -25,7 +25,7 @@ use Rattle.fields.proofs.ByteLaws.{number-past}
 use Rattle.conditions.specs.Conditions.{cellIn}
 use Rattle.cell_amounts.specs.Amounts.{filedValue, amountAt}
 use Rattle.decode.specs.Contents.{cellOffset, cellValue, sheetOffset}
-use Rattle.filing.specs.Verdict.{sheetMissing}
+use Rattle.required_sheets.specs.RequiredSheets.{sheetMissing}
 use Rattle.filled_cells.specs.declared.CellValue.{CellValue}
 use Rattle.certified.specs.Fit.{valueIn}
 use Rattle.certified.specs.Filed.{run, filedBodies}

@@ -20,7 +20,8 @@ use Rattle.lists.proofs.TestLaws.{neither}
 use Rattle.decode.specs.Contents.{sheetOffset, rateCount, rateNumber, contentsOf}
 use Rattle.contents.specs.Contents.{cell, cdYield, retailRate}
 use Rattle.conditions.specs.Conditions.{columnBalances}
-use Rattle.filing.specs.Verdict.{sheetMissing, Accepted}
+use Rattle.required_sheets.specs.RequiredSheets.{sheetMissing}
+use Rattle.filing.specs.Verdict.{Accepted}
 use Rattle.contents.specs.Valid.{Valid}
 use Rattle.conditions.proofs.SumLaws.{by-column}
 use Rattle.decode.proofs.SoundLaws.{cell-within, balances-within, sheet-limit, tier-count-within, tier-edges-rise, tier-withdrawal-within}

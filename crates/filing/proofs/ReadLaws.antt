@@ -17,7 +17,8 @@ use Rattle.conditions.specs.Inner.Sums.{columnSums}
 use Rattle.contents.specs.Contents.{contentsWith}
 use Rattle.decode.specs.Contents.{rateCount, contentsOf}
 use Rattle.filing.specs.declared.Reading.{Reading}
-use Rattle.filing.specs.Verdict.{sheetVerdict, contentsVerdict, filingVerdict}
+use Rattle.required_sheets.specs.RequiredSheets.{sheetVerdict}
+use Rattle.filing.specs.Verdict.{contentsVerdict, filingVerdict}
 use Rattle.filing.specs.Readings.{emptyContents, readContents}
 
 module _ (s : List ℕ) where

@@ -10,7 +10,8 @@ use Rattle.answers.proofs.VerdictLaws.{first-none, condition-fails}
 use Rattle.record_verdicts.specs.RecordVerdicts.{firstFaulty, recordsVerdict}
 use Rattle.scan.proofs.ProgressLaws.{records-passed}
 use Rattle.decode.specs.Contents.{contentsOf}
-use Rattle.filing.specs.Verdict.{sheetMissing, sheetVerdict, contentsVerdict, filingVerdict, Accepted}
+use Rattle.required_sheets.specs.RequiredSheets.{sheetMissing, sheetVerdict}
+use Rattle.filing.specs.Verdict.{contentsVerdict, filingVerdict, Accepted}
 
 -- the conditions on an accepted filing, in their order
 pub record Passed (s : List ℕ) : Type 0 where

@@ -2,26 +2,13 @@
 -- Definitions only.
 use Prim.Native.Nat.{ℕ}
 use mathlib.Core.Path.{_≡_}
-use mathlib.Core.Bool.{Bool, _||_, _&&_}
 use mathlib.Core.List.{List}
-use lib.ListN.{length}
-use lib.Dec.{leb}
-use Rattle.answers.specs.Verdict.{Verdict, accepted, refusedIf, firstRefusal}
-use Rattle.records.specs.Kinds.{yieldsKind, flatRatesKind, ratePathKind}
+use Rattle.answers.specs.Verdict.{Verdict, accepted, firstRefusal}
 use Rattle.record_verdicts.specs.RecordVerdicts.{recordsVerdict}
 use Rattle.conditions.specs.CellVerdicts.{cellsVerdict}
 use Rattle.contents.specs.Contents.{Contents}
-use Rattle.decode.specs.Contents.{sheetOffset, contentsOf}
-
--- 6: kind 2 is missing, or both of kinds 3 and 5
-unfoldable pub sheetMissing : List ℕ → Bool
-sheetMissing s =
-    leb (length s) (sheetOffset s yieldsKind)
-    || (leb (length s) (sheetOffset s flatRatesKind) && leb (length s) (sheetOffset s ratePathKind))
-
--- 6, at the input's length
-unfoldable pub sheetVerdict : List ℕ → Verdict
-sheetVerdict s = refusedIf (sheetMissing s) 6 (length s)
+use Rattle.decode.specs.Contents.{contentsOf}
+use Rattle.required_sheets.specs.RequiredSheets.{sheetVerdict}
 
 -- the verdict on what the filing says
 abbrev pub contentsVerdict : Contents → Verdict

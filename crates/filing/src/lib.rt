@@ -1,8 +1,4 @@
 // A filing of certificate deposits, from its bytes to what it says.
-
-mod sheets;
-
-use crate::sheets::check_sheets;
 use amendments::check_records;
 use answers::Answer;
 use answers::number;
@@ -14,6 +10,7 @@ use contents::NO_TIERS;
 use decode::fill_contents;
 use notes::BLOCKS;
 use records::KINDS;
+use required_sheets::check_sheets;
 use schedule::CELLS;
 use schedule::limits::MONTHS;
 use schedule::limits::RATES;
@@ -27,7 +24,8 @@ ghost use Rattle.schedule.specs.Limits.{monthsLimit};
 ghost use Rattle.contents.specs.Contents.{contentsWith};
 ghost use Rattle.decode.specs.Contents.{rateCount};
 ghost use Rattle.conditions.specs.Inner.Sums.{columnSums};
-ghost use Rattle.filing.specs.Verdict.{sheetVerdict, filingVerdict};
+ghost use Rattle.required_sheets.specs.RequiredSheets.{sheetVerdict};
+ghost use Rattle.filing.specs.Verdict.{filingVerdict};
 ghost use Rattle.filing.specs.Readings.{readContents, emptyContents};
 
 // The answer on a filing, its tiers, and the sums of its columns: on a refusal all numbers are 0.

@@ -23,7 +23,8 @@ use Rattle.conditions.specs.CellVerdicts.{positionVerdict, monthsVerdict, colum
 use Rattle.cell_amounts.specs.Amounts.{filedValue, amountAt}
 use Rattle.decode.specs.Contents.{cellOffset, cellValue, sheetOffset, rateNumber, tierNumber, tiersAt, contentsOf}
 use Rattle.contents.specs.Contents.{Contents, cell}
-use Rattle.filing.specs.Verdict.{sheetMissing, sheetVerdict, filingVerdict}
+use Rattle.required_sheets.specs.RequiredSheets.{sheetMissing, sheetVerdict}
+use Rattle.filing.specs.Verdict.{filingVerdict}
 use Rattle.case_filings.specs.Filings.{bytes, filed, fined, amendment, complete, Case, gives}
 
 -- 2, 3 and 5 at an amendment: its length, a cell that is not listed, number 0, another state, a withdrawn value, its limit and one over, an unused cell

@@ -25,7 +25,8 @@ use Rattle.conditions.specs.Conditions.{cellIn, monthsOutside, columnBalances, 
 use Rattle.cell_amounts.specs.Amounts.{filedValue, amountAt}
 use Rattle.decode.specs.Contents.{cellOffset, cellValue, sheetOffset, rateNumber, tierNumber, tiersAt, contentsOf}
 use Rattle.contents.specs.Contents.{Contents, cell, cdYield, retailRate}
-use Rattle.filing.specs.Verdict.{sheetMissing, sheetVerdict, filingVerdict}
+use Rattle.required_sheets.specs.RequiredSheets.{sheetMissing, sheetVerdict}
+use Rattle.filing.specs.Verdict.{filingVerdict}
 use Rattle.conditions.specs.CellVerdicts.{positionVerdict, monthsVerdict, columnVerdict, columnsVerdict, totalVerdict, cellsVerdict}
 
 -- 1 and 2: the shortest inputs, a length below 2, a record that runs past the end, and a length that is not the kind's

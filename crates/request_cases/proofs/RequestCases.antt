@@ -24,7 +24,8 @@ use Rattle.conditions.specs.CellVerdicts.{positionVerdict, monthsVerdict, colum
 use Rattle.cell_amounts.specs.Amounts.{filedValue, amountAt}
 use Rattle.decode.specs.Contents.{cellOffset, cellValue, sheetOffset, rateNumber, tierNumber, tiersAt, contentsOf}
 use Rattle.contents.specs.Contents.{Contents, cell, retailRate}
-use Rattle.filing.specs.Verdict.{sheetMissing, sheetVerdict, filingVerdict}
+use Rattle.required_sheets.specs.RequiredSheets.{sheetMissing, sheetVerdict}
+use Rattle.filing.specs.Verdict.{filingVerdict}
 use Rattle.case_filings.specs.Filings.{bytes, filed, yieldSheet, rateSheet, pathSheet, fined, complete, Case, gives}
 
 -- 2, 4, 12, 5 and 6 at the retail rates by month: a length that is not 722, the path twice, beside flat rates in both orders and over the limit besides, each

@@ -11,7 +11,7 @@ use Rattle.notes.specs.Inner.Notes.{Noted, notedBefore}
 use Rattle.record_verdicts.specs.RecordVerdicts.{recordsVerdict}
 use Rattle.amendments.proofs.VerdictLaws.{plain-passed}
 use Rattle.record_verdicts.specs.Inner.PlainVerdicts.{firstPlain}
-use Rattle.filing.specs.Verdict.{sheetVerdict}
+use Rattle.required_sheets.specs.RequiredSheets.{sheetVerdict}
 use Rattle.filing.proofs.ReadLaws.{records-refuse, sheets-refuse, refused-reading, empty-lengths}
 use Rattle.filing.proofs.read.Statement.{statement}
 use Rattle.filing.proofs.read.Tie as tie

@@ -11,10 +11,10 @@ use Rattle.answers.specs.Answers.{verdictOf}
 use Rattle.answers.proofs.VerdictLaws.{condition-holds, condition-passes}
 use Rattle.records.specs.Kinds.{kindCount, flatRatesKind, ratePathKind}
 use Rattle.decode.specs.Contents.{sheetOffset}
-use Rattle.filing.specs.Verdict.{sheetMissing, sheetVerdict}
+use Rattle.required_sheets.specs.RequiredSheets.{sheetMissing, sheetVerdict}
 use Rattle.decode.proofs.ContentsLaws.{sheet-noted}
-use Rattle.filing.proofs.sheets.check_sheets.Statement.{statement}
-use Rattle.filing.proofs.sheets.check_sheets.Tie as tie
+use Rattle.required_sheets.proofs.check_sheets.Statement.{statement}
+use Rattle.required_sheets.proofs.check_sheets.Tie as tie
 
 -- where a sheet stands
 sheet-is : (c : tie.Start) (kind : ℕ) → kind < kindCount → getD (c .args .sheets .now) kind 0 ≡ sheetOffset (c .args .s .now) kind

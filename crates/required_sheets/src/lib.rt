@@ -8,10 +8,10 @@ ghost use mathlib.Core.Path.{_≡_};
 ghost use lib.ListN.{length};
 ghost use Rattle.answers.specs.Answers.{verdictOf};
 ghost use Rattle.notes.specs.Inner.Notes.{notedBefore};
-ghost use Rattle.filing.specs.Verdict.{sheetVerdict};
+ghost use Rattle.required_sheets.specs.RequiredSheets.{sheetVerdict};
 
 // 6, from where the sheets stand: one that is missing is noted at the input's length.
-pub(crate) fn check_sheets(s: &[u8], sheets: &[usize; KINDS]) -> Answer
+pub fn check_sheets(s: &[u8], sheets: &[usize; KINDS]) -> Answer
     requires { ⌜ now sheets ≡ notedBefore (now s) (length (now s)) .sheets ⌝ }
     ensures { λ r. ⌜ verdictOf r ≡ sheetVerdict (now (s .entry)) ⌝ }
 {
