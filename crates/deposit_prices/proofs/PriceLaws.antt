@@ -8,7 +8,7 @@ use lib.ListN.{getD}
 use Rattle.pricing.specs.Rounding.{Rounding}
 use Rattle.month_multipliers.specs.declared.MonthMultipliers.{MonthMultipliers}
 use Rattle.month_multipliers.specs.Multipliers.{lastBy}
-use Rattle.early_months.specs.Levels.{walkedBy, pricedBy}
+use Rattle.early_months.specs.Walks.{walkedBy, pricedBy}
 
 -- the price after a term of at least one month
 pub priced-suc : (ρ : Rounding) (paid left carried : List ℕ) (whole : List Bool) (levels : List (List ℕ)) (last : MonthMultipliers) (discounts : List ℕ) (scenario n : ℕ) → 0 < n

@@ -1,6 +1,6 @@
 // One deposit in a scenario: its price, from its months walked once, with the lower and the upper run side by side, and the value of a balance at it.
 use discounts::MultiplierTable;
-use early_months::Levels;
+use early_levels::Levels;
 use early_months::walk::early_months;
 use month_multipliers::MonthMultipliers;
 use month_steps::last_lower;

@@ -18,7 +18,7 @@ use Rattle.deposits.specs.declared.Deposit.{Deposit}
 use Rattle.deposits.specs.DepositTerms.{servicingCost}
 use Rattle.deposits.specs.Inner.Prices.{shiftedPath, DepositLimits}
 use Rattle.deposits.specs.Inner.Levels.{Levelled}
-use Rattle.early_months.specs.Levels.{levelAt, multipliersAt}
+use Rattle.early_levels.specs.Levels.{levelAt, multipliersAt}
 
 -- a month before the last, counted from 0, in a scenario
 module _ (t : WithdrawalTiers) (d : Deposit) (rates : List ℕ) (column : ℕ) (levels : List (List ℕ)) (scenario month : ℕ) (u : Usable t)

@@ -27,7 +27,8 @@ use Rattle.deposits.specs.Inner.Values.{tabledValue, valueBounds}
 use Rattle.discounts.specs.Inner.Tables.{factorsOf, Discounting}
 use Rattle.deposit_prices.specs.Inner.Walked.{walkedPrices, valuesAt, Priceable}
 use Rattle.deposits.specs.Inner.Levels.{Levelled, Multiplied}
-use Rattle.early_months.specs.Levels.{levelAt, heldAt, walkedBy, pricedBy, Walkable}
+use Rattle.early_levels.specs.Levels.{levelAt, heldAt}
+use Rattle.early_months.specs.Walks.{walkedBy, pricedBy, Walkable}
 use Rattle.deposits.proofs.TermsLaws.{servicing-pos}
 use Rattle.deposits.proofs.LevelLaws.{level-within, level-at-le, multipliers-here}
 use Rattle.deposits.proofs.PriceLaws.{tabled-price-limit, early-on, last-on, month-small, last-survival, last-price, no-price}

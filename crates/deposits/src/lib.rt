@@ -1,7 +1,7 @@
 // One deposit in each scenario: its lower and upper values.
 pub mod values;
 
-use early_months::Levels;
+use early_levels::Levels;
 use schedule::limits::RATES;
 
 // A deposit as its cash flows see it: coupon in thousandths of a percent a year, penalty in hundredths of a month, remaining months.

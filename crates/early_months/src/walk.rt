@@ -1,6 +1,6 @@
 // The run over all months but the last.
-use crate::Levels;
 use crate::Runs;
+use early_levels::Levels;
 use month_multipliers::MonthMultipliers;
 use month_steps::next_lower;
 use month_steps::next_upper;
@@ -11,7 +11,8 @@ ghost use Prim.Native.Nat.{_-_, _<_, _≤_};
 ghost use Rattle.schedule.specs.Limits.{monthsLimit, tierLimit};
 ghost use Rattle.schedule.specs.Shift.{scenarioCount};
 ghost use Rattle.pricing.specs.Rounding.{down, up};
-ghost use Rattle.early_months.specs.Levels.{levelAt, heldAt, walkedBy, Walkable};
+ghost use Rattle.early_levels.specs.Levels.{levelAt, heldAt};
+ghost use Rattle.early_months.specs.Walks.{walkedBy, Walkable};
 
 // The lower and the upper run after all months but the last. The tables hold the multipliers of the discount factors.
 pub fn early_months<'a>(

@@ -2,7 +2,7 @@
 use Prim.Native.Nat.{_-_, _<_}
 use native.Mathlib.Omega.{arith}
 use Rattle.pricing.specs.Rounding.{down, up}
-use Rattle.early_months.specs.Levels.{pricedBy}
+use Rattle.early_months.specs.Walks.{pricedBy}
 use Rattle.deposit_prices.specs.Inner.Walked.{walkedPrices}
 use Rattle.deposit_prices.proofs.PriceLaws.{priced-suc}
 use borrow.Author.Needs.{needs}

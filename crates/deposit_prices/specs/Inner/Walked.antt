@@ -7,7 +7,7 @@ use Rattle.pricing.specs.Scales.{valueScale}
 use Rattle.pricing.specs.Rounding.{down, up, quotient}
 use Rattle.month_multipliers.specs.declared.MonthMultipliers.{MonthMultipliers}
 use Rattle.month_multipliers.specs.Multipliers.{carriedOf}
-use Rattle.early_months.specs.Levels.{pricedBy, Walkable}
+use Rattle.early_months.specs.Walks.{pricedBy, Walkable}
 use Rattle.deposit_prices.specs.declared.Bounds.{Bounds}
 
 -- lower and upper price of the months that are walked, billionths

@@ -5,7 +5,7 @@ use mathlib.Core.List.{List}
 use Rattle.withdrawal.specs.declared.WithdrawalTiers.{WithdrawalTiers}
 use Rattle.withdrawal.specs.MonthSurvival.{accountOf}
 use Rattle.pricing.specs.Scales.{couponGrowth}
-use Rattle.early_months.specs.Levels as months
+use Rattle.early_levels.specs.Levels as months
 use Rattle.deposits.specs.declared.Deposit.{Deposit}
 use Rattle.deposits.specs.DepositTerms.{servicingCost}
 

@@ -4,7 +4,7 @@ use mathlib.Core.Path.{_≡_, refl}
 use native.Mathlib.Numerals.{add-one}
 use native.Mathlib.Omega.{arith}
 use Rattle.pricing.specs.Rounding.{down, up}
-use Rattle.early_months.specs.Levels.{walkedBy}
+use Rattle.early_months.specs.Walks.{walkedBy}
 use Rattle.early_months.proofs.walk.early_months.Statement.{statement}
 use Rattle.early_months.proofs.walk.early_months.Tie as tie
 

@@ -1,6 +1,6 @@
 -- `early_months::walk::level_at` meets its contract. Assumes nothing.
 use borrow.Author.Needs.{needs}
-use Rattle.early_months.specs.Levels.{levelAt}
+use Rattle.early_levels.specs.Levels.{levelAt}
 use Rattle.early_months.proofs.walk.level_at.Statement.{statement}
 use Rattle.early_months.proofs.walk.level_at.Tie as tie
 

@@ -1,5 +1,4 @@
-// The levels of the months, and the multipliers of the levels.
-use crate::Levels;
+// The months of a deposit before the last: the levels of the tiers that they reach, and what each level makes of a balance.
 use incentives::coupon_parts;
 use month_levels::last_level;
 use month_levels::level_survival;
@@ -15,7 +14,10 @@ ghost use lib.ListN.{getD, replicate};
 ghost use Rattle.schedule.specs.Limits.{couponLimit, penaltyLimit, monthsLimit, rateLimit, tierLimit};
 ghost use Rattle.pricing.specs.Scales.{par, growthLimit, servicingLimit};
 ghost use Rattle.month_levels.specs.Levels.{EdgesFit, levelSurvival};
-ghost use Rattle.early_months.specs.Levels.{Levelled, Multiplied};
+ghost use Rattle.early_levels.specs.Levels.{Levelled, Multiplied};
+
+// Seven levels for each month: the highest scenario's first.
+pub type Levels = [[u8; 7]; MONTHS];
 
 // Writes the levels of all months but the last, at the retail rates of a column, 1 to 3, which are not shifted. As a slice the room is known to have 120
 // months; what stood in it is of no account.

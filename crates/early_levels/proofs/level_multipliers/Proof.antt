@@ -1,4 +1,4 @@
--- `early_months::levels::level_multipliers` meets its contract: the levels before i have their multipliers. Assumes nothing.
+-- `early_levels::level_multipliers` meets its contract: the levels before i have their multipliers. Assumes nothing.
 use Prim.Native.Nat.{ℕ, _+_, _-_, _≤_, _<_}
 use mathlib.Core.Path.{_≡_, ap}
 use mathlib.Core.Bool.{Bool, false}
@@ -6,9 +6,9 @@ use native.Mathlib.Omega.{arith}
 use Rattle.lists.proofs.FillLaws.{FilledBy, filled-none, filled-more}
 use Rattle.month_levels.proofs.LevelLaws.{last-le}
 use Rattle.month_multipliers.specs.declared.MonthMultipliers.{MonthMultipliers}
-use Rattle.early_months.specs.Levels.{multipliersAt}
-use Rattle.early_months.proofs.levels.level_multipliers.Statement.{statement}
-use Rattle.early_months.proofs.levels.level_multipliers.Tie as tie
+use Rattle.early_levels.specs.Levels.{multipliersAt}
+use Rattle.early_levels.proofs.level_multipliers.Statement.{statement}
+use Rattle.early_levels.proofs.level_multipliers.Tie as tie
 
 abbrev Inv-loop : tie.InvT-loop
 Inv-loop brokered growth servicing count survivals retained paid₀ left₀ carried₀ whole₀ last i₀ paid left carried whole i =

@@ -1,14 +1,14 @@
--- `early_months::levels::early_levels` meets its contract: the months before t have their levels. Assumes nothing.
+-- `early_levels::early_levels` meets its contract: the months before t have their levels. Assumes nothing.
 use Prim.Native.Nat.{_-_, _≤_}
 use mathlib.Core.List.{[]}
 use native.Mathlib.Numerals.{add-one}
 use native.Mathlib.Omega.{arith}
 use Rattle.withdrawal.proofs.IncentiveLaws.{parts-within}
 use Rattle.lists.proofs.FillLaws.{FilledBy, filled-start, filled-more}
-use Rattle.early_months.specs.Levels.{MonthLevelled}
-use Rattle.early_months.proofs.PathLaws.{path-suc}
-use Rattle.early_months.proofs.levels.early_levels.Statement.{statement}
-use Rattle.early_months.proofs.levels.early_levels.Tie as tie
+use Rattle.early_levels.specs.Levels.{MonthLevelled}
+use Rattle.early_levels.proofs.PathLaws.{path-suc}
+use Rattle.early_levels.proofs.early_levels.Statement.{statement}
+use Rattle.early_levels.proofs.early_levels.Tie as tie
 
 abbrev Inv-loop : tie.InvT-loop
 Inv-loop brokered coupon penalty months rates column count edges parts list₀ t₀ list t =
