@@ -14,7 +14,8 @@ use Rattle.schedule.specs.Cells.{position, positions, positionAt, withinRow, to
 use Rattle.schedule.specs.Limits.{cellClass, rateLimit}
 use Rattle.schedule.proofs.CellLaws.{CellOf, balance-cell, months-cell}
 use Rattle.answers.specs.Verdict.{Verdict, accepted, refusedIf, firstRefusal, firstOf}
-use Rattle.conditions.specs.Conditions.{cellIn, monthsOutside, columnBalances, balances, aboveColumn, totalDiffers}
+use Rattle.column_sums.specs.Balances.{cellIn, columnBalances, balances}
+use Rattle.conditions.specs.Conditions.{monthsOutside, aboveColumn, totalDiffers}
 use Rattle.conditions.specs.CellVerdicts.{positionVerdict, monthsVerdict, columnVerdict, columnsVerdict, totalVerdict, cellsVerdict}
 use Rattle.decode.specs.Contents.{contentsOf}
 use Rattle.required_sheets.specs.RequiredSheets.{sheetVerdict}

@@ -22,7 +22,7 @@ use Rattle.records.specs.declared.items.Item.the-variants.{Sheet}
 use Rattle.records.specs.Items.{sameItem, recordItem, firstWith}
 use Rattle.notes.specs.Counting.{itemRank, rank}
 use Rattle.fields.proofs.ByteLaws.{number-past}
-use Rattle.conditions.specs.Conditions.{cellIn}
+use Rattle.column_sums.specs.Balances.{cellIn}
 use Rattle.cell_amounts.specs.Amounts.{filedValue, amountAt}
 use Rattle.decode.specs.Contents.{cellOffset, cellValue, sheetOffset}
 use Rattle.required_sheets.specs.RequiredSheets.{sheetMissing}

@@ -11,7 +11,8 @@ use Rattle.lists.specs.Sums.{sum}
 use Rattle.schedule.specs.Cells.{positionAt, withinRow, totalCell}
 use Rattle.answers.specs.Verdict.{Verdict, firstRefusal}
 use Rattle.answers.proofs.VerdictLaws.{first-none, tried-none, condition-fails}
-use Rattle.conditions.specs.Conditions.{cellIn, monthsOutside, columnBalances, balances, aboveColumn, totalDiffers}
+use Rattle.column_sums.specs.Balances.{cellIn, columnBalances, balances}
+use Rattle.conditions.specs.Conditions.{monthsOutside, aboveColumn, totalDiffers}
 use Rattle.conditions.specs.CellVerdicts.{positionVerdict, monthsVerdict, columnVerdict, columnsVerdict, totalVerdict, cellsVerdict}
 use Rattle.conditions.proofs.ConditionLaws.{monthsAt, columnsAt, months-in-turn, columns-in-turn}
 

@@ -12,9 +12,10 @@ use Rattle.lists.specs.Tables.{tableFrom, table}
 use Rattle.schedule.specs.declared.Position.{Position}
 use Rattle.schedule.specs.Cells.{position, positions, positionAt, withinRow, brokeredCell, penaltyBalanceCell}
 use Rattle.answers.specs.Verdict.{Verdict, firstOf}
-use Rattle.conditions.specs.Conditions.{cellIn, monthsOutside, aboveColumn}
+use Rattle.column_sums.specs.Balances.{cellIn}
+use Rattle.conditions.specs.Conditions.{monthsOutside, aboveColumn}
 use Rattle.conditions.specs.CellVerdicts.{positionVerdict, monthsVerdict, columnVerdict, columnsVerdict}
-use Rattle.conditions.proofs.SumLaws.{sumsBefore, sum-before, column-sum}
+use Rattle.column_sums.proofs.SumLaws.{sumsBefore, sum-before, column-sum}
 
 module _ (cells : List ℕ) where
   -- without a balance 7 does not hold; with one it does where the months lie outside the row

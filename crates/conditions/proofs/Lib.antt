@@ -1,3 +1,2 @@
-pub mod SumLaws
 pub mod ConditionLaws
 pub mod CellVerdictLaws

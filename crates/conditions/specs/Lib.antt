@@ -1,4 +1,3 @@
 pub mod Conditions
 pub mod CellVerdicts
 pub mod ValidCells
-pub mod Inner

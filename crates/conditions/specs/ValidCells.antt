@@ -7,7 +7,7 @@ use lib.Dec.{T}
 use Rattle.lists.specs.Sums.{sum}
 use Rattle.schedule.specs.Cells.{positionAt, withinRow, brokeredCell, penaltyBalanceCell, penaltyMonthsCell, totalCell}
 use Rattle.schedule.specs.Limits.{balanceLimit, couponLimit, monthsLimit, penaltyLimit}
-use Rattle.conditions.specs.Conditions.{cellIn, columnBalances, balances}
+use Rattle.column_sums.specs.Balances.{cellIn, columnBalances, balances}
 
 -- i: one of the nine positions, 0 to 8; j: a column, 1 to 3
 pub record ValidCells (cells : List ℕ) : Type 0 where

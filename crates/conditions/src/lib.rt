@@ -1,39 +1,24 @@
 // What can be wrong with the cells of a filing whose records are sound: refusals 7 to 9, in the paper's order.
-
-pub mod cells;
-pub mod sums;
-
-use crate::cells::cell_value;
-use crate::sums::column_sums;
 use answers::Answer;
 use answers::first_refusal;
+use column_sums::ColumnSums;
+use column_sums::cells::cell_value;
+use column_sums::sums::column_sums;
 use schedule::CELLS;
 use schedule::Position;
 use schedule::positions::position;
 use schedule::positions::within_row;
 ghost use mathlib.Core.Path.{_≡_};
 ghost use Rattle.answers.specs.Answers.{verdictOf};
+ghost use Rattle.column_sums.specs.Inner.Sums.{BalancesWithin, columnSums};
 ghost use Rattle.conditions.specs.Conditions.{monthsOutside};
 ghost use Rattle.conditions.specs.CellVerdicts.{monthsVerdict, columnsVerdict, totalVerdict, cellsVerdict};
-ghost use Rattle.conditions.specs.Inner.Sums.{BalancesWithin, columnSums};
 
 // The answer on the cells of a filing, and the sums of their columns.
 pub struct CheckedCells {
     pub answer: Answer,
     pub sums: ColumnSums,
 }
-
-// The sums of columns 1 to 3, and of the rows above each of the nine positions in its column, in thousands of dollars.
-pub struct ColumnSums {
-    pub totals: [u64; 3],
-    pub above: [u64; 9],
-}
-
-// The sums of cells that are all 0.
-pub const NO_SUMS: ColumnSums = ColumnSums {
-    totals: [0; 3],
-    above: [0; 9],
-};
 
 // 7 to 9, on the cells of a filing.
 pub fn check_cells(cells: &[u64; CELLS]) -> CheckedCells

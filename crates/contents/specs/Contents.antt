@@ -3,7 +3,7 @@ use Prim.Native.Nat.{ℕ, _-_}
 use mathlib.Core.List.{List}
 use lib.ListN.{getD}
 use Rattle.schedule.specs.Shift.{pathRate}
-use Rattle.conditions.specs.Conditions.{cellIn}
+use Rattle.column_sums.specs.Balances.{cellIn}
 use Rattle.contents.specs.declared.FiledTiers.{FiledTiers}
 
 -- what a filing says: the values of cells 601 to 661 (01:6-11), the CD yields of months 1 to 120, the retail rates of months 1 to 120 column by column

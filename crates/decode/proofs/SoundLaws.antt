@@ -30,12 +30,12 @@ use Rattle.record_verdicts.proofs.FaultLaws.{Sound, record-plain, faultless-sou
 use Rattle.faults.proofs.RepetitionLaws.{gives-plain}
 use Rattle.fields.proofs.FirstLaws.{first-earlier}
 use Rattle.notes.proofs.CountingLaws.{ranked-cell, counting-holds}
-use Rattle.conditions.specs.Conditions.{cellIn}
+use Rattle.column_sums.specs.Balances.{cellIn}
 use Rattle.cell_amounts.specs.Amounts.{filedValue, amountAt}
 use Rattle.decode.specs.Contents.{cellOffset, cellValue, sheetOffset, tierNumber, tiersAt, contentsOf}
 use Rattle.contents.specs.Contents.{cell}
 use Rattle.cell_amounts.proofs.AmountLaws.{amount-past}
-use Rattle.conditions.specs.Inner.Sums.{BalancesWithin}
+use Rattle.column_sums.specs.Inner.Sums.{BalancesWithin}
 
 -- a cell of 601 to 661, as read from the contents
 cell-read : (s : List ℕ) (n : ℕ) → 601 ≤ n → n ≤ 661 → cell (contentsOf s) n ≡ cellValue s n

@@ -13,7 +13,7 @@ use Rattle.answers.specs.Verdict.{Verdict, firstRefusal}
 use Rattle.answers.specs.Answers.{numberOf, verdictOf}
 use Rattle.answers.proofs.VerdictLaws.{first-passed, first-refused}
 use Rattle.record_verdicts.specs.RecordVerdicts.{recordsVerdict}
-use Rattle.conditions.specs.Inner.Sums.{columnSums}
+use Rattle.column_sums.specs.Inner.Sums.{columnSums}
 use Rattle.contents.specs.Contents.{contentsWith}
 use Rattle.decode.specs.Contents.{rateCount, contentsOf}
 use Rattle.filing.specs.declared.Reading.{Reading}

@@ -1,6 +1,6 @@
 // The 568 numbers of what an accepted filing says, written into a list. Its cells, yields and rates are lent: in the contracts k is the filing's contents,
 // with these arrays and the tiers passed.
-use conditions::ColumnSums;
+use column_sums::ColumnSums;
 use contents::FiledTiers;
 use discounts::discount_tables;
 use filing_tiers::tiers_of;
@@ -17,7 +17,7 @@ ghost use mathlib.Core.List.{_++_};
 ghost use Prim.Native.Nat.{_≤_};
 ghost use lib.ListN.{length, drop};
 ghost use Rattle.lists.specs.Tables.{table, joined};
-ghost use Rattle.conditions.specs.Inner.Sums.{columnSums};
+ghost use Rattle.column_sums.specs.Inner.Sums.{columnSums};
 ghost use Rattle.contents.specs.Contents.{Contents, contentsWith};
 ghost use Rattle.contents.specs.Valid.{Valid};
 ghost use Rattle.sub_balances.specs.PlaceOrder.{subBalanceCount};

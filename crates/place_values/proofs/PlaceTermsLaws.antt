@@ -9,7 +9,7 @@ use Rattle.contents.specs.Valid.{Valid}
 use Rattle.shares.specs.Places.{placeAt}
 use Rattle.sub_balances.specs.PlaceOrder.{positionOf, withPenalty}
 use Rattle.shares.specs.SubBalances.{couponAt, monthsAt, penaltyAt}
-use Rattle.conditions.proofs.SumLaws.{column-range}
+use Rattle.column_sums.proofs.SumLaws.{column-range}
 use Rattle.deposits.specs.Inner.Prices.{DepositLimits}
 use Rattle.place_values.specs.PlaceTerms.{depositAt}
 

@@ -21,7 +21,8 @@ use Rattle.tier_faults.specs.TierFaults.{unfitTier, unsoundTiers}
 use Rattle.faults.specs.Faults.{incomplete, standsBefore, sheetBefore, pathBesideFlat}
 use Rattle.record_verdicts.specs.RecordVerdicts.{shapeVerdict, bodyVerdict, recordVerdict, firstRefused, verdictBy}
 use Rattle.case_filings.specs.Filings.{bytes, filed, yieldSheet, rateSheet, tierSheet, complete, Case, gives}
-use Rattle.conditions.specs.Conditions.{cellIn, monthsOutside, columnBalances, balances, aboveColumn, totalDiffers}
+use Rattle.column_sums.specs.Balances.{cellIn, columnBalances, balances}
+use Rattle.conditions.specs.Conditions.{monthsOutside, aboveColumn, totalDiffers}
 use Rattle.cell_amounts.specs.Amounts.{filedValue, amountAt}
 use Rattle.decode.specs.Contents.{cellOffset, cellValue, sheetOffset, rateNumber, tierNumber, tiersAt, contentsOf}
 use Rattle.contents.specs.Contents.{Contents, cell, cdYield, retailRate}

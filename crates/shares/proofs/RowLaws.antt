@@ -11,10 +11,10 @@ use Rattle.lists.proofs.EachLaws.{each-lt}
 use Rattle.lists.proofs.SumLaws.{sum-take-suc, sum-take-le}
 use Rattle.schedule.specs.declared.Position.{Position}
 use Rattle.schedule.specs.Cells.{position, positions, positionAt, inColumn, brokeredCell}
-use Rattle.conditions.specs.Conditions.{cellIn, columnBalances}
+use Rattle.column_sums.specs.Balances.{cellIn, columnBalances}
 use Rattle.conditions.specs.ValidCells.{ValidCells}
-use Rattle.conditions.specs.Inner.Sums.{columnSum}
-use Rattle.conditions.proofs.SumLaws.{column-range, column-sum, column-limit}
+use Rattle.column_sums.specs.Inner.Sums.{columnSum}
+use Rattle.column_sums.proofs.SumLaws.{column-range, column-sum, column-limit}
 use Rattle.apportion.specs.declared.Row.{Row}
 use Rattle.apportion.specs.Apportion.{shareBehind}
 use Rattle.shares.specs.SubBalances.{brokeredShares, penaltyShares, brokeredIn, retailIn, retailPenalized, brokeredPenalized, fourOf}

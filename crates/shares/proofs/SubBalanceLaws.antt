@@ -13,9 +13,9 @@ use Rattle.lists.proofs.SumLaws.{sum-getD-le, sumWhere-ext}
 use Rattle.schedule.specs.declared.Position.{Position}
 use Rattle.schedule.specs.Cells.{position, positions, positionAt, inColumn, brokeredCell, penaltyBalanceCell, totalCell}
 use Rattle.schedule.specs.Limits.{balanceLimit}
-use Rattle.conditions.specs.Conditions.{cellIn, columnBalances, balances}
+use Rattle.column_sums.specs.Balances.{cellIn, columnBalances, balances}
 use Rattle.conditions.specs.ValidCells.{ValidCells}
-use Rattle.conditions.proofs.SumLaws.{column-range}
+use Rattle.column_sums.proofs.SumLaws.{column-range}
 use Rattle.sub_balances.specs.PlaceOrder.{positionOf, subBalanceCount}
 use Rattle.shares.specs.SubBalances.{brokeredShares, accountParts, penaltyShares, brokeredIn, retailIn, retailPenalized, brokeredPenalized, fourOf, balanceAt}
 use Rattle.apportion.proofs.ApportionLaws.{apportion-sum, apportion-le, apportion-length}

@@ -6,7 +6,7 @@ use lib.ListN.{getD}
 use Rattle.schedule.specs.declared.Position.{Position}
 use Rattle.schedule.specs.Cells.{brokeredCell, penaltyBalanceCell, penaltyMonthsCell}
 use Rattle.sub_balances.specs.PlaceOrder.{positionOf, withPenalty}
-use Rattle.conditions.specs.Conditions.{cellIn, columnBalances}
+use Rattle.column_sums.specs.Balances.{cellIn, columnBalances}
 use Rattle.apportion.specs.Apportion.{apportion}
 
 -- a column's brokered balance, split over its rows

@@ -1,8 +1,8 @@
 // The split of a filing's balances into the thirty-six sub-balances.
 use apportion::Row;
 use apportion::row_shares;
-use conditions::ColumnSums;
-use conditions::cells::cell_value;
+use column_sums::ColumnSums;
+use column_sums::cells::cell_value;
 use schedule::CELLS;
 use schedule::positions::position;
 use sub_balances::NO_PLACE;
@@ -10,7 +10,7 @@ use sub_balances::SubBalance;
 ghost use mathlib.Core.Path.{_≡_};
 ghost use Prim.Native.Nat.{_<_};
 ghost use Rattle.conditions.specs.ValidCells.{ValidCells};
-ghost use Rattle.conditions.specs.Inner.Sums.{columnSums};
+ghost use Rattle.column_sums.specs.Inner.Sums.{columnSums};
 ghost use Rattle.shares.specs.Inner.Rows.{rowAt, rowPlace};
 ghost use Rattle.shares.specs.Places.{placesOf};
 

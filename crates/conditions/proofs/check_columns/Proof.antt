@@ -12,7 +12,7 @@ use Rattle.answers.specs.Answers.{verdictOf}
 use Rattle.answers.proofs.VerdictLaws.{Untried, tried-start, tried-here, tried-next, tried-all, condition-holds, condition-refuses, condition-none}
 use Rattle.conditions.specs.Conditions.{aboveColumn}
 use Rattle.conditions.specs.CellVerdicts.{columnVerdict}
-use Rattle.conditions.proofs.SumLaws.{totals-are}
+use Rattle.column_sums.proofs.SumLaws.{totals-are}
 use Rattle.conditions.proofs.ConditionLaws.{above-sum, columnsAt, columns-in-turn}
 use Rattle.conditions.proofs.check_columns.Statement.{statement}
 use Rattle.conditions.proofs.check_columns.Tie as tie

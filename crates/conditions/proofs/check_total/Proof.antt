@@ -12,9 +12,10 @@ use Rattle.schedule.specs.Limits.{balanceLimit}
 use Rattle.answers.specs.Verdict.{accepted, refused}
 use Rattle.answers.specs.Answers.{verdictOf}
 use Rattle.answers.proofs.VerdictLaws.{condition-holds, condition-passes}
-use Rattle.conditions.specs.Conditions.{cellIn, balances, totalDiffers}
+use Rattle.column_sums.specs.Balances.{cellIn, balances}
+use Rattle.conditions.specs.Conditions.{totalDiffers}
 use Rattle.conditions.specs.CellVerdicts.{totalVerdict}
-use Rattle.conditions.proofs.SumLaws.{totals-are, balances-sum, sums-limit}
+use Rattle.column_sums.proofs.SumLaws.{totals-are, balances-sum, sums-limit}
 use Rattle.lists.specs.Sums.{sum}
 use Rattle.conditions.proofs.check_total.Statement.{statement}
 use Rattle.conditions.proofs.check_total.Tie as tie

@@ -7,7 +7,7 @@ use Rattle.answers.specs.Answers.{verdictOf}
 use Rattle.scan.proofs.ProgressLaws.{records-passed}
 use Rattle.contents.specs.Contents.{Contents}
 use Rattle.filing.specs.Verdict.{contentsVerdict, filingVerdict}
-use Rattle.conditions.specs.Inner.Sums.{BalancesWithin}
+use Rattle.column_sums.specs.Inner.Sums.{BalancesWithin}
 use Rattle.filing.proofs.ReadLaws.{contents-decide, contents-accepted, refused-reading}
 use Rattle.decode.proofs.SoundLaws.{balances-within}
 use Rattle.filing.proofs.read_contents.Statement.{statement}

@@ -8,8 +8,8 @@ use Rattle.fields.specs.Bytes.{numberAt}
 use Rattle.fields.specs.Records.{searchRecords, firstRecord}
 use Rattle.records.specs.Items.{firstWith}
 use Rattle.notes.specs.Counting.{countsFrom, countingBefore}
-use Rattle.conditions.specs.Conditions.{cellIn}
-use Rattle.conditions.specs.Inner.Sums.{columnSum, columnSums}
+use Rattle.column_sums.specs.Balances.{cellIn}
+use Rattle.column_sums.specs.Inner.Sums.{columnSum, columnSums}
 use Rattle.decode.specs.Contents.{cellOffset, cellValue, sheetOffset, rateNumber, tierNumber, tiersAt, contentsOf}
 use Rattle.filing.specs.Readings.{emptyContents}
 use Rattle.filing.proofs.refusal.Statement.{statement}

@@ -2,8 +2,8 @@
 use Prim.Native.Nat.{ℕ}
 use mathlib.Core.List.{List}
 use Rattle.schedule.specs.Cells.{positionAt, brokeredCell, penaltyBalanceCell, penaltyMonthsCell}
-use Rattle.conditions.specs.Conditions.{cellIn}
-use Rattle.conditions.specs.Inner.Sums.{columnSum}
+use Rattle.column_sums.specs.Balances.{cellIn}
+use Rattle.column_sums.specs.Inner.Sums.{columnSum}
 use Rattle.sub_balances.specs.declared.SubBalance.{SubBalance}
 use Rattle.sub_balances.specs.Places.{noValues}
 use Rattle.apportion.specs.declared.Row.{Row}

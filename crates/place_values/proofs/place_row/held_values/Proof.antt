@@ -2,7 +2,7 @@
 use Prim.Native.Nat.{_/_}
 use native.Mathlib.Omega.{arith}
 use borrow.Author.Needs.{needs}
-use Rattle.conditions.proofs.SumLaws.{column-range}
+use Rattle.column_sums.proofs.SumLaws.{column-range}
 use Rattle.sub_balances.specs.PlaceOrder.{positionOf}
 use Rattle.place_values.specs.Inner.PlaceRows.{tabledHeld}
 use Rattle.place_values.proofs.place_row.held_values.Statement.{statement}

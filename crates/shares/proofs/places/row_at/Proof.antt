@@ -6,9 +6,9 @@ use borrow.Author.Needs.{needs}
 use lib.ListN.{getD}
 use Rattle.schedule.specs.declared.Position.{Position}
 use Rattle.schedule.specs.Cells.{positionAt, brokeredCell, penaltyBalanceCell, penaltyMonthsCell}
-use Rattle.conditions.specs.declared.ColumnSums.{ColumnSums}
-use Rattle.conditions.specs.Inner.Sums.{columnSum}
-use Rattle.conditions.proofs.SumLaws.{column-range, totals-are, above-at, sum-at}
+use Rattle.column_sums.specs.declared.ColumnSums.{ColumnSums}
+use Rattle.column_sums.specs.Inner.Sums.{columnSum}
+use Rattle.column_sums.proofs.SumLaws.{column-range, totals-are, above-at, sum-at}
 use Rattle.shares.specs.Inner.Rows.{rowAt}
 use Rattle.shares.proofs.places.row_at.Statement.{statement}
 use Rattle.shares.proofs.places.row_at.Tie as tie

@@ -3,7 +3,7 @@ use schedule::CELLS;
 use schedule::FIRST_CELL;
 use schedule::LAST_CELL;
 ghost use mathlib.Core.Path.{_≡_};
-ghost use Rattle.conditions.specs.Conditions.{cellIn};
+ghost use Rattle.column_sums.specs.Balances.{cellIn};
 
 // The value of a cell; 0 for a number outside the listed cells.
 pub fn cell_value(cells: &[u64; CELLS], n: usize) -> u64

@@ -9,11 +9,11 @@ use Rattle.lists.specs.Tables.{tableFrom}
 use Rattle.lists.proofs.FillLaws.{Filled, fill-none, fill-more, fill-all}
 use Rattle.schedule.specs.declared.Position.{Position}
 use Rattle.schedule.specs.Cells.{positionAt}
-use Rattle.conditions.specs.Conditions.{cellIn}
-use Rattle.conditions.specs.Inner.Sums.{columnSum, columnSums}
-use Rattle.conditions.proofs.SumLaws.{column-range, sumsBefore, aboveAt, sum-at, balance-added, sums-limit}
-use Rattle.conditions.proofs.sums.column_sums.Statement.{statement}
-use Rattle.conditions.proofs.sums.column_sums.Tie as tie
+use Rattle.column_sums.specs.Balances.{cellIn}
+use Rattle.column_sums.specs.Inner.Sums.{columnSum, columnSums}
+use Rattle.column_sums.proofs.SumLaws.{column-range, sumsBefore, aboveAt, sum-at, balance-added, sums-limit}
+use Rattle.column_sums.proofs.sums.column_sums.Statement.{statement}
+use Rattle.column_sums.proofs.sums.column_sums.Tie as tie
 
 abbrev Inv-loop : tie.InvT-loop
 Inv-loop cells totals₀ above₀ i₀ totals above i = (i ≤ 9) × (totals ≡ sumsBefore cells i) × Filled (aboveAt cells) 0 9 i above

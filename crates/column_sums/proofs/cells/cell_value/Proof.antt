@@ -2,9 +2,9 @@
 -- Assumes nothing.
 use borrow.Author.Needs.{needs}
 use borrow.Author.Tests.{le-leb, lt-leb}
-use Rattle.conditions.specs.Conditions.{cellIn}
-use Rattle.conditions.proofs.cells.cell_value.Statement.{statement}
-use Rattle.conditions.proofs.cells.cell_value.Tie as tie
+use Rattle.column_sums.specs.Balances.{cellIn}
+use Rattle.column_sums.proofs.cells.cell_value.Statement.{statement}
+use Rattle.column_sums.proofs.cells.cell_value.Tie as tie
 
 returns : tie.Need-returns
 unfolding cellIn

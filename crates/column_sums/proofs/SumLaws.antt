@@ -16,8 +16,8 @@ use Rattle.lists.proofs.EachLaws.{each-lt}
 use Rattle.lists.proofs.TableLaws.{tableFrom-getD, table-getD, table-le}
 use Rattle.schedule.specs.Cells.{position, positions, positionAt, inColumn}
 use Rattle.schedule.specs.Limits.{balanceLimit, columnLimit}
-use Rattle.conditions.specs.Conditions.{cellIn, columnBalances, balances}
-use Rattle.conditions.specs.Inner.Sums.{BalancesWithin, columnSum, columnSums}
+use Rattle.column_sums.specs.Balances.{cellIn, columnBalances, balances}
+use Rattle.column_sums.specs.Inner.Sums.{BalancesWithin, columnSum, columnSums}
 
 -- what holds of columns 1, 2 and 3 holds of each column
 pub by-column : (P : ℕ → Type 0) → P 1 → P 2 → P 3 → (j : ℕ) → 1 ≤ j → j ≤ 3 → P j

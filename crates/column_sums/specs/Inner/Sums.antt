@@ -6,8 +6,8 @@ use Rattle.lists.specs.Sums.{sumWhere}
 use Rattle.lists.specs.Tables.{tableFrom, table}
 use Rattle.schedule.specs.Cells.{positionAt}
 use Rattle.schedule.specs.Limits.{balanceLimit}
-use Rattle.conditions.specs.declared.ColumnSums.{ColumnSums}
-use Rattle.conditions.specs.Conditions.{cellIn}
+use Rattle.column_sums.specs.declared.ColumnSums.{ColumnSums}
+use Rattle.column_sums.specs.Balances.{cellIn}
 
 -- each of the nine balances is within its limit
 abbrev pub BalancesWithin : List ℕ → Type 0

@@ -4,7 +4,7 @@ use crate::cells::cell_value;
 use schedule::CELLS;
 use schedule::positions::position;
 ghost use mathlib.Core.Path.{_≡_};
-ghost use Rattle.conditions.specs.Inner.Sums.{BalancesWithin, columnSums};
+ghost use Rattle.column_sums.specs.Inner.Sums.{BalancesWithin, columnSums};
 
 // The sums of the three columns, and before each position the sum of its column's rows above it.
 pub fn column_sums(cells: &[u64; CELLS]) -> ColumnSums
