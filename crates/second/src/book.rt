@@ -8,13 +8,12 @@ use second_valuation::arith::add;
 use second_valuation::arith::chosen;
 use second_valuation::book::ACTION;
 use second_valuation::book::PLACE;
+use second_valuation::book::balance_total;
 use second_valuation::book::field;
 use second_valuation::book::held;
-use second_valuation::book::held_places;
 use second_valuation::book::is_refused;
 use second_valuation::bytes::number;
 use second_valuation::refusals::refusal_of;
-use second_valuation::shares::SubBalance;
 
 // Opens the book of an input and keeps it; nothing for an input that is cut short.
 pub fn print_book(s: &[u8], survivals: &[u64]) {
@@ -40,31 +39,23 @@ fn print_opened(filing: &[u8], calls: &[u8], survivals: &[u64]) {
 // What call k answers: whether a change is refused, a place, or the totals.
 fn print_call(filing: &[u8], calls: &[u8], survivals: &[u64], k: u64) {
     let place = field(calls, k, PLACE);
+    let count = add(k, 1);
     match field(calls, k, ACTION) {
         0 | 1 => {
-            let is_refused = is_refused(calls, k);
-            let number = chosen(is_refused, 17, 0);
-            print_answer(number, chosen(is_refused, place, 0));
+            if is_refused(calls, k) {
+                print_answer(17, place);
+            } else {
+                print_answer(0, 0);
+            }
         }
         2 => {
-            let part = held(calls, place, k);
+            let part = held(filing, calls, place, count);
             print_part(b"place", place, part);
             print_bounds(filing, survivals, part);
         }
         _ => {
-            let parts = held_places(calls, k);
-            print_line(b"balance", balance_total(parts));
-            print_totals(filing, survivals, b"total ", parts);
+            print_line(b"balance", balance_total(calls, count));
+            print_totals(filing, survivals, b"total ", calls, count);
         }
     }
-}
-
-// The sum of the balances of all places.
-fn balance_total(parts: [SubBalance; 36]) -> u64 {
-    let mut sum = 0;
-    for place in 0..36usize {
-        let part = parts[place];
-        sum = add(sum, part.balance);
-    }
-    sum
 }

@@ -4,14 +4,13 @@ use crate::figures::print_part;
 use crate::figures::print_totals;
 use crate::lines::print;
 use crate::lines::print_answer;
-use crate::lines::print_first;
 use crate::lines::print_last;
 use crate::lines::print_number;
 use crate::lines::print_pair;
 use second_valuation::arith::chosen;
 use second_valuation::arith::sub;
 use second_valuation::refusals::refusal_of;
-use second_valuation::shares::sub_balances;
+use second_valuation::shares::sub_balance;
 
 // How many numbers the values of a filing are, and how many places its sub-balances.
 pub const NUMBERS: u64 = 568;
@@ -39,8 +38,7 @@ pub fn print_listing(s: &[u8], survivals: &[u64]) {
     if 65536 < s.len() {
         print(b"too long\n");
     } else if refusal.number == 0 {
-        let parts = sub_balances(s);
-        print_totals(s, survivals, b"", parts);
+        print_totals(s, survivals, b"", s, 0);
     } else {
         print_pair(b"refused", refusal.number, refusal.place);
     }
@@ -48,26 +46,25 @@ pub fn print_listing(s: &[u8], survivals: &[u64]) {
 
 // The balance and the values of each place whose balance is not zero, and the totals.
 fn print_values(s: &[u8], survivals: &[u64]) {
-    let parts = sub_balances(s);
-    for place in 0..36usize {
-        let part = parts[place];
+    for place in 0..36 {
+        let part = sub_balance(s, place);
         if part.balance != 0 {
-            print_first(b"value", place as u64);
+            print(b"value");
+            print_number(place);
             print_number(part.balance);
             print_bounds(s, survivals, part);
         }
     }
-    print_totals(s, survivals, b"total ", parts);
+    print_totals(s, survivals, b"total ", s, 0);
 }
 
 // Each place's balance, coupon, months and penalty, and that its fourteen values are 0, where one of
 // the four is not.
 fn print_shares(s: &[u8]) {
-    let parts = sub_balances(s);
-    for place in 0..36usize {
-        let part = parts[place];
+    for place in 0..36 {
+        let part = sub_balance(s, place);
         if part.balance | part.coupon | part.months | part.penalty != 0 {
-            print_part(b"share", place as u64, part);
+            print_part(b"share", place, part);
             print_last(14);
         }
     }

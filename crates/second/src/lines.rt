@@ -9,7 +9,8 @@ pub fn print_answer(number: u64, place: u64) {
 // A name and two numbers. Those of a rest are how many places of a list are past the written ones,
 // and how many of these are as they were.
 pub fn print_pair(name: &[u8], a: u64, b: u64) {
-    print_first(name, a);
+    print(name);
+    print_number(a);
     print_last(b);
 }
 
@@ -17,12 +18,6 @@ pub fn print_pair(name: &[u8], a: u64, b: u64) {
 pub fn print_line(name: &[u8], n: u64) {
     print(name);
     print_last(n);
-}
-
-// A name and the first number of a line.
-pub fn print_first(name: &[u8], n: u64) {
-    print(name);
-    print_number(n);
 }
 
 // The last number of a line.

@@ -9,8 +9,14 @@ mod filings;
 mod lines;
 mod searches;
 
+use second_valuation::arith::LARGEST;
+
 // Prints what each entry's call answers.
 fn main() {
     let survivals = second_valuation::survival::survivals();
-    entries::print_entries(&survivals);
+    for i in 0..LARGEST {
+        if !entries::print_entry(&survivals, i) {
+            break;
+        }
+    }
 }

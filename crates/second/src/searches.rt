@@ -2,7 +2,6 @@
 // 8 bytes each, and a filing, whose tiers are searched.
 use crate::lines::print;
 use crate::lines::print_answer;
-use crate::lines::print_first;
 use crate::lines::print_last;
 use crate::lines::print_number;
 use second_valuation::bytes::number;
@@ -39,7 +38,8 @@ fn print_found(s: &[u8], survivals: &[u64], earned: u64, lost: u64, cost: u64) {
         print(b"too large\n");
     } else {
         let withdrawal = withdrawal(s, earned, lost, cost);
-        print_first(b"tier", withdrawal);
+        print(b"tier");
+        print_number(withdrawal);
         print_number(entry(survivals, withdrawal));
         print_last(edges_tried(s, earned, lost, cost));
     }

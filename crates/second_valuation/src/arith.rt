@@ -5,9 +5,10 @@
 pub const LARGEST: u64 = 18446744073709551615;
 
 // a × b / d, rounded down, or up where `up` says so.
-pub fn scaled(a: u64, b: u64, d: u64, up: bool) -> u64 {
+pub(crate) fn scaled(a: u64, b: u64, d: u64, up: bool) -> u64 {
     let more = chosen(up, sub(d, 1), 0);
-    quotient(add(mul(a, b), more), d)
+    let n = add(mul(a, b), more);
+    if d == 0 { 0 } else { n / d }
 }
 
 // The first number where something holds, else the second.
@@ -31,14 +32,4 @@ pub fn mul(a: u64, b: u64) -> u64 {
         return 0;
     }
     if a <= LARGEST / b { a * b } else { LARGEST }
-}
-
-// a / b, rounded down.
-pub fn quotient(a: u64, b: u64) -> u64 {
-    if b == 0 { 0 } else { a / b }
-}
-
-// The smaller of two numbers.
-pub fn least(a: u64, b: u64) -> u64 {
-    if a < b { a } else { b }
 }

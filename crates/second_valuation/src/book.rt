@@ -2,6 +2,8 @@
 // the last change of it that was not refused says. A call has six numbers of 8 bytes: 0 to set a
 // place, 1 to clear it, 2 to show it, 3 for the totals; the place; and for a place to set its balance,
 // coupon, months and penalty.
+use crate::arith::LARGEST;
+use crate::arith::add;
 use crate::arith::chosen;
 use crate::arith::mul;
 use crate::bytes::number;
@@ -9,6 +11,7 @@ use crate::cells::COLUMN;
 use crate::cells::is_within;
 use crate::cells::known;
 use crate::shares::SubBalance;
+use crate::shares::sub_balance;
 
 pub const SET: u64 = 0;
 
@@ -45,18 +48,20 @@ pub fn is_refused(calls: &[u8], k: u64) -> bool {
     (35 < place) | ((field(calls, k, ACTION) == SET) & is_outside)
 }
 
-// What all places hold after the first `count` calls.
-pub fn held_places(calls: &[u8], count: u64) -> [SubBalance; 36] {
-    let first = held(calls, 0, count);
-    let mut parts = [first; 36];
-    for place in 0..36usize {
-        parts[place] = held(calls, place as u64, count);
+// The sum of the balances of all places after the first `count` calls.
+pub fn balance_total(calls: &[u8], count: u64) -> u64 {
+    let mut sum = 0;
+    for place in 0..36 {
+        sum = add(sum, field(calls, last_set(calls, place, count), BALANCE));
     }
-    parts
+    sum
 }
 
-// What a place holds after the first `count` calls.
-pub fn held(calls: &[u8], place: u64, count: u64) -> SubBalance {
+// What a place holds after the first `count` calls; before the first, the filing's sub-balance.
+pub fn held(filing: &[u8], calls: &[u8], place: u64, count: u64) -> SubBalance {
+    if count == 0 {
+        return sub_balance(filing, place);
+    }
     let k = last_set(calls, place, count);
     SubBalance {
         balance: field(calls, k, BALANCE),
@@ -68,16 +73,15 @@ pub fn held(calls: &[u8], place: u64, count: u64) -> SubBalance {
     }
 }
 
-// The call among the first `count` that set a place as it is; one past the last, of which each field
-// is 0, where the place is empty.
+// The call among the first `count` that set a place as it is; the largest number, past the last call,
+// of which each field is 0, where the place is empty.
 fn last_set(calls: &[u8], place: u64, count: u64) -> u64 {
-    let none = calls.len() as u64;
-    let mut last = none;
+    let mut last = LARGEST;
     for k in 0..count {
         let action = field(calls, k, ACTION);
         let is_change = (action <= CLEAR) & (field(calls, k, PLACE) == place);
         if is_change & !is_refused(calls, k) {
-            last = chosen(action == SET, k, none);
+            last = chosen(action == SET, k, LARGEST);
         }
     }
     last

@@ -3,11 +3,6 @@
 use crate::arith::add;
 use crate::arith::sub;
 
-// The number of 2 bytes that stands `offset` bytes after a position.
-pub fn word(s: &[u8], at: u64, offset: u64) -> u64 {
-    number(s, at, offset, 2)
-}
-
 // The number of `size` bytes that stands `offset` bytes after a position.
 pub fn number(s: &[u8], at: u64, offset: u64, size: u64) -> u64 {
     let end = add(at, add(offset, size));
@@ -19,7 +14,7 @@ pub fn number(s: &[u8], at: u64, offset: u64, size: u64) -> u64 {
 }
 
 // The byte at a position.
-pub fn letter(s: &[u8], at: u64) -> u8 {
+pub(crate) fn letter(s: &[u8], at: u64) -> u8 {
     let i = at as usize;
     if i < s.len() { s[i] } else { 0 }
 }

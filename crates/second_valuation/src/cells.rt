@@ -1,11 +1,10 @@
 // The cells of Schedule CMR that the valuation reads: nine balances, ascending, each with its WAC
 // (coupon), its WARM (remaining months), its column and the months of its row.
 use crate::arith::LARGEST;
-use crate::arith::chosen;
 use crate::arith::sub;
 use crate::bytes::letter;
 
-// What is known of a cell, by its place in a line of the table.
+// What is known of a cell, by its line of the table.
 pub const BALANCE: u64 = 0;
 
 pub const WAC: u64 = 1;
@@ -18,31 +17,28 @@ const FIRST_MONTH: u64 = 4;
 
 const LAST_MONTH: u64 = 5;
 
-// The nine, a line each.
-const NINE: [[u64; 6]; 9] = [
-    [601, 605, 608, 1, 1, 3],
-    [602, 606, 609, 2, 1, 3],
-    [603, 607, 610, 3, 1, 3],
-    [615, 619, 622, 1, 4, 12],
-    [616, 620, 623, 2, 4, 12],
-    [617, 621, 624, 3, 4, 12],
-    [631, 634, 636, 2, 13, 36],
-    [632, 635, 637, 3, 13, 36],
-    [641, 643, 644, 3, 37, 120],
+// The nine, from left to right.
+const NINE: [[u64; 9]; 6] = [
+    [601, 602, 603, 615, 616, 617, 631, 632, 641],
+    [605, 606, 607, 619, 620, 621, 634, 635, 643],
+    [608, 609, 610, 622, 623, 624, 636, 637, 644],
+    [1, 2, 3, 1, 2, 3, 2, 3, 3],
+    [1, 1, 1, 4, 4, 4, 13, 13, 37],
+    [3, 3, 3, 12, 12, 12, 36, 36, 120],
 ];
 
 // The cell of the total.
 pub const TOTAL: u64 = 645;
 
-const MOST_COUPON: u64 = 1500;
+pub(crate) const MOST_COUPON: u64 = 1500;
 
 // What is known of the k-th of the nine, from 0 on; past the last it begins anew.
-pub fn known(k: u64, what: u64) -> u64 {
-    NINE[k as usize % 9][what as usize % 6]
+pub(crate) fn known(k: u64, what: u64) -> u64 {
+    NINE[what as usize % 6][k as usize % 9]
 }
 
 // Whether a WARM is within the row of the k-th cell.
-pub fn is_within(k: u64, months: u64) -> bool {
+pub(crate) fn is_within(k: u64, months: u64) -> bool {
     (known(k, FIRST_MONTH) <= months) & (months <= known(k, LAST_MONTH))
 }
 
@@ -55,7 +51,7 @@ pub fn entry(table: &[u64], k: u64) -> u64 {
 // The largest value that a filing may have in a cell; 0 for a cell that it may not have. Cells 601
 // to 661 hold a balance, a coupon (WAC), months (WARM), the total, a brokered or penalty share of a
 // column, a penalty, or any value; the others are -.
-pub fn limit(cell: u64) -> u64 {
+pub(crate) fn limit(cell: u64) -> u64 {
     let classes = b"-BBBXCCCMMM----BBBXCCCMMM------BBXCCMM---BXCMT----SSSSSSPPPXXX";
     match letter(classes, sub(cell, 600)) {
         b'B' => 999999999,
@@ -67,9 +63,4 @@ pub fn limit(cell: u64) -> u64 {
         b'X' => LARGEST,
         _ => 0,
     }
-}
-
-// The same of a record of kind 6, which has coupons alone, in tenths of what the others have.
-pub fn fine_limit(cell: u64) -> u64 {
-    chosen(limit(cell) == MOST_COUPON, 15000, 0)
 }

@@ -5,7 +5,7 @@ use crate::arith::LARGEST;
 use crate::arith::add;
 use crate::arith::chosen;
 use crate::arith::mul;
-use crate::arith::quotient;
+use crate::arith::scaled;
 use crate::arith::sub;
 use crate::bytes::number;
 use crate::cells::TOTAL;
@@ -58,10 +58,10 @@ fn taken(s: &[u8], k: u64, sums: Sums) -> Sums {
     let i = position(months_between(issue, maturity), months) << 2;
     let before = sums.list;
     let list = added(before, i, balance, coupon, months);
-    let mut fault = chosen(MOST_BALANCE < entry(&list, i), 5, 0);
-    fault = chosen(120 < months, 15, fault);
-    fault = date_fault(today, issue, maturity, fault);
-    fault = chosen((MOST_BALANCE < balance) | (MOST_COUPON < coupon), 5, fault);
+    let later = chosen(MOST_BALANCE < entry(&list, i), 5, 0);
+    let dated = date_fault(today, issue, maturity, months, later);
+    let is_over = (MOST_BALANCE < balance) | (MOST_COUPON < coupon);
+    let fault = chosen(is_over, 5, dated);
     Sums {
         number: fault,
         place: chosen(fault == 0, 0, k),
@@ -70,10 +70,10 @@ fn taken(s: &[u8], k: u64, sums: Sums) -> Sums {
 }
 
 // Fault 13 of a certificate's dates that are no days, 14 where it is not issued by the valuation date
-// or does not mature after it; else one that is tested later.
-fn date_fault(today: u64, issue: u64, maturity: u64, later: u64) -> u64 {
+// or does not mature after it, 15 where too many months remain; else one that is tested later.
+fn date_fault(today: u64, issue: u64, maturity: u64, months: u64, later: u64) -> u64 {
     let is_outstanding = (issue <= today) & (today < maturity);
-    let fault = chosen(is_outstanding, later, 14);
+    let fault = chosen(is_outstanding, chosen(120 < months, 15, later), 14);
     chosen((today == 0) | (issue == 0) | (maturity == 0), 13, fault)
 }
 
@@ -127,7 +127,8 @@ pub fn cell_value(sums: &[u64], cell: u64) -> u64 {
 // where there is no balance.
 fn made(sums: &[u64], i: u64) -> u64 {
     let weight = entry(sums, (i >> 2) << 2);
-    let mean = quotient(add(entry(sums, i) << 1, weight), weight << 1);
+    let doubled = add(entry(sums, i) << 1, weight);
+    let mean = scaled(doubled, 1, weight << 1, false);
     let made = chosen(i % 4 == 0, weight, mean);
     chosen(weight == 0, LARGEST, made)
 }

@@ -1,8 +1,7 @@
-// Days of the Gregorian calendar, each as the number year × 10,000 + month × 100 + day, and months
-// between them.
+// Days of the Gregorian calendar, and months between them. A month is counted through the years,
+// year × 12 + 1 to 12, and a day is the number month × 32 + day.
 use crate::arith::add;
 use crate::arith::chosen;
-use crate::arith::least;
 use crate::arith::mul;
 use crate::arith::sub;
 use crate::bytes::number;
@@ -19,32 +18,27 @@ pub fn date(s: &[u8], at: u64) -> u64 {
     let day = number(s, at, 16, 8);
     let is_year = (1900 <= year) & (year <= 2199);
     let is_day = (1 <= day) & (day <= last_day(year, month));
-    chosen(is_year & is_day, dated(year, month, day), 0)
+    let counted = add(mul(year, 12), month);
+    chosen(is_year & is_day, (counted << 5) | day, 0)
 }
 
 // The least number of months, from 1 on, by which `from` must be moved on to reach `to`.
 pub fn months_between(from: u64, to: u64) -> u64 {
-    let mut months = 1;
-    for _ in 0..3600u64 {
+    for months in 1..3600 {
         if to <= moved(from, months) {
-            break;
+            return months;
         }
-        months = add(months, 1);
     }
-    months
+    3600
 }
 
 // A day moved on by some months; one that the month lacks becomes its last day.
 fn moved(from: u64, months: u64) -> u64 {
-    let count = add(mul(from / 10000, 12), add(from / 100 % 100, months));
-    let year = sub(count, 1) / 12;
-    let month = sub(count, mul(year, 12));
-    dated(year, month, least(from % 100, last_day(year, month)))
-}
-
-// The number of a day.
-fn dated(year: u64, month: u64, day: u64) -> u64 {
-    add(mul(add(mul(year, 100), month), 100), day)
+    let month = add(from / 32, months);
+    let before = sub(month, 1);
+    let last = last_day(before / 12, before % 12 + 1);
+    let day = from % 32;
+    (month << 5) | chosen(day < last, day, last)
 }
 
 // The last day of a month; 0 where there is no such month.

@@ -5,6 +5,7 @@ use crate::arith::chosen;
 use crate::arith::mul;
 use crate::arith::scaled;
 use crate::arith::sub;
+use crate::book::held;
 use crate::records::YIELDS;
 use crate::records::retail_rate;
 use crate::records::sheet_number;
@@ -12,11 +13,13 @@ use crate::shares::SubBalance;
 use crate::withdrawals::WHOLE;
 use crate::withdrawals::month_survival;
 
-// The sum of the values of the places from `from` to `to` in a scenario.
+// The sum of the values of the places from `from` to `to`, as they are held after the first `count`
+// calls, in a scenario.
 pub fn total(
     s: &[u8],
     survivals: &[u64],
-    parts: [SubBalance; 36],
+    calls: &[u8],
+    count: u64,
     from: u64,
     to: u64,
     scenario: u64,
@@ -24,7 +27,7 @@ pub fn total(
 ) -> u64 {
     let mut sum = 0;
     for place in from..to {
-        let part = parts[place as usize % 36];
+        let part = held(s, calls, place, count);
         sum = add(sum, value_of(s, survivals, part, scenario, up));
     }
     sum

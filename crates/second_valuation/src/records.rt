@@ -4,11 +4,9 @@
 // first byte on.
 use crate::arith::add;
 use crate::arith::chosen;
-use crate::arith::least;
 use crate::arith::mul;
 use crate::arith::sub;
 use crate::bytes::number;
-use crate::bytes::word;
 use crate::cells::BALANCE;
 use crate::cells::COLUMN;
 use crate::cells::known;
@@ -31,13 +29,13 @@ pub const AMENDMENT: u64 = 7;
 // the record.
 pub fn value(s: &[u8], cell: u64) -> u64 {
     let at = standing(s, cell);
-    let offset = chosen(word(s, at, 2) == AMENDMENT, 10, 6);
+    let offset = chosen(number(s, at, 2, 2) == AMENDMENT, 10, 6);
     number(s, at, offset, 8)
 }
 
 // A coupon in thousandths of a percent a year: kind 6 has thousandths, kinds 1 and 7 hundredths.
 pub fn coupon(s: &[u8], wac: u64) -> u64 {
-    let kind = word(s, standing(s, wac), 2);
+    let kind = number(s, standing(s, wac), 2, 2);
     mul(value(s, wac), chosen(kind == FINE, 1, 10))
 }
 
@@ -57,13 +55,17 @@ pub fn column_sum(s: &[u8], of: u64, count: u64) -> u64 {
 fn standing(s: &[u8], cell: u64) -> u64 {
     let end = s.len() as u64;
     let mut best = end;
+    let mut highest = 0;
     let mut at = 0;
     for _ in 0..s.len() {
         if end <= at {
             break;
         }
-        let is_higher = rank(s, best, cell) < rank(s, at, cell);
-        best = chosen(is_higher, at, best);
+        let rank = rank(s, at, cell);
+        if highest < rank {
+            best = at;
+            highest = rank;
+        }
         at = next(s, at);
     }
     best
@@ -71,12 +73,12 @@ fn standing(s: &[u8], cell: u64) -> u64 {
 
 // 0 for a record that is not of the cell; 1 for one of kind 1 or 6; above these an amendment's number.
 fn rank(s: &[u8], at: u64, cell: u64) -> u64 {
-    let rank = match word(s, at, 2) {
+    let rank = match number(s, at, 2, 2) {
         1 | 6 => 1,
-        7 => add(1, word(s, at, 6)),
+        7 => add(1, number(s, at, 6, 2)),
         _ => 0,
     };
-    chosen(word(s, at, 4) == cell, rank, 0)
+    chosen(number(s, at, 4, 2) == cell, rank, 0)
 }
 
 // The retail rate of a column from 1 to 3 in a month from 1 to 120. The path has the months of
@@ -91,29 +93,29 @@ pub fn retail_rate(s: &[u8], column: u64, month: u64) -> u64 {
 
 // The n-th number, from 1 on, of the sheet of a kind.
 pub fn sheet_number(s: &[u8], kind: u64, n: u64) -> u64 {
-    word(s, sheet(s, kind), add(n, 1) << 1)
+    number(s, sheet(s, kind), add(n, 1) << 1, 2)
 }
 
 // The offset of the record of a kind that a filing has once; the end where it lacks one.
 pub fn sheet(s: &[u8], kind: u64) -> u64 {
-    found(s, s.len() as u64, kind, 0, 0)
+    found(s, s.len() as u64, 2, kind)
 }
 
-// The offset of the first record before `until` that has the kind and, in the `size` bytes after it,
-// the key: its cell, 2 bytes, or that and an amendment's number, 4; `until` where there is none.
-pub fn found(s: &[u8], until: u64, kind: u64, size: u64, key: u64) -> u64 {
+// The offset of the first record before `until` that has the key in the `size` bytes after its
+// length: its kind, 2 bytes, that and its cell, 4, or these and an amendment's number, 6; `until`, or
+// a place past it in a filing that is broken, where there is none.
+pub fn found(s: &[u8], until: u64, size: u64, key: u64) -> u64 {
     let mut at = 0;
     for _ in 0..s.len() {
-        let is_it = (word(s, at, 2) == kind) & (number(s, at, 4, size) == key);
-        if (until <= at) | is_it {
+        if (until <= at) | (number(s, at, 2, size) == key) {
             break;
         }
         at = next(s, at);
     }
-    least(at, until)
+    at
 }
 
 // The offset after the record at `at`.
 pub fn next(s: &[u8], at: u64) -> u64 {
-    add(at, add(2, word(s, at, 0)))
+    add(at, add(2, number(s, at, 0, 2)))
 }

@@ -2,15 +2,13 @@
 use crate::arith::add;
 use crate::arith::chosen;
 use crate::bytes::number;
-use crate::bytes::word;
 use crate::cells::BALANCE;
+use crate::cells::MOST_COUPON;
 use crate::cells::TOTAL;
 use crate::cells::WARM;
-use crate::cells::fine_limit;
 use crate::cells::is_within;
 use crate::cells::known;
 use crate::cells::limit;
-use crate::records::AMENDMENT;
 use crate::records::CELL;
 use crate::records::FINE;
 use crate::records::PATH;
@@ -58,75 +56,72 @@ fn first_faulty(s: &[u8]) -> u64 {
     at
 }
 
-// The first fault of the record at `at`, of 1 to 5, 11, 12 and 16; at the end it is a 1.
+// The first fault of the record at `at`, of 1 to 5, 11, 12 and 16; at the end it is a 1, as where it
+// runs past the end or is too short for a kind. Kind 6 has coupons alone, in tenths of what the others
+// have.
 fn record_fault(s: &[u8], at: u64) -> u64 {
-    let cell = word(s, at, 4);
-    let fault = match word(s, at, 2) {
-        1 => cell_fault(s, at, limit(cell)),
+    let most = limit(number(s, at, 4, 2));
+    let fault = match number(s, at, 2, 2) {
+        1 => cell_fault(s, at, most),
         2 => sheet_fault(s, at, YIELDS, 120, YIELDS),
         3 => sheet_fault(s, at, RATES, 3, PATH),
         4 => tiers_fault(s, at),
         5 => sheet_fault(s, at, PATH, 360, RATES),
-        6 => cell_fault(s, at, fine_limit(cell)),
-        7 => amendment_fault(s, at, limit(cell)),
+        6 => cell_fault(s, at, chosen(most == MOST_COUPON, 15000, 0)),
+        7 => amendment_fault(s, at, most),
         _ => 2,
     };
-    chosen(is_broken(s, at), 1, fault)
-}
-
-// Whether the record at `at` runs past the end or is too short for a kind.
-fn is_broken(s: &[u8], at: u64) -> bool {
-    let end = s.len() as u64;
-    (end < add(at, 2)) | (word(s, at, 0) < 2) | (end < next(s, at))
+    let is_broken = (number(s, at, 0, 2) < 2) | ((s.len() as u64) < next(s, at));
+    chosen(is_broken, 1, fault)
 }
 
 // Fault 2, 3, 4 or 5 of a cell of kind 1 or 6, which have their cells in common. A cell that the
 // kind may not have has `most` 0.
 fn cell_fault(s: &[u8], at: u64, most: u64) -> u64 {
-    let cell = word(s, at, 4);
-    let is_cell = found(s, at, CELL, 2, cell) < at;
-    let is_fine = found(s, at, FINE, 2, cell) < at;
+    let cell = number(s, at, 4, 2) << 16;
+    let is_cell = found(s, at, 4, cell | CELL) < at;
+    let is_fine = found(s, at, 4, cell | FINE) < at;
     let mut fault = chosen(most < number(s, at, 6, 8), 5, 0);
     fault = chosen(is_cell | is_fine, 4, fault);
     fault = chosen(most == 0, 3, fault);
-    chosen(word(s, at, 0) != 12, 2, fault)
+    chosen(number(s, at, 0, 2) != 12, 2, fault)
 }
 
 // Fault 2, 3, 16 or 5 of an amendment. Its number is not 0, its state is 0, or 1 where the cell is
 // withdrawn, and a cell that is withdrawn has the value 0.
 fn amendment_fault(s: &[u8], at: u64, most: u64) -> u64 {
-    let state = word(s, at, 8);
+    let state = number(s, at, 8, 2);
     let limit = chosen(state == 0, most, 0);
     let is_over = (1 < state) | (limit < number(s, at, 10, 8));
-    let key = number(s, at, 4, 4);
-    let mut fault = chosen(is_over | (word(s, at, 6) == 0), 5, 0);
-    fault = chosen(found(s, at, AMENDMENT, 4, key) < at, 16, fault);
+    let key = number(s, at, 2, 6);
+    let mut fault = chosen(is_over | (number(s, at, 6, 2) == 0), 5, 0);
+    fault = chosen(found(s, at, 6, key) < at, 16, fault);
     fault = chosen(most == 0, 3, fault);
-    chosen(word(s, at, 0) != 16, 2, fault)
+    chosen(number(s, at, 0, 2) != 16, 2, fault)
 }
 
 // Fault 2, 4, 12 or 5 of a sheet of `count` rates, with `other` for the kind that may not stand
 // before it beside its own.
 fn sheet_fault(s: &[u8], at: u64, kind: u64, count: u64, other: u64) -> u64 {
     let mut fault = chosen(is_rate_over(s, at, count), 5, 0);
-    fault = chosen(found(s, at, other, 0, 0) < at, 12, fault);
-    fault = chosen(found(s, at, kind, 0, 0) < at, 4, fault);
-    chosen(word(s, at, 0) != add(count, 1) << 1, 2, fault)
+    fault = chosen(found(s, at, 2, other) < at, 12, fault);
+    fault = chosen(found(s, at, 2, kind) < at, 4, fault);
+    chosen(number(s, at, 0, 2) != add(count, 1) << 1, 2, fault)
 }
 
 // Fault 2, 4 or 11 of the tiers.
 fn tiers_fault(s: &[u8], at: u64) -> u64 {
     let mut fault = chosen(are_disordered(s, at), 11, 0);
-    fault = chosen(found(s, at, TIERS, 0, 0) < at, 4, fault);
-    let length = add(4, word(s, at, 4) << 2);
-    chosen(word(s, at, 0) != length, 2, fault)
+    fault = chosen(found(s, at, 2, TIERS) < at, 4, fault);
+    let length = add(4, number(s, at, 4, 2) << 2);
+    chosen(number(s, at, 0, 2) != length, 2, fault)
 }
 
 // Whether one of the `count` rates of the sheet at `at` is over 2,500.
 fn is_rate_over(s: &[u8], at: u64, count: u64) -> bool {
     let mut is_over = false;
     for k in 0..count {
-        is_over = is_over | (2500 < word(s, at, add(k, 2) << 1));
+        is_over = is_over | (2500 < number(s, at, add(k, 2) << 1, 2));
     }
     is_over
 }
@@ -168,9 +163,9 @@ fn first_misplaced(s: &[u8]) -> u64 {
 fn first_excess(s: &[u8]) -> u64 {
     let mut first = 656;
     for i in 0..6 {
-        let k = 5 - i;
-        let sum = column_sum(s, add(1, k % 3), 9);
-        first = chosen(sum < value(s, 650 + k), 650 + k, first);
+        let cell = 655 - i;
+        let sum = column_sum(s, 3 - i % 3, 9);
+        first = chosen(sum < value(s, cell), cell, first);
     }
     first
 }

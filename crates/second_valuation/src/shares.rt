@@ -4,7 +4,6 @@ use crate::arith::add;
 use crate::arith::chosen;
 use crate::arith::scaled;
 use crate::arith::sub;
-use crate::cells::BALANCE;
 use crate::cells::COLUMN;
 use crate::cells::WAC;
 use crate::cells::WARM;
@@ -32,18 +31,8 @@ pub struct SubBalance {
     pub brokered: bool,
 }
 
-// The sub-balances of all places.
-pub fn sub_balances(s: &[u8]) -> [SubBalance; 36] {
-    let first = sub_balance(s, 0);
-    let mut parts = [first; 36];
-    for place in 0..36usize {
-        parts[place] = sub_balance(s, place as u64);
-    }
-    parts
-}
-
 // The sub-balance at a place from 0 to 35.
-fn sub_balance(s: &[u8], place: u64) -> SubBalance {
+pub fn sub_balance(s: &[u8], place: u64) -> SubBalance {
     let k = place / 4;
     let kind = place % 4;
     let column = known(k, COLUMN);
@@ -62,20 +51,22 @@ fn sub_balance(s: &[u8], place: u64) -> SubBalance {
 // after the other, and in each the retail money before the brokered: the part has its share of the
 // penalty balance, or is without it, from `low` to `high`.
 fn share(s: &[u8], k: u64, kind: u64, column: u64) -> u64 {
-    let sum = column_sum(s, column, 9);
     let before = column_sum(s, column, k);
-    let after = add(before, value(s, known(k, BALANCE)));
-    let brokered = between(value(s, add(BROKERED, column)), sum, before, after);
-    let middle = sub(after, brokered);
+    let after = column_sum(s, column, add(k, 1));
+    let middle = sub(after, between(s, BROKERED, column, before, after));
     let low = chosen(kind < 2, before, middle);
     let high = chosen(kind < 2, middle, after);
-    let subject = between(value(s, add(PENALTY, column)), sum, low, high);
+    let subject = between(s, PENALTY, column, low, high);
     chosen(kind % 2 == 0, subject, sub(sub(high, low), subject))
 }
 
-// How much of a column's amount falls on the thousands from `low` to `high` of its sum, each taken by
-// its floor; 0 in an empty column.
-fn between(amount: u64, sum: u64, low: u64, high: u64) -> u64 {
-    let upper = scaled(amount, high, sum, false);
-    sub(upper, scaled(amount, low, sum, false))
+// How much of a column's amount, in the cell that is `column` after `first`, falls on the thousands
+// from `low` to `high` of its sum, each taken by its floor; 0 in an empty column.
+fn between(s: &[u8], first: u64, column: u64, low: u64, high: u64) -> u64 {
+    let amount = value(s, add(first, column));
+    let sum = column_sum(s, column, 9);
+    sub(
+        scaled(amount, high, sum, false),
+        scaled(amount, low, sum, false),
+    )
 }

@@ -18,31 +18,29 @@ pub fn survivals() -> [u64; 601] {
 }
 
 // q for what stays in a year, 1,000 - w, found from its highest binary digit down: a digit is kept
-// where the power still fits. The twelve lower digits of the power are 0 only for q = 0 and q = 10^9,
+// where the power is still below the right-hand side. It meets it only for q = 10^9, where all stays,
 // since q^12 has to bring 105 factors 2 and 105 factors 5.
 fn survival(stays: u64) -> u64 {
     let mut q = 0;
     let mut digit = 536870912;
     for _ in 0..30u64 {
         let raised = add(q, digit);
-        let highest = highest_digit(raised);
-        let fits = (highest < stays) | ((highest == stays) & (raised % BASE == 0));
-        q = chosen(fits, raised, q);
+        q = chosen(highest_digit(raised) < stays, raised, q);
         digit = digit / 2;
     }
-    q
+    chosen(stays == 1000, BASE, q)
 }
 
 // The highest of the thirteen digits of q^12 × 1,000, for q under 2^30. Each of twelve rounds
-// multiplies the digits by q; nothing is carried out of the last.
+// multiplies the digits by q and carries what is past the digit before; nothing is carried out of the
+// last.
 fn highest_digit(q: u64) -> u64 {
     let mut digits = [1000, 0, 0, 0, 0, 0, 0, 0, 0, 0, 0, 0, 0];
-    let mut carry = 0;
+    let mut x = 0;
     for k in 0..156usize {
         let i = k % 13;
-        let x = add(mul(digits[i], q), carry);
+        x = add(mul(digits[i], q), x / BASE);
         digits[i] = x % BASE;
-        carry = x / BASE;
     }
-    digits[12]
+    x % BASE
 }

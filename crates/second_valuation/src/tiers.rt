@@ -3,15 +3,14 @@
 // edge in hundredths and annual withdrawal in thousandths.
 use crate::arith::add;
 use crate::arith::chosen;
-use crate::arith::least;
 use crate::arith::sub;
-use crate::bytes::word;
+use crate::bytes::number;
 use crate::cells::entry;
 
-// What a tier has, in this order.
-pub const EDGE: u64 = 0;
+// What a tier has, by where the first tier of a record has it.
+pub const EDGE: u64 = 6;
 
-pub const WITHDRAWAL: u64 = 1;
+pub const WITHDRAWAL: u64 = 8;
 
 // The house's tiers, each as edge × 1,000 + annual withdrawal: the edge 0 stands for every ratio below
 // 50.
@@ -19,12 +18,12 @@ const HOUSE: [u64; 7] = [40, 50050, 80075, 100130, 115320, 130460, 150550];
 
 // The number of the tiers at `at`, which is the end where the house's count.
 pub fn tier_count(s: &[u8], at: u64) -> u64 {
-    chosen(at < s.len() as u64, word(s, at, 4), 7)
+    chosen(at < s.len() as u64, number(s, at, 4, 2), 7)
 }
 
 // What tier k, from 0 on, has.
 pub fn tier_number(s: &[u8], at: u64, k: u64, what: u64) -> u64 {
-    let own = word(s, at, add(6, add(k << 1, what) << 1));
+    let own = number(s, at, add(what, k << 2), 2);
     let tier = entry(&HOUSE, k);
     let house = chosen(what == EDGE, tier / 1000, tier % 1000);
     chosen(at < s.len() as u64, own, house)
@@ -33,9 +32,9 @@ pub fn tier_number(s: &[u8], at: u64, k: u64, what: u64) -> u64 {
 // Whether the record at `at` has no tier or more than 16, a first edge other than 0, or a tier out
 // of order.
 pub fn are_disordered(s: &[u8], at: u64) -> bool {
-    let count = word(s, at, 4);
+    let count = number(s, at, 4, 2);
     let mut is_fault = (count == 0) | (16 < count) | (tier_number(s, at, 0, EDGE) != 0);
-    for k in 0..least(count, 16) {
+    for k in 0..chosen(is_fault, 0, count) {
         is_fault = is_fault | is_out_of_order(s, at, k);
     }
     is_fault

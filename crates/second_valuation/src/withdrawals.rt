@@ -3,7 +3,6 @@
 // in the filing. What the gain takes off stands apart, so that no figure is negative.
 use crate::arith::add;
 use crate::arith::chosen;
-use crate::arith::least;
 use crate::arith::mul;
 use crate::arith::sub;
 use crate::cells::entry;
@@ -20,7 +19,7 @@ pub const WHOLE: u64 = 1000000000;
 // The survival q, in parts of 10^9, of a month with n months after it. The gain is
 // (120,000,000 - c × p) × r × n less 120,000 × c × p, the cost 12,000,000 × c × n; brokered money is
 // withdrawn where the gain is above the cost, and no money in the last month, where nothing is earned.
-pub fn month_survival(s: &[u8], survivals: &[u64], part: SubBalance, r: u64, n: u64) -> u64 {
+pub(crate) fn month_survival(s: &[u8], survivals: &[u64], part: SubBalance, r: u64, n: u64) -> u64 {
     let penalty = mul(part.coupon, part.penalty);
     let earned = mul(sub(120000000, penalty), mul(r, n));
     let lost = mul(120000, penalty);
@@ -42,7 +41,7 @@ pub fn withdrawal(s: &[u8], earned: u64, lost: u64, cost: u64) -> u64 {
 pub fn edges_tried(s: &[u8], earned: u64, lost: u64, cost: u64) -> u64 {
     let at = sheet(s, TIERS);
     let tried = sub(tier_count(s, at), tier(s, at, earned, lost, cost));
-    chosen(at < s.len() as u64, tried, least(tried, 6))
+    chosen((at < s.len() as u64) | (tried < 6), tried, 6)
 }
 
 // The highest of the tiers at `at`, from 0 on, whose edge the gain reaches; 0 where it reaches none.

@@ -1,27 +1,27 @@
--- `second::entries::print_input` is safe: the part that is lent has n bytes. Assumes nothing.
+-- `second::entries::print_input` is safe: the part that is lent has as many bytes as it is to have, and no more of them are read. Assumes nothing.
 use borrow.Author.Needs.{needs}
+use mathlib.Core.List.{List, _++_}
 use mathlib.Core.Path.{sym}
+use native.Mathlib.Omega.{arith}
+use Prim.Native.Nat.{ℕ, _≤_}
+use lib.ListN.{length, length-append}
 use lib.Seq.{length-take-le}
 use Rattle.second.proofs.entries.print_input.Statement.{statement}
 use Rattle.second.proofs.entries.print_input.Tie as tie
 
-slice-relend-prefix-print-read : tie.Need-slice-relend-prefix-print-read
-slice-relend-prefix-print-read c = search needs
+-- what is within a part is within the whole
+le-of-part : {n : ℕ} (xs ys : List ℕ) → n ≤ length xs → n ≤ length (xs ++ ys)
+le-of-part xs ys h = omega (arith, h, length-append xs ys)
 
-slice-aggregate-print-read : tie.Need-slice-aggregate-print-read
-slice-aggregate-print-read c = sym (length-take-le _ _ (search needs))
+slice-aggregate-read-full : tie.Need-slice-aggregate-read-full
+slice-aggregate-read-full c = sym (length-take-le _ _ (search needs))
 
-print-read-requires : tie.Need-print-read-requires
-print-read-requires c κs = tt
+slice-reshare-prefix-print-call : tie.Need-slice-reshare-prefix-print-call
+slice-reshare-prefix-print-call c = le-of-part (c .before .before .read-full .last .1 .0) _ (c .before .before .read-full .ensures .0)
 
-same-length : tie.Need-same-length
-same-length c = search needs
-
-returns : tie.Need-returns
-returns c = tt
-
-returns-2 : tie.Need-returns-2
-returns-2 c = tt
+slice-aggregate-print-call : tie.Need-slice-aggregate-print-call
+slice-aggregate-print-call c = sym (length-take-le _ _ (le-of-part (c .before .before .before .read-full .last .1 .0) _ (c .before .before .before .read-full .ensures .0)))
 
 pub print-input-spec : {M : Type 1} → statement M
-print-input-spec = tie.close (tie.spec slice-relend-prefix-print-read slice-aggregate-print-read print-read-requires same-length returns returns-2)
+print-input-spec =
+    tie.close (tie.spec (λ c κs. tt) (λ c. search needs) slice-aggregate-read-full (λ c κs. tt) slice-reshare-prefix-print-call slice-aggregate-print-call (λ c κs. tt) (λ c. search needs) (λ c. tt) (λ c. tt))

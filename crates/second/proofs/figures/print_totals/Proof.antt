@@ -5,10 +5,10 @@ use Rattle.second.proofs.figures.print_totals.Statement.{statement}
 use Rattle.second.proofs.figures.print_totals.Tie as tie
 
 abbrev Inv-loop : tie.InvT-loop
-Inv-loop s survivals name parts scenario₀ scenario = Unit {0}
+Inv-loop s survivals name calls count scenario₀ scenario = Unit {0}
 
 abbrev μ-loop : tie.MeasureT-loop
-μ-loop s survivals name parts scenario₀ scenario = 7 - scenario
+μ-loop s survivals name calls count scenario₀ scenario = 7 - scenario
 
 pub print-totals-spec : {M : Type 1} → statement M
 print-totals-spec =

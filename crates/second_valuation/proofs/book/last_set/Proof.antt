@@ -5,10 +5,10 @@ use Rattle.second_valuation.proofs.book.last_set.Statement.{statement}
 use Rattle.second_valuation.proofs.book.last_set.Tie as tie
 
 abbrev Inv-loop : tie.InvT-loop
-Inv-loop calls place count none last₀ k₀ last k = Unit {0}
+Inv-loop calls place count last₀ k₀ last k = Unit {0}
 
 abbrev μ-loop : tie.MeasureT-loop
-μ-loop calls place count none last₀ k₀ last k = count - k
+μ-loop calls place count last₀ k₀ last k = count - k
 
 pub last-set-spec : {M : Type 1} → statement M
 last-set-spec =

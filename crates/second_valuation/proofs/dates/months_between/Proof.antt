@@ -5,11 +5,11 @@ use Rattle.second_valuation.proofs.dates.months_between.Statement.{stat
 use Rattle.second_valuation.proofs.dates.months_between.Tie as tie
 
 abbrev Inv-loop : tie.InvT-loop
-Inv-loop from to months₀ counter₀ months counter = Unit {0}
+Inv-loop from to months₀ months = Unit {0}
 
 abbrev μ-loop : tie.MeasureT-loop
-μ-loop from to months₀ counter₀ months counter = 3600 - counter
+μ-loop from to months₀ months = 3600 - months
 
 pub months-between-spec : {M : Type 1} → statement M
 months-between-spec =
-    tie.close (tie.spec Inv-loop μ-loop (λ c. tt) (λ c κs. tt) (λ c κs. tt) (λ c. search needs) (λ c. search needs) (λ c. tt) (λ c. tt) (λ c. tt))
+    tie.close (tie.spec Inv-loop μ-loop (λ c. tt) (λ c κs. tt) (λ c. tt) (λ c. search needs) (λ c. search needs) (λ c. tt) (λ c. tt))

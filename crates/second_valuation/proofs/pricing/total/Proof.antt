@@ -5,11 +5,11 @@ use Rattle.second_valuation.proofs.pricing.total.Statement.{statement}
 use Rattle.second_valuation.proofs.pricing.total.Tie as tie
 
 abbrev Inv-loop : tie.InvT-loop
-Inv-loop s survivals from to scenario up parts sum₀ place₀ sum place = Unit {0}
+Inv-loop s survivals calls count from to scenario up sum₀ place₀ sum place = Unit {0}
 
 abbrev μ-loop : tie.MeasureT-loop
-μ-loop s survivals from to scenario up parts sum₀ place₀ sum place = to - place
+μ-loop s survivals calls count from to scenario up sum₀ place₀ sum place = to - place
 
 pub total-spec : {M : Type 1} → statement M
 total-spec =
-    tie.close (tie.spec Inv-loop μ-loop (λ c. tt) (λ c. search needs) (λ c. search needs) (λ c κs. tt) (λ c κs. tt) (λ c. search needs) (λ c. search needs) (λ c. tt) (λ c. tt))
+    tie.close (tie.spec Inv-loop μ-loop (λ c. tt) (λ c κs. tt) (λ c κs. tt) (λ c κs. tt) (λ c. search needs) (λ c. search needs) (λ c. tt) (λ c. tt))

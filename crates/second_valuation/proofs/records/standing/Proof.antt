@@ -5,11 +5,11 @@ use Rattle.second_valuation.proofs.records.standing.Statement.{statemen
 use Rattle.second_valuation.proofs.records.standing.Tie as tie
 
 abbrev Inv-loop : tie.InvT-loop
-Inv-loop s cell end best₀ at₀ counter₀ end' best at counter = Unit {0}
+Inv-loop s cell end best₀ highest₀ at₀ counter₀ end' best highest at counter = Unit {0}
 
 abbrev μ-loop : tie.MeasureT-loop
-μ-loop s cell end best₀ at₀ counter₀ end' best at counter = end' - counter
+μ-loop s cell end best₀ highest₀ at₀ counter₀ end' best highest at counter = end' - counter
 
 pub standing-spec : {M : Type 1} → statement M
 standing-spec =
-    tie.close (tie.spec Inv-loop μ-loop (λ c. tt) (λ c κs. tt) (λ c κs. tt) (λ c κs. tt) (λ c κs. tt) (λ c. search needs) (λ c. search needs) (λ c. tt) (λ c. tt) (λ c. tt))
+    tie.close (tie.spec Inv-loop μ-loop (λ c. tt) (λ c κs. tt) (λ c κs. tt) (λ c. search needs) (λ c. search needs) (λ c. tt) (λ c. tt) (λ c. tt))

@@ -5,11 +5,11 @@ use Rattle.second_valuation.proofs.survival.highest_digit.Statement.{st
 use Rattle.second_valuation.proofs.survival.highest_digit.Tie as tie
 
 abbrev Inv-loop : tie.InvT-loop
-Inv-loop q digits₀ carry₀ k₀ digits carry k = Unit {0}
+Inv-loop q digits₀ x₀ k₀ digits x k = Unit {0}
 
 abbrev μ-loop : tie.MeasureT-loop
-μ-loop q digits₀ carry₀ k₀ digits carry k = 156 - k
+μ-loop q digits₀ x₀ k₀ digits x k = 156 - k
 
 pub highest-digit-spec : {M : Type 1} → statement M
 highest-digit-spec =
-    tie.close (tie.spec Inv-loop μ-loop (λ c. tt) (λ c. search needs) (λ c. search needs) (λ c κs. tt) (λ c κs. tt) (λ c. search needs) (λ c. search needs) (λ c. search needs) (λ c. search needs) (λ c. tt) (λ c. search needs) (λ c. tt))
+    tie.close (tie.spec Inv-loop μ-loop (λ c. tt) (λ c. search needs) (λ c. search needs) (λ c κs. tt) (λ c κs. tt) (λ c. search needs) (λ c. search needs) (λ c. search needs) (λ c. search needs) (λ c. tt) (λ c. tt))
