@@ -1,7 +1,7 @@
 // Chains of discount factors, seven rates in step: each division by 120,000 + rate is a multiplication by the rate's multiplier.
 use pricing::PAR;
 use rounded_values::products::upper_half;
-use schedule::scenarios::Scenario;
+use scenarios::Scenario;
 ghost use mathlib.Core.Path.{_≡_};
 ghost use Prim.Native.Nat.{ℕ, _≤_};
 ghost use Rattle.pricing.specs.Scales.{par};

@@ -2,7 +2,7 @@
 use factor_chains::chained;
 use pricing::PAR;
 use rate_multipliers::lower_multipliers;
-use schedule::scenarios::Scenario;
+use scenarios::Scenario;
 ghost use mathlib.Core.Path.{_≡_};
 ghost use Prim.Native.Nat.{ℕ, suc};
 ghost use lib.ListN.{getD};

@@ -2,8 +2,8 @@
 use incentives::gain_above_cost;
 use incentives::gain_and_cost;
 use reached_tiers::level_from;
+use scenarios::Scenario;
 use schedule::limits::TIER_LIMIT;
-use schedule::scenarios::Scenario;
 use withdrawal::CouponParts;
 use withdrawal::FULL_SURVIVAL;
 use withdrawal::Incentive;

@@ -1,6 +1,6 @@
 // Lines of text and numbers on standard output. What is written is tested, not proved.
 use libc::STDOUT_FILENO;
-use schedule::scenarios::Scenario;
+use scenarios::Scenario;
 
 // A piece of text as it stands.
 pub fn text(s: &[u8]) {

@@ -1,5 +1,5 @@
 // The multipliers of seven rates: a multiplication by one stands for a division by 120,000 + rate.
-use schedule::scenarios::Scenario;
+use scenarios::Scenario;
 ghost use mathlib.Core.Path.{_≡_};
 ghost use Prim.Native.Nat.{_≤_};
 ghost use Rattle.schedule.specs.Shift.{shiftedLimit};

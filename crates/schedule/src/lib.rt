@@ -1,7 +1,6 @@
-// Schedule CMR: its cells, their classes and limits, and the rate scenarios.
+// Schedule CMR: its cells, their classes and limits.
 pub mod limits;
 pub mod positions;
-pub mod scenarios;
 pub mod tables;
 
 // The listed cells lie from the first to the last, which are so many numbers.

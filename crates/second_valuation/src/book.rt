@@ -57,7 +57,8 @@ pub fn balance_total(calls: &[u8], count: u64) -> u64 {
     sum
 }
 
-// What a place holds after the first `count` calls; before the first, the filing's sub-balance.
+// What a place of the book holds after the first `count` calls; with no call, the place of the filing
+// itself.
 pub fn held(filing: &[u8], calls: &[u8], place: u64, count: u64) -> SubBalance {
     if count == 0 {
         return sub_balance(filing, place);

@@ -1,5 +1,5 @@
 // The lines of the seven scenarios, of a list that holds their totals.
-use schedule::scenarios::Scenario;
+use scenarios::Scenario;
 use text_lines::append_difference;
 use text_lines::append_line;
 ghost use Prim.Native.Nat.{_+_, _≤_, _<_};

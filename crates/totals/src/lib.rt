@@ -1,6 +1,6 @@
 // The totals of the scenarios, taken from the rows of the places.
 use lists::write;
-use schedule::scenarios::Scenario;
+use scenarios::Scenario;
 ghost use mathlib.Core.Path.{_≡_};
 ghost use Prim.Native.Nat.{_+_, _≤_, _<_};
 ghost use Rattle.lists.specs.Sums.{sum};

@@ -1,9 +1,9 @@
--- `schedule::scenarios::Scenario::shifted` meets its contract. Assumes nothing.
+-- `Scenario::shifted` meets its contract. Assumes nothing.
 use native.Mathlib.Omega.{arith}
 use borrow.Author.Needs.{needs}
 use Rattle.schedule.specs.Shift.{shiftedRate}
-use Rattle.schedule.proofs.scenarios.Scenario.shifted.Statement.{statement}
-use Rattle.schedule.proofs.scenarios.Scenario.shifted.Tie as tie
+use Rattle.scenarios.proofs.Scenario.shifted.Statement.{statement}
+use Rattle.scenarios.proofs.Scenario.shifted.Tie as tie
 
 cast-raised : tie.Need-cast-raised
 cast-raised c = search needs

@@ -3,9 +3,9 @@ use Prim.Native.Nat.{ℕ, _-_, _≤_}
 use mathlib.Core.Path.{_≡_, ap, _∙_}
 use native.Mathlib.Omega.{arith}
 use Rattle.lists.proofs.FillLaws.{Filled, fill-none, fill-more, fill-all}
 use Rattle.schedule.specs.Shift.{shiftedRate, shiftedRates}
-use Rattle.schedule.proofs.scenarios.shifted_rates.Statement.{statement}
-use Rattle.schedule.proofs.scenarios.shifted_rates.Tie as tie
+use Rattle.scenarios.proofs.shifted_rates.Statement.{statement}
+use Rattle.scenarios.proofs.shifted_rates.Tie as tie
 
 abbrev Inv-loop : tie.InvT-loop
 Inv-loop rate rates₀ i₀ rates i = (i ≤ 7) × Filled (λ (j : ℕ). shiftedRate j rate) 0 7 i rates
