@@ -7,8 +7,7 @@ use crate::lines::print_number;
 use second_valuation::bytes::number;
 use second_valuation::cells::entry;
 use second_valuation::refusals::refusal_of;
-use second_valuation::withdrawals::edges_tried;
-use second_valuation::withdrawals::withdrawal;
+use second_valuation::withdrawals::reached_tier;
 
 // The largest parts of a gain, and the largest cost, that are searched with.
 const MOST_GAIN: u64 = 10000000000000000;
@@ -37,10 +36,10 @@ fn print_found(s: &[u8], survivals: &[u64], earned: u64, lost: u64, cost: u64) {
     } else if (MOST_GAIN < earned) | (MOST_GAIN < lost) | (MOST_COST < cost) {
         print(b"too large\n");
     } else {
-        let withdrawal = withdrawal(s, earned, lost, cost);
+        let tier = reached_tier(s, earned, lost, cost);
         print(b"tier");
-        print_number(withdrawal);
-        print_number(entry(survivals, withdrawal));
-        print_last(edges_tried(s, earned, lost, cost));
+        print_number(tier.withdrawal);
+        print_number(entry(survivals, tier.withdrawal));
+        print_last(tier.edges);
     }
 }

@@ -16,12 +16,7 @@ pub const WITHDRAWAL: u64 = 8;
 // 50.
 const HOUSE: [u64; 7] = [40, 50050, 80075, 100130, 115320, 130460, 150550];
 
-// The number of the tiers at `at`, which is the end where the house's count.
-pub fn tier_count(s: &[u8], at: u64) -> u64 {
-    chosen(at < s.len() as u64, number(s, at, 4, 2), 7)
-}
-
-// What tier k, from 0 on, has.
+// What tier k, from 0 on, of the record at `at` has; of the house's where that is the end.
 pub fn tier_number(s: &[u8], at: u64, k: u64, what: u64) -> u64 {
     let own = number(s, at, add(what, k << 2), 2);
     let tier = entry(&HOUSE, k);

@@ -5,13 +5,13 @@ use crate::arith::add;
 use crate::arith::chosen;
 use crate::arith::mul;
 use crate::arith::sub;
+use crate::bytes::number;
 use crate::cells::entry;
 use crate::records::TIERS;
 use crate::records::sheet;
 use crate::shares::SubBalance;
 use crate::tiers::EDGE;
 use crate::tiers::WITHDRAWAL;
-use crate::tiers::tier_count;
 use crate::tiers::tier_number;
 
 pub const WHOLE: u64 = 1000000000;
@@ -27,30 +27,32 @@ pub(crate) fn month_survival(s: &[u8], survivals: &[u64], part: SubBalance, r: u
     if part.brokered | (n == 0) {
         chosen(add(cost, lost) < earned, 0, WHOLE)
     } else {
-        entry(survivals, withdrawal(s, earned, lost, cost))
+        let tier = reached_tier(s, earned, lost, cost);
+        entry(survivals, tier.withdrawal)
     }
 }
 
-// The annual withdrawal of the tier that a gain, `earned` less `lost`, reaches.
-pub fn withdrawal(s: &[u8], earned: u64, lost: u64, cost: u64) -> u64 {
-    let at = sheet(s, TIERS);
-    tier_number(s, at, tier(s, at, earned, lost, cost), WITHDRAWAL)
+// The annual withdrawal of a tier, and the number of edges at or above the tier.
+pub struct Tier {
+    pub withdrawal: u64,
+    pub edges: u64,
 }
 
-// The number of edges at or above that tier; the house's lowest tier has no edge.
-pub fn edges_tried(s: &[u8], earned: u64, lost: u64, cost: u64) -> u64 {
+// The highest tier whose edge a gain, `earned` less `lost`, reaches, the lowest where it reaches none.
+// The house's lowest tier has no edge.
+pub fn reached_tier(s: &[u8], earned: u64, lost: u64, cost: u64) -> Tier {
     let at = sheet(s, TIERS);
-    let tried = sub(tier_count(s, at), tier(s, at, earned, lost, cost));
-    chosen((at < s.len() as u64) | (tried < 6), tried, 6)
-}
-
-// The highest of the tiers at `at`, from 0 on, whose edge the gain reaches; 0 where it reaches none.
-fn tier(s: &[u8], at: u64, earned: u64, lost: u64, cost: u64) -> u64 {
+    let is_own = at < s.len() as u64;
+    let count = chosen(is_own, number(s, at, 4, 2), 7);
     let mut tier = 0;
-    for k in 0..tier_count(s, at) {
+    for k in 0..count {
         let edge = mul(tier_number(s, at, k, EDGE), cost);
         let is_reached = add(mul(100, lost), edge) <= mul(100, earned);
         tier = chosen(is_reached, k, tier);
     }
-    tier
+    let edges = sub(count, tier);
+    Tier {
+        withdrawal: tier_number(s, at, tier, WITHDRAWAL),
+        edges: chosen(is_own | (edges < 6), edges, 6),
+    }
 }
