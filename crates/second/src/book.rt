@@ -17,11 +17,10 @@ use second_valuation::refusals::refusal_of;
 
 // Opens the book of an input and keeps it; nothing for an input that is cut short.
 pub fn print_book(s: &[u8], survivals: &[u64]) {
-    let n = number(s, 0, 0, 8) as usize;
-    if 8 <= s.len() {
-        let rest = &s[8..];
-        if n <= rest.len() {
-            print_opened(&rest[..n], &rest[n..], survivals);
+    let end = add(8, number(s, 0, 0, 8)) as usize;
+    if 8 <= end {
+        if end <= s.len() {
+            print_opened(&s[8..end], &s[end..], survivals);
         }
     }
 }
