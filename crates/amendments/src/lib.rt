@@ -1,14 +1,14 @@
 // The records of a filing by all tests: those that the scan makes of each record, and 16, that no amendment of a cell comes with a number that an earlier one
 // has.
 use answers::Answer;
-use answers::first_refusal;
+use first_refusals::first_refusal;
 use notes::BLOCKS;
+use record_kinds::KINDS;
 use record_verdicts::check_body;
 use record_verdicts::check_shape;
 use record_verdicts::refused_if;
-use records::KINDS;
-use records::items::Item;
-use records::items::record_item;
+use records::Item;
+use records::record_item;
 use repetitions::first_repetition;
 use repetitions::pass::amended_before;
 use scan::Scanned;

@@ -1,7 +1,6 @@
-// The answers on a filing, on a list of certificates and on a change of a book, and the paper's number and location of each.
+// The answers on a filing, on a list of certificates and on a change of a book, and the paper's number of each.
 ghost use mathlib.Core.Path.{_≡_};
-ghost use Rattle.answers.specs.Verdict.{firstRefusal};
-ghost use Rattle.answers.specs.Answers.{numberOf, locationOf, verdictOf};
+ghost use Rattle.answers.specs.Answers.{numberOf};
 
 // The answer: acceptance, or the first refusal and its location.
 pub enum Answer {
@@ -55,40 +54,4 @@ pub fn number(answer: Answer) -> u64
         Answer::TooManyMonths(_) => 15,
         Answer::OutsidePlaceLimits(_) => 17,
     }
-}
-
-// The location of a refusal, 0 for acceptance.
-pub fn location(answer: Answer) -> usize
-    ensures { λ r. ⌜ r ≡ locationOf answer ⌝ }
-{
-    match answer {
-        Answer::Accepted => 0,
-        Answer::RecordIncomplete(at) => at,
-        Answer::RecordMisshapen(at) => at,
-        Answer::CellUnlisted(at) => at,
-        Answer::Repeated(at) => at,
-        Answer::PathBesideFlat(at) => at,
-        Answer::AmendmentRepeated(at) => at,
-        Answer::OverLimit(at) => at,
-        Answer::TiersUnsound(at) => at,
-        Answer::SheetMissing(size) => size,
-        Answer::MonthsOutsideRow(cell) => cell,
-        Answer::AboveColumnSum(cell) => cell,
-        Answer::TotalDiffers(cell) => cell,
-        Answer::ListTooShort(size) => size,
-        Answer::NoSuchDay(certificate) => certificate,
-        Answer::NotOutstanding(certificate) => certificate,
-        Answer::TooManyMonths(certificate) => certificate,
-        Answer::OutsidePlaceLimits(place) => place,
-    }
-}
-
-// The first refusal of two answers, in their order.
-pub fn first_refusal(first: Answer, next: Answer) -> Answer
-    ensures { λ r. ⌜ verdictOf r ≡ firstRefusal (verdictOf first) (verdictOf next) ⌝ }
-{
-    if number(first) != 0 {
-        return first;
-    }
-    next
 }

@@ -9,7 +9,7 @@ use borrow.Author.Tests.{ltb-false, eqb-true, eqb-false, eq-eqb, ne-eqb}
 use lib.Dec.{ltb, eqb}
 use Rattle.schedule.specs.Limits.{cellClass, classLimit}
 use Rattle.fields.specs.Records.{recordKind, recordCell, recordValue, amendmentNumber, amendmentState, amendmentValue, sheetNumber}
-use Rattle.records.specs.Kinds.{cellKind, fineCouponKind, givesCell, amendmentKind, sheetOf, sheetKinds, sheetKind}
+use Rattle.record_kinds.specs.Kinds.{cellKind, fineCouponKind, givesCell, amendmentKind, sheetOf, sheetKinds, sheetKind}
 use Rattle.bodies.specs.Bodies.{valueLimit, unfitAmendment, numberOver, overLimit}
 use Rattle.bodies.proofs.SheetLaws.{none-over}
 

@@ -6,7 +6,7 @@ use lib.Dec.{ltb, eqb}
 use Rattle.lists.specs.Tables.{anyBelow}
 use Rattle.schedule.specs.Limits.{couponLimit, cellClass, classLimit}
 use Rattle.fields.specs.Records.{recordKind, recordCell, recordValue, amendmentNumber, amendmentState, amendmentValue, sheetNumber}
-use Rattle.records.specs.Kinds.{fineCouponKind, givesCell, amendmentKind, sheetKind}
+use Rattle.record_kinds.specs.Kinds.{fineCouponKind, givesCell, amendmentKind, sheetKind}
 
 -- an amendment (02:CR 6) whose number is 0, whose value is over its class's limit, which withdraws a cell and holds a value, or whose state is another
 unfoldable pub unfitAmendment : List ℕ → ℕ → Bool

@@ -1,7 +1,7 @@
 // The lines that a book prints: the answer on a change, what a place holds, and the totals.
 use answers::Answer;
-use answers::location;
 use answers::number;
+use locations::location;
 use sub_balances::SubBalance;
 use text::append;
 use text::append_byte;

@@ -14,7 +14,8 @@ use Rattle.answers.specs.Answers.{verdictOf}
 use Rattle.fields.specs.Bytes.{numberAt}
 use Rattle.contents.specs.Contents.{Contents}
 use Rattle.decode.specs.Contents.{contentsOf}
-use Rattle.filing.specs.Readings.{emptyContents, readContents}
+use Rattle.readings.specs.EmptyContents.{emptyContents}
+use Rattle.filing.specs.Readings.{readContents}
 use Rattle.filing.specs.Verdict.{filingVerdict}
 use Rattle.filing.proofs.ReadingLaws.{reading-accepted}
 use Rattle.pricing.specs.Rounding.{down, up}

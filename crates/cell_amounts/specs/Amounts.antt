@@ -5,7 +5,7 @@ use mathlib.Core.List.{List}
 use lib.Dec.{eqb}
 use Rattle.schedule.specs.Limits.{couponClass, cellClass}
 use Rattle.fields.specs.Records.{recordKind, recordCell, recordValue, amendmentState, amendmentValue}
-use Rattle.records.specs.Kinds.{fineCouponKind, amendmentKind}
+use Rattle.record_kinds.specs.Kinds.{fineCouponKind, amendmentKind}
 
 -- the value that a record holds for its cell, in the record's unit. An amendment that withdraws its cell holds none, as if the cell were absent
 unfoldable pub filedValue : List ℕ → ℕ → ℕ

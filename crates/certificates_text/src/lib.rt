@@ -1,11 +1,11 @@
 // The text that the program `cells` prints of its input: from a valuation date and certificates to the cells that they fill.
-use answers::location;
 use answers::number;
 use calendar::Date;
 use cell_lines::append_cells;
 use cell_lines::append_unreadable;
 use certificates::to_cells;
 use certificates_input::read_text;
+use locations::location;
 use text::append_too_long;
 use text_lines::append_refusal;
 ghost use Prim.Native.Nat.{_≤_};

@@ -15,8 +15,8 @@ use Rattle.schedule.specs.Limits.{balanceLimit, columnLimit, totalLimit, filedC
 use Rattle.answers.specs.Verdict.{accepted}
 use Rattle.fields.specs.Bytes.{numberAt}
 use Rattle.fields.specs.Records.{nextRecord}
-use Rattle.records.specs.Kinds.{ratePathKind}
-use Rattle.records.specs.declared.items.Item.the-variants.{Cell, Sheet}
+use Rattle.record_kinds.specs.Kinds.{ratePathKind}
+use Rattle.records.specs.declared.Item.the-variants.{Cell, Sheet}
 use Rattle.records.specs.Items.{sameItem, recordItem, firstWith}
 use Rattle.faults.specs.Faults.{standsBefore, sheetBefore, pathBesideFlat}
 use Rattle.record_verdicts.specs.RecordVerdicts.{recordVerdict, firstRefused, verdictBy, recordsVerdict}

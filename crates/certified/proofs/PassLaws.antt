@@ -11,8 +11,8 @@ use Rattle.lists.specs.Tables.{anyBelow}
 use Rattle.schedule.specs.Limits.{cellClass, classLimit, rateLimit}
 use Rattle.answers.specs.Verdict.{accepted, refusedIf, firstRefusal, firstOf}
 use Rattle.fields.specs.Records.{recordLength, recordKind, recordCell, recordValue, sheetNumber, nextRecord}
-use Rattle.records.specs.Kinds.{sheetOf, sheetKinds, sheetKind, sheetLength, givesCell, namesCell, amendmentKind, tiersKind, dueLength}
-use Rattle.records.specs.declared.items.Item.the-variants.{Cell, Sheet}
+use Rattle.record_kinds.specs.Kinds.{sheetOf, sheetKinds, sheetKind, sheetLength, givesCell, namesCell, amendmentKind, tiersKind, dueLength}
+use Rattle.records.specs.declared.Item.the-variants.{Cell, Sheet}
 use Rattle.records.specs.Items.{recordClass, recordItem}
 use Rattle.bodies.specs.Bodies.{numberOver, valueLimit, overLimit}
 use Rattle.tier_faults.specs.TierFaults.{unsoundTiers}

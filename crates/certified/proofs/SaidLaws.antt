@@ -16,9 +16,9 @@ use Rattle.lists.proofs.RangeLaws.{least-passes, least-fails}
 use Rattle.lists.proofs.TableLaws.{tableFrom-getD}
 use Rattle.schedule.specs.Limits.{couponClass, cellClass, rateLimit}
 use Rattle.schedule.proofs.CellLaws.{CellOf}
-use Rattle.records.specs.Kinds.{flatRatesKind, givesCell, dueLength, sheetLength, sheetKind, sheetKinds, sheetOf}
-use Rattle.records.specs.declared.items.Item.{Item}
-use Rattle.records.specs.declared.items.Item.the-variants.{Sheet}
+use Rattle.record_kinds.specs.Kinds.{flatRatesKind, givesCell, dueLength, sheetLength, sheetKind, sheetKinds, sheetOf}
+use Rattle.records.specs.declared.Item.{Item}
+use Rattle.records.specs.declared.Item.the-variants.{Sheet}
 use Rattle.records.specs.Items.{sameItem, recordItem, firstWith}
 use Rattle.notes.specs.Counting.{itemRank, rank}
 use Rattle.fields.proofs.ByteLaws.{number-past}

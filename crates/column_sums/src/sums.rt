@@ -1,8 +1,8 @@
 // The sums of the columns' balances, in thousands of dollars. Balances within their limit cannot make a sum wrap.
 use crate::ColumnSums;
 use crate::cells::cell_value;
+use positions::position;
 use schedule::CELLS;
-use schedule::positions::position;
 ghost use mathlib.Core.Path.{_≡_};
 ghost use Rattle.column_sums.specs.Inner.Sums.{BalancesWithin, columnSums};
 

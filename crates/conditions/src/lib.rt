@@ -1,13 +1,13 @@
 // What can be wrong with the cells of a filing whose records are sound: refusals 7 to 9, in the paper's order.
 use answers::Answer;
-use answers::first_refusal;
 use column_sums::ColumnSums;
 use column_sums::cells::cell_value;
 use column_sums::sums::column_sums;
+use first_refusals::first_refusal;
+use positions::position;
+use positions::within_row;
 use schedule::CELLS;
 use schedule::Position;
-use schedule::positions::position;
-use schedule::positions::within_row;
 ghost use mathlib.Core.Path.{_≡_};
 ghost use Rattle.answers.specs.Answers.{verdictOf};
 ghost use Rattle.column_sums.specs.Inner.Sums.{BalancesWithin, columnSums};

@@ -15,9 +15,9 @@ use Rattle.lists.proofs.TableLaws.{tableFrom-getD, table-getD, table-length, ta
 use Rattle.lists.proofs.FillLaws.{Filled}
 use Rattle.schedule.specs.Cells.{firstCell, cellCount}
 use Rattle.schedule.specs.Limits.{monthsLimit}
-use Rattle.records.specs.declared.items.Item.the-variants.{Sheet}
+use Rattle.records.specs.declared.Item.the-variants.{Sheet}
 use Rattle.fields.specs.Records.{sheetNumber}
-use Rattle.records.specs.Kinds.{kindCount, flatRatesKind, ratePathKind}
+use Rattle.record_kinds.specs.Kinds.{kindCount, flatRatesKind, ratePathKind}
 use Rattle.notes.specs.Inner.Notes.{notedBefore}
 use Rattle.notes.proofs.NoteLaws.{noted-counting, noted-sheet, offset-end}
 use Rattle.cell_amounts.specs.Amounts.{amountAt}

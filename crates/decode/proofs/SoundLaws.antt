@@ -13,10 +13,10 @@ use Rattle.lists.proofs.TableLaws.{tableFrom-getD, table-getD, table-le}
 use Rattle.schedule.specs.Cells.{positionAt}
 use Rattle.schedule.specs.Limits.{couponClass, couponLimit, cellClass, classLimit, heldLimit, tierLimit, withdrawalLimit}
 use Rattle.schedule.proofs.CellLaws.{CellOf, balance-cell}
-use Rattle.records.specs.declared.items.Item.{Item}
-use Rattle.records.specs.declared.items.Item.the-variants.{Cell, Sheet, Amendment, Nothing}
+use Rattle.records.specs.declared.Item.{Item}
+use Rattle.records.specs.declared.Item.the-variants.{Cell, Sheet, Amendment, Nothing}
 use Rattle.fields.specs.Records.{recordKind, recordCell, amendmentState, amendmentValue, sheetNumber, tierCount}
-use Rattle.records.specs.Kinds.{fineCouponKind, amendmentKind, sheetKind, tiersKind}
+use Rattle.record_kinds.specs.Kinds.{fineCouponKind, amendmentKind, sheetKind, tiersKind}
 use Rattle.records.specs.Items.{sameItem, recordItem, firstWith}
 use Rattle.notes.specs.Counting.{itemRank, rank}
 use Rattle.record_verdicts.specs.RecordVerdicts.{firstRefused, firstFaulty, recordVerdict}

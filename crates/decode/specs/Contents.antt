@@ -8,8 +8,8 @@ use Rattle.lists.specs.Tables.{table, tableFrom}
 use Rattle.schedule.specs.Cells.{firstCell, cellCount}
 use Rattle.schedule.specs.Limits.{monthsLimit, tierLimit}
 use Rattle.fields.specs.Records.{sheetNumber, tierCount}
-use Rattle.records.specs.Kinds.{yieldsKind, flatRatesKind, tiersKind, ratePathKind}
-use Rattle.records.specs.declared.items.Item.the-variants.{Sheet}
+use Rattle.record_kinds.specs.Kinds.{yieldsKind, flatRatesKind, tiersKind, ratePathKind}
+use Rattle.records.specs.declared.Item.the-variants.{Sheet}
 use Rattle.records.specs.Items.{firstWith}
 use Rattle.notes.specs.Counting.{countingBefore}
 use Rattle.contents.specs.declared.FiledTiers.{FiledTiers}

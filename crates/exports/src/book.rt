@@ -17,7 +17,7 @@ pub extern "C" fn spritapricot_book(
     let changed = book_of(filing, changes);
     let answer = changed.answer;
     let number = answers::number(answer);
-    *location = answers::location(answer) as u64;
+    *location = locations::location(answer) as u64;
     if number == 0 {
         let book = changed.book;
         let kept = book.totals;

@@ -22,7 +22,7 @@ pub extern "C" fn spritapricot_cells(
     let filled = to_cells(valuation, certificates);
     let answer = filled.answer;
     let number = answers::number(answer);
-    *location = answers::location(answer) as u64;
+    *location = locations::location(answer) as u64;
     *count = filled.count as u64;
     if number == 0 {
         let listed = filled.cells;

@@ -11,6 +11,6 @@ pub extern "C" fn spritapricot_value(filing: &[u8], numbers: &mut [u64], locatio
     ensures { λ r. ⌜ ValuedForC (now (filing .entry)) (now (numbers .entry)) r (now (location .exit)) (now (numbers .exit)) ⌝ }
 {
     let answer = value(filing, numbers);
-    *location = answers::location(answer) as u64;
+    *location = locations::location(answer) as u64;
     answers::number(answer)
 }

@@ -11,9 +11,9 @@ use lib.Dec.{ltb, eqb}
 use lib.ListN.{length, getD}
 use Rattle.lists.proofs.TestLaws.{and-false}
 use Rattle.schedule.specs.Cells.{firstCell}
-use Rattle.records.specs.declared.items.Item.{Item}
-use Rattle.records.specs.declared.items.Item.the-variants.{Cell, Sheet, Amendment, Nothing}
-use Rattle.records.specs.Kinds.{kindCount, givesCell, amendmentKind}
+use Rattle.records.specs.declared.Item.{Item}
+use Rattle.records.specs.declared.Item.the-variants.{Cell, Sheet, Amendment, Nothing}
+use Rattle.record_kinds.specs.Kinds.{kindCount, givesCell, amendmentKind}
 use Rattle.fields.specs.Records.{recordKind}
 use Rattle.records.specs.Items.{sameItem, recordItem, firstWith}
 use Rattle.notes.specs.Inner.Notes.{offsetBefore, notedBefore}

@@ -6,8 +6,8 @@ use mathlib.Core.List.{List}
 use lib.ListN.{length}
 use lib.Dec.{ltb, eqb}
 use Rattle.fields.specs.Records.{recordLength, recordKind, nextRecord}
-use Rattle.records.specs.declared.items.Item.the-variants.{Sheet}
-use Rattle.records.specs.Kinds.{namesCell, amendmentKind, flatRatesKind, ratePathKind, dueLength}
+use Rattle.records.specs.declared.Item.the-variants.{Sheet}
+use Rattle.record_kinds.specs.Kinds.{namesCell, amendmentKind, flatRatesKind, ratePathKind, dueLength}
 use Rattle.records.specs.Items.{recordClass, recordItem, firstWith}
 
 -- 1: the record runs past the end, its length or itself, or its length is below 2

@@ -1,14 +1,14 @@
 // The tests of one record before its body: refusals 1 to 4 and 12. Those of its body stand in `bodies`.
 use fields::record_kind;
 use fields::record_length;
-use records::KINDS;
-use records::items::Item;
-use records::items::record_class;
-use records::items::record_item;
-use records::kinds::FLAT_RATES_KIND;
-use records::kinds::RATE_PATH_KIND;
-use records::kinds::due_length;
-use records::kinds::names_cell;
+use record_kinds::FLAT_RATES_KIND;
+use record_kinds::KINDS;
+use record_kinds::RATE_PATH_KIND;
+use record_kinds::due_length;
+use record_kinds::names_cell;
+use records::Item;
+use records::record_class;
+use records::record_item;
 use schedule::CELLS;
 use schedule::FIRST_CELL;
 ghost use mathlib.Core.Path.{_≡_};

@@ -15,7 +15,7 @@ use Rattle.schedule.specs.Limits.{classLimit, heldLimit, monthsLimit, rateLimit
 use Rattle.schedule.specs.Shift.{pathRate}
 use Rattle.schedule.proofs.CellLaws.{coupon-cell, months-cell, penalty-months-cell}
 use Rattle.fields.specs.Records.{sheetNumber}
-use Rattle.records.specs.Kinds.{flatRatesKind, ratePathKind, sheetOf, sheetKinds, sheetKind}
+use Rattle.record_kinds.specs.Kinds.{flatRatesKind, ratePathKind, sheetOf, sheetKinds, sheetKind}
 use Rattle.lists.proofs.TestLaws.{neither}
 use Rattle.decode.specs.Contents.{sheetOffset, rateCount, rateNumber, contentsOf}
 use Rattle.contents.specs.Contents.{cell, cdYield, retailRate}

@@ -16,10 +16,11 @@ use Rattle.record_verdicts.specs.RecordVerdicts.{recordsVerdict}
 use Rattle.column_sums.specs.Inner.Sums.{columnSums}
 use Rattle.contents.specs.Contents.{contentsWith}
 use Rattle.decode.specs.Contents.{rateCount, contentsOf}
-use Rattle.filing.specs.declared.Reading.{Reading}
+use Rattle.readings.specs.declared.Reading.{Reading}
 use Rattle.required_sheets.specs.RequiredSheets.{sheetVerdict}
 use Rattle.filing.specs.Verdict.{contentsVerdict, filingVerdict}
-use Rattle.filing.specs.Readings.{emptyContents, readContents}
+use Rattle.readings.specs.EmptyContents.{emptyContents}
+use Rattle.filing.specs.Readings.{readContents}
 
 module _ (s : List ℕ) where
   -- a faulty record: its verdict is the filing's

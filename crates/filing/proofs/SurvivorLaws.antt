@@ -11,10 +11,10 @@ use lib.Dec.{ltb, eqb}
 use lib.ListN.{length}
 use Rattle.lists.proofs.TestLaws.{and-true}
 use Rattle.schedule.specs.Limits.{couponClass, cellClass, monthsLimit, tierLimit}
-use Rattle.records.specs.declared.items.Item.{Item}
-use Rattle.records.specs.declared.items.Item.the-variants.{Cell, Sheet, Amendment, Nothing}
+use Rattle.records.specs.declared.Item.{Item}
+use Rattle.records.specs.declared.Item.the-variants.{Cell, Sheet, Amendment, Nothing}
 use Rattle.fields.specs.Records.{recordKind, recordCell, amendmentState, sheetNumber, tierCount, firstRecord}
-use Rattle.records.specs.Kinds.{fineCouponKind, amendmentKind, tiersKind, ratePathKind, flatRatesKind}
+use Rattle.record_kinds.specs.Kinds.{fineCouponKind, amendmentKind, tiersKind, ratePathKind, flatRatesKind}
 use Rattle.records.specs.Items.{sameItem, recordItem, firstWith}
 use Rattle.notes.specs.Counting.{itemRank, rank, countingBefore}
 use Rattle.fields.proofs.RecordLaws.{first-le, first-passes}

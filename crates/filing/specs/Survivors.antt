@@ -5,9 +5,9 @@ use mathlib.Core.Bool.{Bool, true, false, not, _&&_}
 use mathlib.Core.List.{List}
 use lib.Dec.{ltb, eqb}
 use lib.ListN.{length}
-use Rattle.records.specs.declared.items.Item.the-variants.{Cell}
+use Rattle.records.specs.declared.Item.the-variants.{Cell}
 use Rattle.fields.specs.Records.{recordKind, amendmentState, sheetNumber, firstRecord}
-use Rattle.records.specs.Kinds.{amendmentKind}
+use Rattle.record_kinds.specs.Kinds.{amendmentKind}
 use Rattle.records.specs.Items.{firstWith}
 use Rattle.record_verdicts.specs.RecordVerdicts.{firstFaulty}
 use Rattle.cell_amounts.specs.Amounts.{amountAt}

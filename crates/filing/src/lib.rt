@@ -1,15 +1,13 @@
 // A filing of certificate deposits, from its bytes to what it says.
 use amendments::check_records;
-use answers::Answer;
 use answers::number;
-use column_sums::ColumnSums;
-use column_sums::NO_SUMS;
 use conditions::check_cells;
-use contents::FiledTiers;
-use contents::NO_TIERS;
 use decode::fill_contents;
 use notes::BLOCKS;
-use records::KINDS;
+use readings::Reading;
+use readings::clear;
+use readings::refusal;
+use record_kinds::KINDS;
 use required_sheets::check_sheets;
 use schedule::CELLS;
 use schedule::limits::MONTHS;
@@ -26,14 +24,7 @@ ghost use Rattle.decode.specs.Contents.{rateCount};
 ghost use Rattle.column_sums.specs.Inner.Sums.{columnSums};
 ghost use Rattle.required_sheets.specs.RequiredSheets.{sheetVerdict};
 ghost use Rattle.filing.specs.Verdict.{filingVerdict};
-ghost use Rattle.filing.specs.Readings.{readContents, emptyContents};
-
-// The answer on a filing, its tiers, and the sums of its columns: on a refusal all numbers are 0.
-pub struct Reading {
-    pub answer: Answer,
-    pub tiers: FiledTiers,
-    pub sums: ColumnSums,
-}
+ghost use Rattle.filing.specs.Readings.{readContents};
 
 // Reads a filing: its records front to back, then the sheets that must be there, then the conditions on what it says. The lent arrays hold what it says, and
 // zeros on a refusal.
@@ -92,25 +83,5 @@ fn read_contents(
         answer,
         tiers,
         sums,
-    }
-}
-
-// Leaves zeros, as an empty filing has.
-fn clear(cells: &mut [u64; CELLS], yields: &mut [u16; MONTHS], rates: &mut [u16; RATES])
-    ensures { λ _. ⌜ (now (cells .exit) ≡ emptyContents .cells) × (now (yields .exit) ≡ emptyContents .yields) × (now (rates .exit) ≡ emptyContents .rates) ⌝ }
-{
-    *cells = [0; CELLS];
-    *yields = [0; MONTHS];
-    *rates = [0; RATES];
-}
-
-// The reading of a refused filing: its tiers and sums are those of an empty one.
-fn refusal(answer: Answer) -> Reading
-    ensures { λ r. ⌜ (r .answer ≡ answer) × (r .tiers ≡ emptyContents .tiers) × (r .sums ≡ columnSums (emptyContents .cells)) ⌝ }
-{
-    Reading {
-        answer,
-        tiers: NO_TIERS,
-        sums: NO_SUMS,
     }
 }

@@ -1,6 +1,6 @@
 // The totals of a book, moved by the difference of a place's values.
 use lists::write;
-use schedule::positions::position;
+use positions::position;
 ghost use mathlib.Core.Path.{_≡_};
 ghost use mathlib.Core.List.{_∷_};
 ghost use Prim.Native.Nat.{_-_, _<_};

@@ -1,6 +1,6 @@
 // The text that the listing prints of a filing.
-use answers::location;
 use answers::number;
+use locations::location;
 use text::append_too_long;
 use text_lines::append_refusal;
 use total_lines::append_scenarios;

@@ -10,8 +10,8 @@ use borrow.Author.Tests.{eqb-true, le-leb, lt-leb, leb-false, ltb-true, ltb-fals
 use lib.Dec.{eqb, leb, ltb}
 use lib.ListN.{length}
 use Rattle.fields.specs.Records.{nextRecord}
-use Rattle.records.specs.declared.items.Item.{Item}
-use Rattle.records.specs.declared.items.Item.the-variants.{Cell, Sheet, Amendment, Nothing}
+use Rattle.records.specs.declared.Item.{Item}
+use Rattle.records.specs.declared.Item.the-variants.{Cell, Sheet, Amendment, Nothing}
 use Rattle.records.specs.Items.{recordItem}
 use Rattle.notes.specs.Counting.{itemRank, rank, counting, countsFrom, countingBefore}
 use Rattle.notes.specs.Inner.Notes.{amendsIn, fallsAs, falls, fallsBefore}

@@ -10,9 +10,9 @@ use lib.Dec.{ltb, eqb}
 use lib.ListN.{length, getD}
 use Rattle.lists.proofs.TableLaws.{tableFrom-getD, table-getD}
 use Rattle.schedule.specs.Cells.{firstCell, cellCount}
-use Rattle.records.specs.declared.items.Item.{Item}
-use Rattle.records.specs.declared.items.Item.the-variants.{Cell, Sheet, Amendment}
-use Rattle.records.specs.Kinds.{kindCount, amendmentKind, givesCell, namesCell}
+use Rattle.records.specs.declared.Item.{Item}
+use Rattle.records.specs.declared.Item.the-variants.{Cell, Sheet, Amendment}
+use Rattle.record_kinds.specs.Kinds.{kindCount, amendmentKind, givesCell, namesCell}
 use Rattle.records.specs.Items.{sameItem, recordClass, recordItem, firstWith}
 use Rattle.notes.specs.Counting.{itemRank, rank, counting, countingBefore}
 use Rattle.notes.specs.Inner.Notes.{offsetBefore, blockSize, blockCount, blockOf, fallsBefore, notedBefore}

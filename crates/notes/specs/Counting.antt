@@ -4,8 +4,8 @@ use mathlib.Core.Bool.{cond}
 use mathlib.Core.List.{List}
 use lib.Dec.{leb, ltb, eqb}
 use lib.ListN.{length}
-use Rattle.records.specs.declared.items.Item.{Item}
-use Rattle.records.specs.declared.items.Item.the-variants.{Cell, Sheet, Amendment, Nothing}
+use Rattle.records.specs.declared.Item.{Item}
+use Rattle.records.specs.declared.Item.the-variants.{Cell, Sheet, Amendment, Nothing}
 use Rattle.fields.specs.Records.{nextRecord}
 use Rattle.records.specs.Items.{recordItem}
 

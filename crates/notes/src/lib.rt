@@ -1,10 +1,10 @@
 // What is noted of the records of a filing.
 use fields::field_within;
 use fields::number_of;
-use records::KINDS;
-use records::items::Item;
-use records::items::record_item;
-use records::kinds::AMENDMENT_KIND;
+use record_kinds::AMENDMENT_KIND;
+use record_kinds::KINDS;
+use records::Item;
+use records::record_item;
 use schedule::CELLS;
 use schedule::FIRST_CELL;
 ghost use mathlib.Core.Path.{_≡_};
@@ -15,8 +15,8 @@ ghost use lib.Dec.{ltb};
 ghost use lib.ListN.{length, getD, set};
 ghost use Rattle.schedule.specs.Cells.{firstCell};
 ghost use Rattle.fields.specs.Records.{recordKind};
-ghost use Rattle.records.specs.declared.items.Item.the-variants.{Cell, Amendment};
-ghost use Rattle.records.specs.Kinds.{namesCell};
+ghost use Rattle.records.specs.declared.Item.the-variants.{Cell, Amendment};
+ghost use Rattle.record_kinds.specs.Kinds.{namesCell};
 ghost use Rattle.records.specs.Items.{recordClass, recordItem};
 ghost use Rattle.notes.specs.Counting as counts;
 ghost use Rattle.notes.specs.Inner.Notes as notes;

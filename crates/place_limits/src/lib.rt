@@ -1,9 +1,9 @@
 // What a place of the book takes.
+use positions::position;
+use positions::within_row;
 use schedule::limits::BALANCE_LIMIT;
 use schedule::limits::COUPON_LIMIT;
 use schedule::limits::PENALTY_LIMIT;
-use schedule::positions::position;
-use schedule::positions::within_row;
 ghost use mathlib.Core.Path.{_≡_};
 ghost use Rattle.place_limits.specs.PlaceLimits.{fitsPlace, penaltyWithin};
 

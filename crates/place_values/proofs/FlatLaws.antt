@@ -11,7 +11,7 @@ use Rattle.lists.proofs.TableLaws.{table-getD}
 use Rattle.schedule.specs.Limits.{monthsLimit}
 use Rattle.schedule.specs.Shift.{shiftedRate, pathRate}
 use Rattle.fields.specs.Records.{sheetNumber}
-use Rattle.records.specs.Kinds.{flatRatesKind, ratePathKind}
+use Rattle.record_kinds.specs.Kinds.{flatRatesKind, ratePathKind}
 use Rattle.column_sums.proofs.SumLaws.{column-range}
 use Rattle.decode.specs.Contents.{sheetOffset, rateCount, rateNumber, contentsOf}
 use Rattle.contents.specs.Contents.{retailRate}

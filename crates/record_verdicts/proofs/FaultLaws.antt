@@ -11,7 +11,7 @@ use lib.ListN.{length}
 use Rattle.answers.specs.Verdict.{Verdict, accepted, refused, refusedIf, firstRefusal, firstOf}
 use Rattle.answers.proofs.VerdictLaws.{first-passed, first-refused, first-none, condition-fails}
 use Rattle.fields.specs.Records.{recordLength, recordKind, recordValue, sheetNumber, nextRecord}
-use Rattle.records.specs.Kinds.{givesCell, amendmentKind, sheetKind, tiersKind, dueLength}
+use Rattle.record_kinds.specs.Kinds.{givesCell, amendmentKind, sheetKind, tiersKind, dueLength}
 use Rattle.bodies.specs.Bodies.{valueLimit, overLimit}
 use Rattle.tier_faults.specs.TierFaults.{unsoundTiers}
 use Rattle.bodies.proofs.BodyLaws.{FitAmendment, value-within, numbers-within, amendment-within, amendment-fits}

@@ -1,13 +1,13 @@
 // The verdict on one record but for 16: refusals 1 to 4, 12, 5 and 11, in the paper's order.
 use answers::Answer;
-use answers::first_refusal;
 use bodies::over_limit;
 use faults::incomplete;
 use faults::misshapen;
 use faults::path_beside_flat;
 use faults::repeated;
 use faults::unlisted;
-use records::KINDS;
+use first_refusals::first_refusal;
+use record_kinds::KINDS;
 use schedule::CELLS;
 use tier_faults::unsound_tiers;
 ghost use mathlib.Core.Path.{_≡_};

@@ -12,10 +12,10 @@ use Rattle.lists.proofs.TestLaws.{and-true}
 use Rattle.schedule.specs.Cells.{firstCell, cellCount}
 use Rattle.schedule.specs.Limits.{couponClass, cellClass}
 use Rattle.schedule.proofs.ClassLaws.{class-listed}
-use Rattle.records.specs.declared.items.Item.{Item}
-use Rattle.records.specs.declared.items.Item.the-variants.{Cell, Sheet, Amendment, Nothing}
+use Rattle.records.specs.declared.Item.{Item}
+use Rattle.records.specs.declared.Item.the-variants.{Cell, Sheet, Amendment, Nothing}
 use Rattle.fields.specs.Records.{recordKind, recordCell, amendmentNumber}
-use Rattle.records.specs.Kinds.{kindCount, cellKind, fineCouponKind, amendmentKind, givesCell, sheetOf, sheetKinds, sheetKind, sheetLength, tiersKind, dueLength}
+use Rattle.record_kinds.specs.Kinds.{kindCount, cellKind, fineCouponKind, amendmentKind, givesCell, sheetOf, sheetKinds, sheetKind, sheetLength, tiersKind, dueLength}
 use Rattle.records.specs.Items.{sameItem, recordClass, recordItem, firstWith}
 use Rattle.fields.proofs.ByteLaws.{number-past}
 use Rattle.fields.proofs.RecordLaws.{first-passes}

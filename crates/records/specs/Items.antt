@@ -5,10 +5,10 @@ use mathlib.Core.Bool.{Bool, false, cond, _&&_}
 use mathlib.Core.List.{List}
 use lib.Dec.{eqb}
 use Rattle.schedule.specs.Limits.{couponClass, cellClass}
-use Rattle.records.specs.declared.items.Item.{Item}
-use Rattle.records.specs.declared.items.Item.the-variants.{Cell, Sheet, Amendment, Nothing}
+use Rattle.records.specs.declared.Item.{Item}
+use Rattle.records.specs.declared.Item.the-variants.{Cell, Sheet, Amendment, Nothing}
 use Rattle.fields.specs.Records.{recordKind, recordCell, amendmentNumber, firstRecord}
-use Rattle.records.specs.Kinds.{givesCell, fineCouponKind, amendmentKind, dueLength}
+use Rattle.record_kinds.specs.Kinds.{givesCell, fineCouponKind, amendmentKind, dueLength}
 
 -- the same cell, the same kind of sheet, or the same amendment of a cell
 unfoldable pub sameItem : Item → Item → Bool

@@ -15,8 +15,8 @@ use Rattle.lists.proofs.TestLaws.{and-false}
 use Rattle.numbers.specs.Members.{bit, member, withMember}
 use Rattle.numbers.proofs.BitLaws.{member-with}
 use Rattle.schedule.specs.Cells.{firstCell, cellCount}
-use Rattle.records.specs.declared.items.Item.{Item}
-use Rattle.records.specs.declared.items.Item.the-variants.{Cell, Sheet, Amendment, Nothing}
+use Rattle.records.specs.declared.Item.{Item}
+use Rattle.records.specs.declared.Item.the-variants.{Cell, Sheet, Amendment, Nothing}
 use Rattle.fields.specs.Records.{amendmentNumber, nextRecord, searchRecords, firstRecord}
 use Rattle.records.specs.Items.{sameItem, recordItem, firstWith}
 use Rattle.notes.specs.Inner.Notes.{blockSize, blockOf, amendsIn}

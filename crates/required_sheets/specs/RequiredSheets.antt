@@ -5,7 +5,7 @@ use mathlib.Core.List.{List}
 use lib.ListN.{length}
 use lib.Dec.{leb}
 use Rattle.answers.specs.Verdict.{Verdict, refusedIf}
-use Rattle.records.specs.Kinds.{yieldsKind, flatRatesKind, ratePathKind}
+use Rattle.record_kinds.specs.Kinds.{yieldsKind, flatRatesKind, ratePathKind}
 use Rattle.decode.specs.Contents.{sheetOffset}
 
 -- 6: kind 2 is missing, or both of kinds 3 and 5

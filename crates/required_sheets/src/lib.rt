@@ -1,9 +1,9 @@
 // The sheets that a filing must have: refusal 6.
 use answers::Answer;
-use records::KINDS;
-use records::kinds::FLAT_RATES_KIND;
-use records::kinds::RATE_PATH_KIND;
-use records::kinds::YIELDS_KIND;
+use record_kinds::FLAT_RATES_KIND;
+use record_kinds::KINDS;
+use record_kinds::RATE_PATH_KIND;
+use record_kinds::YIELDS_KIND;
 ghost use mathlib.Core.Path.{_≡_};
 ghost use lib.ListN.{length};
 ghost use Rattle.answers.specs.Answers.{verdictOf};

@@ -11,10 +11,10 @@ use lib.Dec.{ltb}
 use lib.ListN.{length, set}
 use Rattle.lists.specs.Tables.{tableFrom}
 use Rattle.schedule.specs.Cells.{firstCell, cellCount}
-use Rattle.records.specs.declared.items.Item.{Item}
-use Rattle.records.specs.declared.items.Item.the-variants.{Cell, Sheet, Amendment, Nothing}
+use Rattle.records.specs.declared.Item.{Item}
+use Rattle.records.specs.declared.Item.the-variants.{Cell, Sheet, Amendment, Nothing}
 use Rattle.fields.specs.Records.{nextRecord, searchRecords, firstRecord}
-use Rattle.records.specs.Kinds.{kindCount}
+use Rattle.record_kinds.specs.Kinds.{kindCount}
 use Rattle.records.specs.Items.{sameItem, recordItem, firstWith}
 use Rattle.notes.specs.Counting.{itemRank, countsFrom, countingBefore}
 use Rattle.notes.specs.Inner.Notes.{Noted, offsetBefore, blockCount, blockOf, amendsIn, fallsAs, falls, fallsBefore, notedBefore, nothingNoted, noteCounting, noteFalling, noteItem}

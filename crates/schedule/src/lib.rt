@@ -1,6 +1,5 @@
 // Schedule CMR: its cells, their classes and limits.
 pub mod limits;
-pub mod positions;
 pub mod tables;
 
 // The listed cells lie from the first to the last, which are so many numbers.

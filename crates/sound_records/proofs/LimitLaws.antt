@@ -12,7 +12,7 @@ use Rattle.schedule.specs.declared.Position.{Position}
 use Rattle.schedule.specs.Cells.{positions, brokeredCell, penaltyBalanceCell, penaltyMonthsCell, totalCell, unusedCells}
 use Rattle.schedule.specs.Limits.{couponClass, couponLimit, cellClass, classLimit}
 use Rattle.fields.specs.Records.{recordKind, recordCell}
-use Rattle.records.specs.Kinds.{fineCouponKind, amendmentKind}
+use Rattle.record_kinds.specs.Kinds.{fineCouponKind, amendmentKind}
 use Rattle.records.specs.Items.{recordClass}
 use Rattle.bodies.specs.Bodies.{valueLimit}
 use Rattle.sound_records.specs.Inner.SoundRecords.{mostIn}

@@ -14,8 +14,8 @@ use Rattle.answers.specs.Verdict.{accepted, refusedIf, firstRefusal, firstOf}
 use Rattle.schedule.specs.Limits.{cellClass, classLimit}
 use Rattle.fields.specs.Bytes.{numberAt}
 use Rattle.fields.specs.Records.{recordLength, recordKind, recordCell, recordValue, nextRecord}
-use Rattle.records.specs.Kinds.{cellKind, flatRatesKind, tiersKind, ratePathKind, fineCouponKind, amendmentKind, givesCell, namesCell, dueLength}
-use Rattle.records.specs.declared.items.Item.the-variants.{Cell}
+use Rattle.record_kinds.specs.Kinds.{cellKind, flatRatesKind, tiersKind, ratePathKind, fineCouponKind, amendmentKind, givesCell, namesCell, dueLength}
+use Rattle.records.specs.declared.Item.the-variants.{Cell}
 use Rattle.records.specs.Items.{recordClass, recordItem}
 use Rattle.notes.specs.Inner.Notes.{notedBefore}
 use Rattle.bodies.specs.Bodies.{valueLimit, unfitAmendment, overLimit}

@@ -4,9 +4,9 @@ mod limits;
 
 use crate::limits::most_in;
 use fields::field_within;
-use records::kinds::AMENDMENT_KIND;
-use records::kinds::FINE_COUPON_KIND;
-use records::kinds::gives_cell;
+use record_kinds::AMENDMENT_KIND;
+use record_kinds::FINE_COUPON_KIND;
+use record_kinds::gives_cell;
 use schedule::CELLS;
 use schedule::FIRST_CELL;
 use schedule::tables::cell_class;
@@ -17,7 +17,7 @@ ghost use Prim.Native.Nat.{_+_, _≤_};
 ghost use lib.Dec.{ltb, eqb};
 ghost use lib.ListN.{length};
 ghost use Rattle.fields.specs.Records.{recordKind};
-ghost use Rattle.records.specs.Kinds.{fineCouponKind, amendmentKind, givesCell};
+ghost use Rattle.record_kinds.specs.Kinds.{fineCouponKind, amendmentKind, givesCell};
 ghost use Rattle.notes.specs.Inner.Notes.{notedBefore};
 ghost use Rattle.sound_records.specs.Inner.SoundRecords.{soundNamed};
 

@@ -11,7 +11,7 @@ use Rattle.lists.specs.Tables.{anyBelow}
 use Rattle.lists.proofs.TestLaws.{neither, any-fails}
 use Rattle.schedule.specs.Limits.{tierLimit, withdrawalLimit}
 use Rattle.fields.specs.Records.{recordKind, tierCount, tierWithdrawal, tierEdge}
-use Rattle.records.specs.Kinds.{tiersKind}
+use Rattle.record_kinds.specs.Kinds.{tiersKind}
 use Rattle.tier_faults.specs.TierFaults.{unfitTier, unsoundTiers}
 
 -- tiers that load: 1 to 16, and each fits

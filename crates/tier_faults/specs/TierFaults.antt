@@ -6,7 +6,7 @@ use lib.Dec.{leb, ltb, eqb}
 use Rattle.lists.specs.Tables.{anyBelow}
 use Rattle.schedule.specs.Limits.{tierLimit, withdrawalLimit}
 use Rattle.fields.specs.Records.{recordKind, tierCount, tierEdge, tierWithdrawal}
-use Rattle.records.specs.Kinds.{tiersKind}
+use Rattle.record_kinds.specs.Kinds.{tiersKind}
 
 -- The i-th tier, from 0, does not load (02:CR 1): its withdrawal is above 600; the first edge is not 0; a later edge does not rise above the one
 -- before, or its withdrawal falls

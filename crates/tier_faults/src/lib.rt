@@ -2,7 +2,7 @@
 use fields::record_kind;
 use fields::sheet_number;
 use fields::tier_count;
-use records::kinds::TIERS_KIND;
+use record_kinds::TIERS_KIND;
 use schedule::limits::TIER_LIMIT;
 use schedule::limits::WITHDRAWAL_LIMIT;
 ghost use mathlib.Core.Path.{_≡_};

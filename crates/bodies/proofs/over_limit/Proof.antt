@@ -2,7 +2,7 @@
 -- Assumes nothing.
 use borrow.Author.Needs.{needs}
 use borrow.Author.Tests.{eq-eqb, ne-eqb}
-use Rattle.records.specs.Kinds.{amendmentKind}
+use Rattle.record_kinds.specs.Kinds.{amendmentKind}
 use Rattle.bodies.specs.Bodies.{overLimit}
 use Rattle.bodies.proofs.over_limit.Statement.{statement}
 use Rattle.bodies.proofs.over_limit.Tie as tie

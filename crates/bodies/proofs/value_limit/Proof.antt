@@ -2,7 +2,7 @@
 -- Assumes nothing.
 use borrow.Author.Needs.{needs}
 use borrow.Author.Tests.{eq-eqb, ne-eqb}
-use Rattle.records.specs.Kinds.{fineCouponKind}
+use Rattle.record_kinds.specs.Kinds.{fineCouponKind}
 use Rattle.bodies.specs.Bodies.{valueLimit}
 use Rattle.bodies.proofs.value_limit.Statement.{statement}
 use Rattle.bodies.proofs.value_limit.Tie as tie

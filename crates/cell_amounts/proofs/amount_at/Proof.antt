@@ -7,7 +7,7 @@ use borrow.Author.Needs.{needs}
 use borrow.Author.Tests.{eq-eqb, ne-eqb}
 use Rattle.schedule.specs.Limits.{couponClass, couponLimit, cellClass, heldLimit}
 use Rattle.fields.specs.Records.{recordCell}
-use Rattle.records.specs.Kinds.{fineCouponKind}
+use Rattle.record_kinds.specs.Kinds.{fineCouponKind}
 use Rattle.cell_amounts.specs.Amounts.{amountAt}
 use Rattle.cell_amounts.proofs.AmountLaws.{amount-past}
 use Rattle.cell_amounts.proofs.amount_at.Statement.{statement}

@@ -2,7 +2,7 @@
 -- Assumes nothing.
 use borrow.Author.Needs.{needs}
 use borrow.Author.Tests.{eq-eqb, ne-eqb}
-use Rattle.records.specs.Kinds.{amendmentKind}
+use Rattle.record_kinds.specs.Kinds.{amendmentKind}
 use Rattle.cell_amounts.specs.Amounts.{filedValue}
 use Rattle.cell_amounts.proofs.filed_value.Statement.{statement}
 use Rattle.cell_amounts.proofs.filed_value.Tie as tie

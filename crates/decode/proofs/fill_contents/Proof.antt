@@ -6,7 +6,7 @@ use mathlib.Core.Path.{_≡_, ap, _∙_}
 use lib.Dec.{lit<}
 use lib.ListN.{getD}
 use borrow.Author.Needs.{needs}
-use Rattle.records.specs.Kinds.{kindCount, yieldsKind, flatRatesKind, tiersKind, ratePathKind}
+use Rattle.record_kinds.specs.Kinds.{kindCount, yieldsKind, flatRatesKind, tiersKind, ratePathKind}
 use Rattle.decode.specs.Contents.{sheetOffset, contentsOf}
 use Rattle.decode.proofs.ContentsLaws.{sheet-noted}
 use Rattle.decode.proofs.fill_contents.Statement.{statement}

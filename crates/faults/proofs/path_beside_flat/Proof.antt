@@ -3,7 +3,7 @@
 use borrow.Author.Needs.{needs}
 use borrow.Author.Tests.{eq-eqb, ne-eqb}
 use lib.Dec.{lit<}
-use Rattle.records.specs.Kinds.{flatRatesKind, ratePathKind}
+use Rattle.record_kinds.specs.Kinds.{flatRatesKind, ratePathKind}
 use Rattle.faults.specs.Faults as faults
 use Rattle.faults.proofs.RepetitionLaws.{sheet-before}
 use Rattle.faults.proofs.path_beside_flat.Statement.{statement}

@@ -1,7 +1,7 @@
 -- `note_named` meets its contract: the item of the record goes by its kind.
 -- Assumes nothing.
 use mathlib.Core.Path.{_≡_, sym, _∙_}
-use Rattle.records.specs.declared.items.Item.the-variants.{Cell, Amendment}
+use Rattle.records.specs.declared.Item.the-variants.{Cell, Amendment}
 use Rattle.records.specs.Items.{recordItem}
 use Rattle.notes.specs.Inner.Notes.{noteFalling, noteItem}
 use Rattle.notes.proofs.NoteLaws.{named-cell, named-amendment}

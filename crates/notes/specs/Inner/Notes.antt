@@ -7,10 +7,10 @@ use lib.ListN.{length, getD, set, replicate}
 use lib.Dec.{leb, ltb, eqb}
 use Rattle.lists.specs.Tables.{table, tableFrom}
 use Rattle.schedule.specs.Cells.{firstCell, cellCount}
-use Rattle.records.specs.declared.items.Item.{Item}
-use Rattle.records.specs.declared.items.Item.the-variants.{Cell, Sheet, Amendment, Nothing}
+use Rattle.records.specs.declared.Item.{Item}
+use Rattle.records.specs.declared.Item.the-variants.{Cell, Sheet, Amendment, Nothing}
 use Rattle.fields.specs.Records.{firstRecord}
-use Rattle.records.specs.Kinds.{kindCount}
+use Rattle.record_kinds.specs.Kinds.{kindCount}
 use Rattle.records.specs.Items.{recordItem, firstWith}
 use Rattle.notes.specs.Counting.{rank, counting, countingBefore}
 

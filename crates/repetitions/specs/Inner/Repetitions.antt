@@ -6,8 +6,8 @@ use mathlib.Core.List.{List}
 use lib.Dec.{eqb}
 use Rattle.numbers.specs.Members.{member, withMember}
 use Rattle.schedule.specs.Cells.{firstCell}
-use Rattle.records.specs.declared.items.Item.{Item}
-use Rattle.records.specs.declared.items.Item.the-variants.{Cell, Sheet, Amendment, Nothing}
+use Rattle.records.specs.declared.Item.{Item}
+use Rattle.records.specs.declared.Item.the-variants.{Cell, Sheet, Amendment, Nothing}
 use Rattle.fields.specs.Records.{firstRecord}
 use Rattle.records.specs.Items.{recordItem}
 use Rattle.notes.specs.Inner.Notes.{blockSize, blockOf, amendsIn}

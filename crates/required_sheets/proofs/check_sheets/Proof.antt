@@ -9,7 +9,7 @@ use lib.ListN.{length, getD}
 use Rattle.answers.specs.Verdict.{accepted, refused}
 use Rattle.answers.specs.Answers.{verdictOf}
 use Rattle.answers.proofs.VerdictLaws.{condition-holds, condition-passes}
-use Rattle.records.specs.Kinds.{kindCount, flatRatesKind, ratePathKind}
+use Rattle.record_kinds.specs.Kinds.{kindCount, flatRatesKind, ratePathKind}
 use Rattle.decode.specs.Contents.{sheetOffset}
 use Rattle.required_sheets.specs.RequiredSheets.{sheetMissing, sheetVerdict}
 use Rattle.decode.proofs.ContentsLaws.{sheet-noted}

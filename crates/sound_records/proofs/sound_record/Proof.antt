@@ -4,7 +4,7 @@ use native.Mathlib.Omega.{arith}
 use mathlib.Core.Path.{sym, ap, _∙_}
 use borrow.Author.Tests.{not-true, not-false}
 use lib.Dec.{eqb}
-use Rattle.records.specs.Kinds.{fineCouponKind, givesCell}
+use Rattle.record_kinds.specs.Kinds.{fineCouponKind, givesCell}
 use Rattle.sound_records.proofs.NamedLaws.{not-told, other-kind, told-within}
 use borrow.Author.Needs.{needs}
 use Rattle.sound_records.proofs.sound_record.Statement.{statement}

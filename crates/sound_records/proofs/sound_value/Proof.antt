@@ -12,7 +12,7 @@ use lib.ListN.{getD}
 use Rattle.schedule.specs.Cells.{firstCell, cellCount}
 use Rattle.fields.specs.Bytes.{numberAt}
 use Rattle.fields.specs.Records.{recordLength, recordKind, recordCell}
-use Rattle.records.specs.Kinds.{fineCouponKind}
+use Rattle.record_kinds.specs.Kinds.{fineCouponKind}
 use Rattle.notes.specs.Inner.Notes.{notedBefore}
 use Rattle.records.proofs.ItemLaws.{cell-listed}
 use Rattle.sound_records.specs.Inner.SoundRecords.{mostIn}

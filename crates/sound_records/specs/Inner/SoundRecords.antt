@@ -5,7 +5,7 @@ use mathlib.Core.List.{List}
 use lib.Dec.{eqb}
 use Rattle.schedule.specs.Limits.{couponClass, couponLimit, cellClass, classLimit}
 use Rattle.fields.specs.Records.{recordKind}
-use Rattle.records.specs.Kinds.{namesCell}
+use Rattle.record_kinds.specs.Kinds.{namesCell}
 use Rattle.record_verdicts.specs.Inner.PlainVerdicts.{plainVerdict}
 
 -- a record of kind 1, 6 or 7 that no test but perhaps 16 refuses

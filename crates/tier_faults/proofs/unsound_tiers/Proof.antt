@@ -1,7 +1,7 @@
 -- `unsound_tiers` meets its contract: each test of the code is the definition's.
 -- Assumes nothing.
 use borrow.Author.Tests.{lt-ltb, le-ltb, eq-eqb, ne-eqb}
-use Rattle.records.specs.Kinds.{tiersKind}
+use Rattle.record_kinds.specs.Kinds.{tiersKind}
 use Rattle.tier_faults.specs.TierFaults.{unsoundTiers}
 use borrow.Author.Needs.{needs}
 use Rattle.tier_faults.proofs.unsound_tiers.Statement.{statement}

@@ -5,7 +5,7 @@ use native.Mathlib.Nat.{le-refl}
 use native.Mathlib.Omega.{arith}
 use mathlib.Core.Path.{sym, _∙_}
 use borrow.Author.Tests.{lt-ltb, le-ltb}
-use Rattle.records.specs.declared.items.Item.the-variants.{Amendment}
+use Rattle.records.specs.declared.Item.the-variants.{Amendment}
 use Rattle.records.specs.Items.{sameItem, recordItem, firstWith}
 use Rattle.fields.proofs.SearchLaws.{next-lt, Ahead, ahead-start, ahead-here, ahead-next, ahead-done}
 use Rattle.repetitions.proofs.pass.amended_before.Statement.{statement}

@@ -1,0 +1,89 @@
+// The kinds of record: what a sheet of each kind holds, and the length that a record is to have.
+use fields::record_kind;
+use fields::tier_count;
+use schedule::limits::RATE_LIMIT;
+ghost use mathlib.Core.Path.{_≡_};
+ghost use Rattle.record_kinds.specs.Kinds.{givesCell, namesCell, sheetOf, sheetKind, dueLength};
+
+// The kinds of record are below this number.
+pub const KINDS: usize = 8;
+
+// The kinds: a cell, CD yields, flat retail rates, tiers, retail rates by month, a coupon in thousandths, an amendment.
+pub const CELL_KIND: usize = 1;
+
+pub const YIELDS_KIND: usize = 2;
+
+pub const FLAT_RATES_KIND: usize = 3;
+
+pub const TIERS_KIND: usize = 4;
+
+pub const RATE_PATH_KIND: usize = 5;
+
+pub const FINE_COUPON_KIND: usize = 6;
+
+pub const AMENDMENT_KIND: usize = 7;
+
+// A kind of sheet: how many numbers it holds, 2 bytes each, and the largest that each may be. One that is no sheet holds none.
+pub struct SheetKind {
+    pub numbers: u16,
+    pub limit: u16,
+}
+
+// The sheet of a kind.
+pub fn sheet_kind(kind: usize) -> SheetKind
+    ensures { λ r. ⌜ r ≡ sheetKind kind ⌝ }
+{
+    match kind {
+        0 => sheet_of(0, 0),
+        1 => sheet_of(0, 0),
+        2 => sheet_of(120, RATE_LIMIT),
+        3 => sheet_of(3, RATE_LIMIT),
+        4 => sheet_of(0, 0),
+        5 => sheet_of(360, RATE_LIMIT),
+        6 => sheet_of(0, 0),
+        7 => sheet_of(0, 0),
+        _ => sheet_of(0, 0),
+    }
+}
+
+// A sheet of so many numbers up to a limit.
+fn sheet_of(numbers: u16, limit: u16) -> SheetKind
+    ensures { λ r. ⌜ r ≡ sheetOf numbers limit ⌝ }
+{
+    SheetKind { numbers, limit }
+}
+
+// A kind that gives a cell its value.
+pub fn gives_cell(kind: usize) -> bool
+    ensures { λ r. ⌜ r ≡ givesCell kind ⌝ }
+{
+    (kind == CELL_KIND) | (kind == FINE_COUPON_KIND)
+}
+
+// A kind whose body begins with a cell.
+pub fn names_cell(kind: usize) -> bool
+    ensures { λ r. ⌜ r ≡ namesCell kind ⌝ }
+{
+    gives_cell(kind) | (kind == AMENDMENT_KIND)
+}
+
+// The length that a record is to have by its kind: 0 where the kind is unknown.
+pub fn due_length(s: &[u8], at: usize) -> usize
+    ensures { λ r. ⌜ r ≡ dueLength (now (s .entry)) at ⌝ }
+{
+    let kind = record_kind(s, at);
+    if gives_cell(kind) {
+        return 12;
+    }
+    if kind == AMENDMENT_KIND {
+        return 16;
+    }
+    if kind == TIERS_KIND {
+        return 4 + 4 * (tier_count(s, at) as usize);
+    }
+    let sheet = sheet_kind(kind);
+    if sheet.numbers == 0 {
+        return 0;
+    }
+    2 + 2 * (sheet.numbers as usize)
+}
