@@ -1,8 +1,14 @@
 // The entries of standard input, and what is printed of each.
+use crate::book::print_book;
+use crate::conversion::print_certificates;
+use crate::listing::print_listing;
+use crate::search::print_search;
+use crate::split::print_splitting;
+use crate::values::print_valuing;
 use libc::STDIN_FILENO;
-use output::end_line;
-use output::next_number;
-use output::text;
+use test_lines::output::end_line;
+use test_lines::output::next_number;
+use test_lines::output::text;
 ghost use Prim.Native.Nat.{_<_};
 
 // The longest input, a byte more than the listing takes.
@@ -69,13 +75,13 @@ fn print_input(input: &mut [u8], call: usize, numbers: usize, places: usize) {
 fn print_call(input: &[u8], call: usize, numbers: usize, places: usize) {
     match call {
         0 => {
-            test_values::print_valuing(input, numbers);
-            test_split::print_splitting(input, places);
+            print_valuing(input, numbers);
+            print_splitting(input, places);
         }
-        1 => crate::listing::print_listing(input),
-        2 => test_search::print_search(input),
-        3 => test_certificates::print_certificates(input),
-        4 => test_book::print_book(input),
+        1 => print_listing(input),
+        2 => print_search(input),
+        3 => print_certificates(input),
+        4 => print_book(input),
         _ => {
             text(b"no call");
             next_number(call as u64);

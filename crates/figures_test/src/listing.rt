@@ -4,5 +4,5 @@
 pub fn print_listing(input: &[u8]) {
     let mut text = [0u8; 623];
     let size = listing_text::write_listing(input, &mut text);
-    output::text(&text[..size]);
+    test_lines::output::text(&text[..size]);
 }

@@ -1,0 +1,65 @@
+// Lines of text and numbers on standard output.
+use libc::STDOUT_FILENO;
+use scenarios::Scenario;
+
+// A piece of text as it stands.
+pub fn text(s: &[u8]) {
+    io::write_all(STDOUT_FILENO, s);
+}
+
+// A number in decimal.
+fn number(n: u64) {
+    io::print_decimal(STDOUT_FILENO, n);
+}
+
+// A space and a number.
+pub fn next_number(n: u64) {
+    text(b" ");
+    number(n);
+}
+
+// The shift of a scenario, 0 to 6, in hundredths of a percent.
+fn shift(scenario: u64) {
+    if scenario < 3 {
+        text(b"-");
+        number(100 * (3 - scenario));
+    } else if scenario < 7 {
+        number(100 * (scenario - 3));
+    }
+}
+
+// The four totals of each scenario, behind its shift, from the 568 numbers of a valued filing.
+pub fn scenario_lines(name: &[u8], numbers: &[u64]) {
+    if 540 <= numbers.len() {
+        total_lines(name, &numbers[540..]);
+    }
+}
+
+// The same from a list of totals, four for each scenario.
+pub fn total_lines(name: &[u8], totals: &[u64]) {
+    let mut scenario: usize = 0;
+    while (scenario as u64) < Scenario::COUNT {
+        text(name);
+        shift(scenario as u64);
+        let from = 4 * scenario;
+        let end = from + 4;
+        if end <= totals.len() {
+            rest_of_line(&totals[from..end]);
+        }
+        scenario += 1;
+    }
+}
+
+// The numbers of a list, each behind a space, and the line's end.
+pub fn rest_of_line(list: &[u64]) {
+    let mut i: usize = 0;
+    while i < list.len() {
+        next_number(list[i]);
+        i += 1;
+    }
+    end_line();
+}
+
+pub fn end_line() {
+    text(b"\n");
+}

@@ -1,0 +1,71 @@
+// A list of numbers, 7s before the call, after the valuing call.
+use crate::output::next_number;
+use crate::output::rest_of_line;
+use crate::output::scenario_lines;
+use crate::output::text;
+use crate::verdicts::count_if;
+use crate::verdicts::print_counts;
+ghost use Prim.Native.Nat.{_<_};
+
+// On acceptance the 568 numbers; and how many of those past them, or on a refusal of all, are still 7.
+pub fn print_left(list: &[u64], is_accepted: bool) {
+    if is_accepted {
+        print_values(list);
+        scenario_lines(b"total ", list);
+        print_rest(list, 568);
+    } else {
+        print_rest(list, 0);
+    }
+}
+
+// How many numbers are past the first `written`, and how many of them are 7.
+fn print_rest(list: &[u64], written: usize) {
+    if written <= list.len() {
+        let rest = &list[written..];
+        print_counts(rest.len() as u64, sevens(rest));
+    }
+}
+
+// How many numbers of a list are 7.
+fn sevens(list: &[u64]) -> u64 {
+    let mut count: u64 = 0;
+    for i in 0..list.len() {
+        count = count_if(count, list[i] == 7);
+    }
+    count
+}
+
+// The fifteen numbers of each of the 36 places.
+fn print_values(list: &[u64]) {
+    for place in 0..36usize {
+        print_place(list, place);
+    }
+}
+
+// A place's numbers, where one of them is not 0.
+fn print_place(list: &[u64], place: usize)
+    requires { ⌜ place < 36 ⌝ }
+{
+    let from = 15 * place;
+    let end = from + 15;
+    if end <= list.len() {
+        print_row(place as u64, &list[from..end]);
+    }
+}
+
+fn print_row(place: u64, row: &[u64]) {
+    if any_number(row) {
+        text(b"value");
+        next_number(place);
+        rest_of_line(row);
+    }
+}
+
+// A number of the list is not 0.
+fn any_number(list: &[u64]) -> bool {
+    let mut any = false;
+    for i in 0..list.len() {
+        any = any | (list[i] != 0);
+    }
+    any
+}
