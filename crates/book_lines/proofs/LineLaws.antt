@@ -1,6 +1,6 @@
 -- The line of an answer in both of its cases, and the line of a place, number by number. Assumes nothing.
 use Prim.Native.Nat.{ℕ}
-use mathlib.Core.Path.{_≡_, sym, _∙_}
+use mathlib.Core.Path.{_≡_, _∙_}
 use mathlib.Core.List.{List, [], _∷_, _++_, append-assoc}
 use borrow.Author.Tests.{eq-eqb, ne-eqb}
 use Rattle.answers.specs.declared.Answer.{Answer}
@@ -10,14 +10,14 @@ use Rattle.text.specs.Lines.{spaced, restOfLine, refusalLine}
 use Rattle.book_lines.specs.BookLines.{answerLine}
 
 -- an answer that refuses nothing, and a refusal
-module _ (line : List ℕ) (a : Answer) (number : ℕ) (n : number ≡ numberOf a) where
-  pub answer-taken : number ≡ 0 → line ≡ answerLine line (verdictOf a)
+module _ (line : List ℕ) (a : Answer) where
+  pub answer-taken : numberOf a ≡ 0 → line ≡ answerLine line (verdictOf a)
   unfolding answerLine verdictOf
-  answer-taken h = rw (eq-eqb (numberOf a) 0 (sym n ∙ h))
+  answer-taken h = rw (eq-eqb (numberOf a) 0 h)
 
-  pub answer-refused : (location : ℕ) → location ≡ locationOf a → (number ≡ 0 → ⊥) → refusalLine number location ≡ answerLine line (verdictOf a)
+  pub answer-refused : (numberOf a ≡ 0 → ⊥) → refusalLine (numberOf a) (locationOf a) ≡ answerLine line (verdictOf a)
   unfolding answerLine verdictOf
-  answer-refused location p h = rw (n, p, ne-eqb (numberOf a) 0 (λ e. h (n ∙ e)))
+  answer-refused h = rw (ne-eqb (numberOf a) 0 h)
 
 -- the first number of the rest of a line
 rest-cons : (n : ℕ) (ns : List ℕ) → restOfLine (n ∷ ns) ≡ (32 ∷ decimal n) ++ restOfLine ns

@@ -7,14 +7,17 @@ use lib.Dec.{eqb}
 use Rattle.answers.specs.Verdict.{Verdict}
 use Rattle.sub_balances.specs.declared.SubBalance.{SubBalance}
 use Rattle.text.specs.Decimal.{decimal}
-use Rattle.text.specs.Lines.{restOfLine, refusalLine}
+use Rattle.text.specs.Lines.{restOfLine, refusalLine, unreadableWord}
 
--- the lines `opened` and `ok`
+-- the lines `opened`, `ok` and `unreadable`
 unfoldable pub openedLine : List ℕ
 openedLine = 111 ∷ 112 ∷ 101 ∷ 110 ∷ 101 ∷ 100 ∷ 10 ∷ []
 
 unfoldable pub okLine : List ℕ
 okLine = 111 ∷ 107 ∷ 10 ∷ []
+
+unfoldable pub unreadableReply : List ℕ
+unreadableReply = unreadableWord ++ (10 ∷ [])
 
 -- a line where nothing is refused, else the line of the refusal
 unfoldable pub answerLine : List ℕ → Verdict → List ℕ

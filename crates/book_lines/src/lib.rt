@@ -1,13 +1,12 @@
 // The lines that a book prints: the answer on a change, what a place holds, and the totals.
+use answer_lines::append_refused;
 use answers::Answer;
 use answers::number;
-use locations::location;
 use sub_balances::SubBalance;
 use text::append;
 use text::append_byte;
 use text::append_number;
 use text_lines::append_line;
-use text_lines::append_refusal;
 use text_lines::append_spaced;
 use total_lines::append_scenarios;
 ghost use mathlib.Core.List.{_++_, _∷_, []};
@@ -18,18 +17,41 @@ ghost use Rattle.text.specs.Appended.{Appended};
 ghost use Rattle.text.specs.Decimal.{decimal};
 ghost use Rattle.text.specs.Lines.{restOfLine};
 ghost use Rattle.total_lines.specs.TotalLines.{linesIn};
-ghost use Rattle.book_lines.specs.BookLines.{answerLine, heldLine};
+ghost use Rattle.book_lines.specs.BookLines.{openedLine, okLine, unreadableReply, answerLine, heldLine};
+
+// The line of a filing that a book is opened under: `opened`, or its refusal.
+pub fn append_opened(out: &mut [u8], answer: Answer) -> usize
+    requires { ⌜ 50 ≤ length (now out) ⌝ }
+    ensures { λ r. ⌜ Appended (now (out .entry)) 0 (answerLine openedLine (verdictOf answer)) (now (out .exit)) r × (r ≤ 50) ⌝ }
+{
+    append_answer(out, answer, b"opened\n")
+}
+
+// The line of a change: `ok`, or its refusal.
+pub fn append_change(out: &mut [u8], answer: Answer) -> usize
+    requires { ⌜ 50 ≤ length (now out) ⌝ }
+    ensures { λ r. ⌜ Appended (now (out .entry)) 0 (answerLine okLine (verdictOf answer)) (now (out .exit)) r × (r ≤ 50) ⌝ }
+{
+    append_answer(out, answer, b"ok\n")
+}
+
+// The line of a line that says no command.
+pub fn append_unreadable(out: &mut [u8]) -> usize
+    requires { ⌜ 50 ≤ length (now out) ⌝ }
+    ensures { λ r. ⌜ Appended (now (out .entry)) 0 unreadableReply (now (out .exit)) r × (r ≤ 50) ⌝ }
+{
+    append(out, 0, b"unreadable\n")
+}
 
 // The line of an answer that refuses nothing, or the refusal.
-pub fn append_answer(out: &mut [u8], answer: Answer, accepted: &[u8]) -> usize
+fn append_answer(out: &mut [u8], answer: Answer, accepted: &[u8]) -> usize
     requires { ⌜ (50 ≤ length (now out)) × (length (now accepted) ≤ 50) ⌝ }
     ensures { λ r. ⌜ Appended (now (out .entry)) 0 (answerLine (now (accepted .entry)) (verdictOf answer)) (now (out .exit)) r × (r ≤ 50) ⌝ }
 {
-    let refused = number(answer);
-    if refused == 0 {
+    if number(answer) == 0 {
         return append(out, 0, accepted);
     }
-    append_refusal(out, 0, refused, location(answer) as u64)
+    append_refused(out, answer)
 }
 
 // What a place holds.

@@ -2,7 +2,7 @@
 use Prim.Native.Nat.{ℕ, _≤_}
 use native.Mathlib.Omega.{arith}
 use mathlib.Core.Path.{_≡_, refl, sym, _∙_}
-use mathlib.Core.List.{List, [], _∷_, _++_}
+use mathlib.Core.List.{List}
 use lib.ListN.{length}
 use Rattle.answers.specs.Answers.{verdictOf}
 use Rattle.book_places.specs.declared.Book.{Book}
@@ -10,12 +10,11 @@ use Rattle.book_places.specs.declared.Answered.{Answered}
 use Rattle.books.specs.Changes.{Change, setPlace, clearPlace, changeVerdict, bookAfter}
 use Rattle.books.specs.Promise.{ChangedOf}
 use Rattle.text.specs.Appended.{Appended, InFront}
-use Rattle.text.specs.Lines.{unreadableWord}
 use Rattle.text.proofs.AppendLaws.{in-front}
 use Rattle.book_commands.specs.declared.Command.{Command}
 use Rattle.book_commands.specs.declared.Command.the-variants.{Set, Clear, Place, Totals, Unreadable}
 use Rattle.book_text.specs.declared.Obeyed.{Obeyed}
-use Rattle.book_lines.specs.BookLines.{okLine, answerLine}
+use Rattle.book_lines.specs.BookLines.{okLine, unreadableReply, answerLine}
 use Rattle.book_text.specs.Replies.{placeText, totalsText, replyTo, bookAfterCommand, ObeyedAs}
 
 -- the reply and the book after, of a command that changes the book by `change`, and of one that leaves it
@@ -43,7 +42,7 @@ module _ (b : Book) (c : Command) where
   unfolding replyTo bookAfterCommand
   totals-leaves e = rw e (refl, refl)
 
-  pub unreadable-leaves : c ≡ Unreadable → Leaves b c (unreadableWord ++ (10 ∷ []))
+  pub unreadable-leaves : c ≡ Unreadable → Leaves b c unreadableReply
   unfolding replyTo bookAfterCommand
   unreadable-leaves e = rw e (refl, refl)
 

@@ -14,10 +14,10 @@ use Rattle.books.specs.Books.{openedBook}
 use Rattle.books.specs.Changes.{setPlace, clearPlace, changeVerdict, bookAfter}
 use Rattle.books.specs.Promise.{Kept}
 use Rattle.text.specs.Decimal.{decimal}
-use Rattle.text.specs.Lines.{filingLimit, refusalLine, unreadableWord, tooLong}
+use Rattle.text.specs.Lines.{filingLimit, refusalLine, tooLong}
 use Rattle.text.specs.Appended.{InFront}
 use Rattle.total_lines.specs.TotalLines.{linesIn}
-use Rattle.book_lines.specs.BookLines.{openedLine, okLine, answerLine, heldLine}
+use Rattle.book_lines.specs.BookLines.{openedLine, okLine, unreadableReply, answerLine, heldLine}
 use Rattle.book_commands.specs.declared.Command.{Command}
 use Rattle.book_commands.specs.declared.Command.the-variants.{Set, Clear, Place, Totals, Unreadable}
 use Rattle.book_text.specs.declared.Opened.{Opened}
@@ -44,7 +44,7 @@ replyTo b (Set place balance coupon months penalty) = answerLine okLine (changeV
 replyTo b (Clear place) = answerLine okLine (changeVerdict (clearPlace place))
 replyTo b (Place place) = placeText b place
 replyTo b Totals = totalsText b
-replyTo b Unreadable = unreadableWord ++ (10 ∷ [])
+replyTo b Unreadable = unreadableReply
 
 -- the book after a command
 unfoldable pub bookAfterCommand : Book → Command → Book

@@ -3,7 +3,7 @@ mod replies;
 
 use crate::replies::reply;
 use answers::number;
-use book_lines::append_answer;
+use book_lines::append_opened;
 use book_places::Book;
 use line_commands::command_of;
 use standing_book::open;
@@ -54,7 +54,7 @@ pub fn open_book(filing: &[u8], out: &mut [u8; 644]) -> Opened
             size,
         };
     }
-    let size = append_answer(out, answer, b"opened\n");
+    let size = append_opened(out, answer);
     Opened {
         is_open: number(answer) == 0,
         book,

@@ -1,14 +1,14 @@
 // What is printed to a command, put at the front of lent bytes: 644 at most, the balance total and seven lines.
 use crate::Obeyed;
 use book_commands::Command;
-use book_lines::append_answer;
+use book_lines::append_change;
 use book_lines::append_held;
 use book_lines::append_totals;
+use book_lines::append_unreadable;
 use book_places::Answered;
 use book_places::Book;
 use standing_book::clear;
 use standing_book::set;
-use text::append;
 use text_lines::append_refusal;
 ghost use mathlib.Core.Path.{_≡_};
 ghost use Prim.Native.Nat.{_≤_};
@@ -45,7 +45,7 @@ pub(crate) fn reply(book: Book, command: Command, out: &mut [u8]) -> Obeyed
             Obeyed { book, size }
         }
         Command::Unreadable => {
-            let size = append(out, 0, b"unreadable\n");
+            let size = append_unreadable(out);
             Obeyed { book, size }
         }
     }
@@ -58,7 +58,7 @@ fn reply_change(changed: Answered, out: &mut [u8]) -> Obeyed
 {
     let answer = changed.answer;
     let book = changed.book;
-    let size = append_answer(out, answer, b"ok\n");
+    let size = append_change(out, answer);
     Obeyed { book, size }
 }
 

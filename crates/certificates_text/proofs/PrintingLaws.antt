@@ -35,19 +35,17 @@ text-readable s v c short readable date list = rw (le-ltb inputLimit (length s) 
 
 -- what the certificates answer
 module _ (v : Date) (c : List ℕ) (r : Cells) (converted : Converted v c r) where
-  pub answer-refused : (number location : ℕ) → number ≡ numberOf (r .answer) → location ≡ locationOf (r .answer) → (number ≡ 0 → ⊥)
-      → refusalLine number location ≡ answerText v c
+  pub answer-refused : (numberOf (r .answer) ≡ 0 → ⊥) → refusalLine (numberOf (r .answer)) (locationOf (r .answer)) ≡ answerText v c
   unfolding answerText verdictOf
-  answer-refused number location n p h =
-      rw (n, p, sym (converted .answer-is), ne-eqb (numberOf (r .answer)) 0 (λ e. h (n ∙ e)))
+  answer-refused h = rw (sym (converted .answer-is), ne-eqb (numberOf (r .answer)) 0 h)
 
   filled-are : take (r .count) (r .cells) ≡ filledCells v c
   unfolding padded
   filled-are = rw (converted .cells-are) (take-at (filledCells v c) _ (r .count) (sym (converted .count-is)))
 
-  pub answer-accepted : (number : ℕ) → number ≡ numberOf (r .answer) → number ≡ 0 → cellLines (take (r .count) (r .cells)) ≡ answerText v c
+  pub answer-accepted : numberOf (r .answer) ≡ 0 → cellLines (take (r .count) (r .cells)) ≡ answerText v c
   unfolding answerText verdictOf
-  answer-accepted number n h = rw (filled-are, sym (converted .answer-is), eq-eqb (numberOf (r .answer)) 0 (sym n ∙ h))
+  answer-accepted h = rw (filled-are, sym (converted .answer-is), eq-eqb (numberOf (r .answer)) 0 h)
 
   -- 28 entries hold them
   pub answer-count : r .count ≤ 28

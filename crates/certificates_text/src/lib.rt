@@ -1,13 +1,12 @@
 // The text that the program `cells` prints of its input: from a valuation date and certificates to the cells that they fill.
+use answer_lines::append_refused;
 use answers::number;
 use calendar::Date;
 use cell_lines::append_cells;
 use cell_lines::append_unreadable;
 use certificates::to_cells;
 use certificates_input::read_text;
-use locations::location;
 use text::append_too_long;
-use text_lines::append_refusal;
 ghost use Prim.Native.Nat.{_≤_};
 ghost use lib.ListN.{length, take};
 ghost use Rattle.text.specs.Appended.{Appended, InFront};
@@ -52,9 +51,8 @@ fn append_answer(out: &mut [u8], valuation: Date, certificates: &[u64]) -> usize
 {
     let cells = to_cells(valuation, certificates);
     let answer = cells.answer;
-    let refused = number(answer);
-    if refused != 0 {
-        return append_refusal(out, 0, refused, location(answer) as u64);
+    if number(answer) != 0 {
+        return append_refused(out, answer);
     }
     append_cells(out, cells)
 }

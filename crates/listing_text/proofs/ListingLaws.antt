@@ -57,15 +57,13 @@ module _ (s before after : List ℕ) (answer : Answer)
   text-is = rw (le-ltb filingLimit (length s) short, verdict-is)
 
   -- a refused filing
-  pub text-refused : (number location : ℕ) → number ≡ numberOf answer → location ≡ locationOf answer → (number ≡ 0 → ⊥)
-      → refusalLine number location ≡ listingText s
+  pub text-refused : (numberOf answer ≡ 0 → ⊥) → refusalLine (numberOf answer) (locationOf answer) ≡ listingText s
   unfolding verdictText verdictOf
-  text-refused number location n p h = rw (n, p) (rw (ne-eqb (numberOf answer) 0 (λ e. h (n ∙ e))) at text-is)
+  text-refused h = rw (ne-eqb (numberOf answer) 0 h) at text-is
 
   -- an accepted filing
-  pub text-accepted : (number : ℕ) → number ≡ numberOf answer → number ≡ 0 → linesIn after 540 ≡ listingText s
+  pub text-accepted : numberOf answer ≡ 0 → linesIn after 540 ≡ listingText s
   unfolding verdictText verdictOf listAfter
-  text-accepted number n h =
-      let zero : numberOf answer ≡ 0 = sym n ∙ h in
+  text-accepted zero =
       let e : verdictOn s before .number ≡ 0 = ap (λ (v : Verdict). v .number) (sym (valued .answer-is)) ∙ zero in
       rw (valued .list-is, eq-eqb (verdictOn s before .number) 0 e, lines-are) (rw (eq-eqb (numberOf answer) 0 zero) at text-is)

@@ -1,8 +1,7 @@
 // The text that the listing prints of a filing.
+use answer_lines::append_refused;
 use answers::number;
-use locations::location;
 use text::append_too_long;
-use text_lines::append_refusal;
 use total_lines::append_scenarios;
 use valuation::value;
 ghost use lib.ListN.{take};
@@ -32,9 +31,8 @@ pub fn write_listing(filing: &[u8], out: &mut [u8; 623]) -> usize
     }
     let mut numbers = [0u64; 568];
     let answer = value(filing, &mut numbers);
-    let refused = number(answer);
-    if refused != 0 {
-        return append_refusal(out, 0, refused, location(answer) as u64);
+    if number(answer) != 0 {
+        return append_refused(out, answer);
     }
     append_scenarios(out, 0, &numbers, 540)
 }

@@ -1,10 +1,6 @@
 -- `append_answer` meets its contract. Assumes nothing.
-use Prim.Native.Nat.{_≤_}
 use native.Mathlib.Omega.{arith}
-use mathlib.Core.Path.{sym}
-use lib.ListN.{length}
-use Rattle.text.specs.Lines.{refusalLine}
-use Rattle.text.proofs.LineLaws.{refusal-short}
+use mathlib.Core.Path.{sym, _∙_}
 use Rattle.book_lines.proofs.LineLaws.{answer-taken, answer-refused}
 use borrow.Author.Needs.{needs}
 use Rattle.book_lines.proofs.append_answer.Statement.{statement}
@@ -22,32 +18,24 @@ same-length c = search needs
 returns : tie.Need-returns
 returns c =
     let t = c .before .before .before .before in
-    let a = t .before .before .before .before .args in
-    let text = answer-taken (a .accepted .now) (a .answer) _ (t .before .number .ensures) (t .if1 .taken) in
+    let s = t .before .before .before .before in
+    let text = answer-taken (s .args .accepted .now) (s .args .answer) (sym (t .before .number .ensures) ∙ t .if1 .taken) in
     let line = c .before .before .append .ensures in
-    (rw (sym text) line, omega (arith, line .end-is, t .before .before .before .before .pre))
+    (rw (sym text) line, omega (arith, line .end-is, s .pre))
 
-location-requires : tie.Need-location-requires
-location-requires c κs = search needs
-
--- a refusal has 50 bytes at most
-short : (c : tie.After-location) → length (refusalLine (c .before .before .before .number .result) (c .location .result)) ≤ 50
-short c = refusal-short (c .before .before .before .number .result) (c .location .result) (omega arith) (omega arith)
-
-append-refusal-requires : tie.Need-append-refusal-requires
-append-refusal-requires c κs = omega (arith, short c, c .before .before .before .before .before .before .pre)
+append-refused-requires : tie.Need-append-refused-requires
+append-refused-requires c κs = search needs
 
 same-length-2 : tie.Need-same-length-2
 same-length-2 c = search needs
 
 returns-2 : tie.Need-returns-2
 returns-2 c =
-    let p = c .before .before .before in
-    let n = p .before .before .before in
-    let a = n .before .before .before .args in
-    let text = answer-refused (a .accepted .now) (a .answer) _ (n .number .ensures) _ (p .location .ensures) (p .before .before .if1 .left) in
-    let line = c .before .before .append-refusal .ensures in
-    (rw (sym text) line, omega (arith, line .end-is, short p))
+    let t = c .before .before .before .before in
+    let s = t .before .before .before .before in
+    let text = answer-refused (s .args .accepted .now) (s .args .answer) (λ e. t .if1 .left (t .before .number .ensures ∙ e)) in
+    let line = c .before .before .append-refused .ensures in
+    (rw (sym text) (line .0), line .1)
 
 pub append-answer-spec : {M : Type 1} → statement M
 append-answer-spec =
@@ -57,7 +45,6 @@ append-answer-spec =
     append-requires
     same-length
     returns
-    location-requires
-    append-refusal-requires
+    append-refused-requires
     same-length-2
     returns-2)

@@ -2,7 +2,6 @@
 use native.Mathlib.Omega.{arith}
 use mathlib.Core.Path.{refl}
 use Rattle.text.specs.Lines.{tooLong}
-use Rattle.book_lines.specs.BookLines.{openedLine}
 use Rattle.book_text.proofs.OpenLaws.{opened-long, opened-short}
 use borrow.Author.Needs.{needs}
 use Rattle.book_text.proofs.open_book.Statement.{statement}
@@ -21,23 +20,19 @@ returns c =
     let o = t .before .before in
     opened-long _ (o .open .result) (o .open .ensures) _ _ _ refl (t .if1 .taken) refl (omega arith) (c .append-too-long .ensures)
 
-slice-aggregate-append-answer : tie.Need-slice-aggregate-append-answer
-slice-aggregate-append-answer c = search needs
-
-append-answer-requires : tie.Need-append-answer-requires
-append-answer-requires c κs = search needs
+append-opened-requires : tie.Need-append-opened-requires
+append-opened-requires c κs = search needs
 
 number-requires : tie.Need-number-requires
 number-requires c κs = search needs
 
 returns-2 : tie.Need-returns-2
-unfolding openedLine
 returns-2 c =
     let l = c .before in
-    let t = l .before .before .before in
+    let t = l .before .before in
     let o = t .before .before in
     opened-short _ (o .open .result) (o .open .ensures) _ _ _ refl (c .number .result) (t .if1 .left) (c .number .ensures) refl
-    (l .append-answer .ensures .0) (omega (arith, l .append-answer .ensures .1))
+    (l .append-opened .ensures .0) (omega (arith, l .append-opened .ensures .1))
 
 pub open-book-spec : {M : Type 1} → statement M
 open-book-spec =
@@ -46,7 +41,6 @@ open-book-spec =
     open-requires
     append-too-long-requires
     returns
-    slice-aggregate-append-answer
-    append-answer-requires
+    append-opened-requires
     number-requires
     returns-2)

@@ -1,10 +1,6 @@
 -- `append_answer` meets its contract: the line of the refusal, or the lines of the cells. Assumes nothing.
-use Prim.Native.Nat.{_≤_}
 use native.Mathlib.Omega.{arith}
-use mathlib.Core.Path.{sym}
-use lib.ListN.{length}
-use Rattle.text.specs.Lines.{refusalLine}
-use Rattle.text.proofs.LineLaws.{refusal-short}
+use mathlib.Core.Path.{sym, _∙_}
 use Rattle.certificates_text.proofs.PrintingLaws.{answer-refused, answer-accepted, answer-count, answer-long}
 use borrow.Author.Needs.{needs}
 use Rattle.certificates_text.proofs.append_answer.Statement.{statement}
@@ -16,25 +12,19 @@ to-cells-requires c κs = search needs
 number-requires : tie.Need-number-requires
 number-requires c κs = search needs
 
-location-requires : tie.Need-location-requires
-location-requires c κs = search needs
-
-short : (c : tie.After-location) → length (refusalLine (c .before .before .before .number .result) (c .location .result)) ≤ 50
-short c = refusal-short (c .before .before .before .number .result) (c .location .result) (omega arith) (omega arith)
-
-append-refusal-requires : tie.Need-append-refusal-requires
-append-refusal-requires c κs = omega (arith, short c, c .before .before .before .before .before .before .before .pre)
+append-refused-requires : tie.Need-append-refused-requires
+append-refused-requires c κs = search needs
 
 same-length : tie.Need-same-length
 same-length c = search needs
 
 returns : tie.Need-returns
 returns c =
-    let p = c .before .before .before in
-    let n = p .before .before .before in
-    let text = answer-refused _ _ _ (n .before .to-cells .ensures) _ _ (n .number .ensures) (p .location .ensures) (p .before .before .if1 .taken) in
-    let line = c .before .before .append-refusal .ensures in
-    (rw (sym text) line, omega (arith, line .end-is, short p))
+    let t = c .before .before .before .before in
+    let n = t .before in
+    let text = answer-refused _ _ _ (n .before .to-cells .ensures) (λ e. t .if1 .taken (n .number .ensures ∙ e)) in
+    let line = c .before .before .append-refused .ensures in
+    (rw (sym text) (line .0), omega (arith, line .1))
 
 append-cells-requires : tie.Need-append-cells-requires
 append-cells-requires c κs =
@@ -47,7 +37,7 @@ same-length-2 c = search needs
 returns-2 : tie.Need-returns-2
 returns-2 c =
     let n = c .before .before .before .before .before in
-    let text = answer-accepted _ _ _ (n .before .to-cells .ensures) _ (n .number .ensures) (c .before .before .before .before .if1 .left) in
+    let text = answer-accepted _ _ _ (n .before .to-cells .ensures) (sym (n .number .ensures) ∙ c .before .before .before .before .if1 .left) in
     let lines = c .before .before .append-cells .ensures in
     (rw (sym text) (lines .0), lines .1)
 
@@ -57,8 +47,7 @@ append-answer-spec =
     (tie.spec
     to-cells-requires
     number-requires
-    location-requires
-    append-refusal-requires
+    append-refused-requires
     same-length
     returns
     append-cells-requires

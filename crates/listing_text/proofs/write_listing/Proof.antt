@@ -1,10 +1,7 @@
 -- `listing_text::write_listing` meets its contract. Assumes nothing.
-use Prim.Native.Nat.{_≤_}
-use mathlib.Core.Path.{sym}
+use mathlib.Core.Path.{sym, _∙_}
 use native.Mathlib.Omega.{arith}
-use lib.ListN.{length}
-use Rattle.text.specs.Lines.{refusalLine, tooLong}
-use Rattle.text.proofs.LineLaws.{refusal-short}
+use Rattle.text.specs.Lines.{tooLong}
 use Rattle.text.proofs.AppendLaws.{in-front}
 use Rattle.listing_text.proofs.ListingLaws.{text-too-long, text-refused, text-accepted}
 use borrow.Author.Needs.{needs}
@@ -29,24 +26,17 @@ value-requires c κs = search needs
 number-requires : tie.Need-number-requires
 number-requires c κs = search needs
 
-location-requires : tie.Need-location-requires
-location-requires c κs = search needs
-
-short : (c : tie.After-location) → length (refusalLine (c .before .before .before .number .result) (c .location .result)) ≤ 50
-short c = refusal-short (c .before .before .before .number .result) (c .location .result) (omega arith) (omega arith)
-
-append-refusal-requires : tie.Need-append-refusal-requires
-append-refusal-requires c κs = omega (arith, short c)
+append-refused-requires : tie.Need-append-refused-requires
+append-refused-requires c κs = search needs
 
 returns-2 : tie.Need-returns-2
 returns-2 c =
-    let p = c .before in
-    let n = c .before .before .before .before in
+    let t = c .before .before in
+    let n = t .before in
     let v = n .before .before in
     let s = v .before .before .before .before .args .filing .now in
-    let refusal =
-    text-refused s _ _ _ (omega arith) (omega arith) (v .value .ensures) _ _ (n .number .ensures) (p .location .ensures) (c .before .before .before .if2 .taken) in
-    rw (sym refusal) (in-front _ _ _ _ (omega (arith, short p)) (c .append-refusal .ensures))
+    let refusal = text-refused s _ _ _ (omega arith) (omega arith) (v .value .ensures) (λ e. t .if2 .taken (n .number .ensures ∙ e)) in
+    rw (sym refusal) (in-front _ _ _ _ (omega (arith, c .append-refused .ensures .1)) (c .append-refused .ensures .0))
 
 slice-aggregate-append-scenarios : tie.Need-slice-aggregate-append-scenarios
 slice-aggregate-append-scenarios c = search needs
@@ -59,7 +49,7 @@ returns-3 c =
     let n = c .before .before .before .before in
     let v = n .before .before in
     let s = v .before .before .before .before .args .filing .now in
-    let lines = text-accepted s _ _ _ (omega arith) (omega arith) (v .value .ensures) _ (n .number .ensures) (omega arith) in
+    let lines = text-accepted s _ _ _ (omega arith) (omega arith) (v .value .ensures) (sym (n .number .ensures) ∙ c .before .before .before .if2 .left) in
     rw (sym lines) (in-front _ _ _ _ (omega (arith, c .append-scenarios .ensures .0 .end-is)) (c .append-scenarios .ensures .0))
 
 pub write-listing-spec : {M : Type 1} → statement M
@@ -71,8 +61,7 @@ write-listing-spec =
     slice-aggregate-value
     value-requires
     number-requires
-    location-requires
-    append-refusal-requires
+    append-refused-requires
     returns-2
     slice-aggregate-append-scenarios
     append-scenarios-requires

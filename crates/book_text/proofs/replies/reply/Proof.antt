@@ -1,7 +1,5 @@
 -- `reply` meets its contract. Assumes nothing.
-use native.Mathlib.Omega.{arith}
 use mathlib.Core.Path.{refl}
-use Rattle.text.specs.Lines.{unreadableWord}
 use Rattle.book_text.specs.Replies.{totalsText}
 use Rattle.book_text.proofs.ObeyLaws.{set-changes, clear-changes, place-leaves, totals-leaves, unreadable-leaves, obeyed-change, obeyed-same}
 use borrow.Author.Needs.{needs}
@@ -41,11 +39,8 @@ append-totals-requires c κs = search needs
 enum-told-2 : tie.Need-enum-told-2
 enum-told-2 c = search needs
 
-slice-aggregate-append : tie.Need-slice-aggregate-append
-slice-aggregate-append c = search needs
-
-append-requires : tie.Need-append-requires
-append-requires c κs = search needs
+append-unreadable-requires : tie.Need-append-unreadable-requires
+append-unreadable-requires c κs = search needs
 
 same-length : tie.Need-same-length
 same-length c = search needs
@@ -98,14 +93,12 @@ same-length-5 : tie.Need-same-length-5
 same-length-5 c = search needs
 
 returns-5 : tie.Need-returns-5
-unfolding unreadableWord
 returns-5 c =
     let l = c .before .before in
-    let k = l .before .before .before in
+    let k = l .before .before in
     let s = k .before .before .before in
-    let line = l .append .ensures in
     obeyed-same (s .args .book) (s .args .command) _ _ _ (s .pre) _ (unreadable-leaves (s .args .book) (s .args .command) (k .enum-told2 .given .1)) refl
-    line (omega (arith, line .end-is))
+    (l .append-unreadable .ensures .0) (search needs)
 
 pub reply-spec : {M : Type 1} → statement M
 reply-spec =
@@ -122,8 +115,7 @@ reply-spec =
     enum-told
     append-totals-requires
     enum-told-2
-    slice-aggregate-append
-    append-requires
+    append-unreadable-requires
     same-length
     returns
     same-length-2

@@ -1,23 +1,18 @@
 -- `reply_change` meets its contract. Assumes nothing.
 use mathlib.Core.Path.{refl}
-use Rattle.book_lines.specs.BookLines.{okLine}
 use borrow.Author.Needs.{needs}
 use Rattle.book_text.proofs.replies.reply_change.Statement.{statement}
 use Rattle.book_text.proofs.replies.reply_change.Tie as tie
 
-slice-aggregate-append-answer : tie.Need-slice-aggregate-append-answer
-slice-aggregate-append-answer c = search needs
-
-append-answer-requires : tie.Need-append-answer-requires
-append-answer-requires c κs = search needs
+append-change-requires : tie.Need-append-change-requires
+append-change-requires c κs = search needs
 
 same-length : tie.Need-same-length
 same-length c = search needs
 
 returns : tie.Need-returns
-unfolding okLine
-returns c = (refl, c .before .before .append-answer .ensures)
+returns c = (refl, c .before .before .append-change .ensures)
 
 pub reply-change-spec : {M : Type 1} → statement M
 reply-change-spec =
-    tie.close (tie.spec slice-aggregate-append-answer append-answer-requires same-length returns)
+    tie.close (tie.spec append-change-requires same-length returns)
