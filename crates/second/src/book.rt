@@ -4,15 +4,15 @@ use crate::figures::print_part;
 use crate::figures::print_totals;
 use crate::lines::print_answer;
 use crate::lines::print_line;
-use second_valuation::arith::add;
-use second_valuation::arith::chosen;
+use second_numbers::arith::add;
+use second_numbers::arith::chosen;
+use second_numbers::bytes::number;
 use second_valuation::book::ACTION;
 use second_valuation::book::PLACE;
 use second_valuation::book::balance_total;
 use second_valuation::book::field;
 use second_valuation::book::held;
 use second_valuation::book::is_refused;
-use second_valuation::bytes::number;
 use second_valuation::refusals::refusal_of;
 
 // Opens the book of an input and keeps it; nothing for an input that is cut short.

@@ -7,8 +7,8 @@ use crate::filings::print_list;
 use crate::filings::print_listing;
 use crate::lines::print_line;
 use crate::searches::print_search;
-use second_valuation::arith::chosen;
-use second_valuation::bytes::number;
+use second_numbers::arith::chosen;
+use second_numbers::bytes::number;
 
 // Call 0 values and splits a filing; call 1 prints its listing; call 2 searches a tier; call 3 makes
 // cells of certificates; call 4 keeps a book. The head has the call's number, the length of its list

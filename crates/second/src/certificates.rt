@@ -2,10 +2,10 @@
 use crate::lines::print_answer;
 use crate::lines::print_line;
 use crate::lines::print_pair;
-use second_valuation::arith::LARGEST;
-use second_valuation::certificates::cell_count;
-use second_valuation::certificates::cell_value;
-use second_valuation::certificates::sums_of;
+use second_certificates::cell_count;
+use second_certificates::cell_value;
+use second_certificates::sums_of;
+use second_numbers::arith::LARGEST;
 
 // The answer, and the cells with their values; none on a refusal.
 pub fn print_certificates(s: &[u8]) {

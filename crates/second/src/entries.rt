@@ -3,7 +3,7 @@
 use crate::calls::print_call;
 use crate::lines::print_line;
 use libc::STDIN_FILENO;
-use second_valuation::bytes::number;
+use second_numbers::bytes::number;
 
 // Prints entry i; false where there is none.
 pub fn print_entry(survivals: &[u64], i: u64) -> bool {

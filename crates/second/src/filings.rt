@@ -7,8 +7,8 @@ use crate::lines::print_answer;
 use crate::lines::print_last;
 use crate::lines::print_number;
 use crate::lines::print_pair;
-use second_valuation::arith::chosen;
-use second_valuation::arith::sub;
+use second_numbers::arith::chosen;
+use second_numbers::arith::sub;
 use second_valuation::refusals::refusal_of;
 use second_valuation::shares::sub_balance;
 

@@ -9,7 +9,7 @@ mod filings;
 mod lines;
 mod searches;
 
-use second_valuation::arith::LARGEST;
+use second_numbers::arith::LARGEST;
 
 // Prints what each entry's call answers.
 fn main() {

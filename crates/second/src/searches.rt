@@ -4,8 +4,8 @@ use crate::lines::print;
 use crate::lines::print_answer;
 use crate::lines::print_last;
 use crate::lines::print_number;
-use second_valuation::bytes::number;
-use second_valuation::cells::entry;
+use second_numbers::bytes::number;
+use second_numbers::cells::entry;
 use second_valuation::refusals::refusal_of;
 use second_valuation::withdrawals::reached_tier;
 

@@ -2,16 +2,16 @@
 // the last change of it that was not refused says. A call has six numbers of 8 bytes: 0 to set a
 // place, 1 to clear it, 2 to show it, 3 for the totals; the place; and for a place to set its balance,
 // coupon, months and penalty.
-use crate::arith::LARGEST;
-use crate::arith::add;
-use crate::arith::chosen;
-use crate::arith::mul;
-use crate::bytes::number;
-use crate::cells::COLUMN;
-use crate::cells::is_within;
-use crate::cells::known;
 use crate::shares::SubBalance;
 use crate::shares::sub_balance;
+use second_numbers::arith::LARGEST;
+use second_numbers::arith::add;
+use second_numbers::arith::chosen;
+use second_numbers::arith::mul;
+use second_numbers::bytes::number;
+use second_numbers::cells::COLUMN;
+use second_numbers::cells::is_within;
+use second_numbers::cells::known;
 
 pub const SET: u64 = 0;
 

@@ -1,10 +1,5 @@
 // The price of a sub-balance in parts of 10^9, and its value in dollars. Each line of the monthly
 // run is rounded once, down for the lower figure and up for the upper one.
-use crate::arith::add;
-use crate::arith::chosen;
-use crate::arith::mul;
-use crate::arith::scaled;
-use crate::arith::sub;
 use crate::book::held;
 use crate::records::YIELDS;
 use crate::records::retail_rate;
@@ -12,6 +7,11 @@ use crate::records::sheet_number;
 use crate::shares::SubBalance;
 use crate::withdrawals::WHOLE;
 use crate::withdrawals::month_survival;
+use second_numbers::arith::add;
+use second_numbers::arith::chosen;
+use second_numbers::arith::mul;
+use second_numbers::arith::scaled;
+use second_numbers::arith::sub;
 
 // The sum of the values of the places from `from` to `to`, as they are held after the first `count`
 // calls, in a scenario.

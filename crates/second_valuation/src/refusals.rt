@@ -1,14 +1,4 @@
 // Why a filing is refused: the number of the refusal and its place. Number 0 is none.
-use crate::arith::add;
-use crate::arith::chosen;
-use crate::bytes::number;
-use crate::cells::BALANCE;
-use crate::cells::MOST_COUPON;
-use crate::cells::TOTAL;
-use crate::cells::WARM;
-use crate::cells::is_within;
-use crate::cells::known;
-use crate::cells::limit;
 use crate::records::CELL;
 use crate::records::FINE;
 use crate::records::PATH;
@@ -21,6 +11,16 @@ use crate::records::next;
 use crate::records::sheet;
 use crate::records::value;
 use crate::tiers::are_disordered;
+use second_numbers::arith::add;
+use second_numbers::arith::chosen;
+use second_numbers::bytes::number;
+use second_numbers::cells::BALANCE;
+use second_numbers::cells::MOST_COUPON;
+use second_numbers::cells::TOTAL;
+use second_numbers::cells::WARM;
+use second_numbers::cells::is_within;
+use second_numbers::cells::known;
+use second_numbers::cells::limit;
 
 pub struct Refusal {
     pub number: u64,

@@ -1,16 +1,16 @@
 // The thirty-six sub-balances of a filing: nine cells ascending, each as retail with penalty, retail
 // without, brokered with, brokered without.
-use crate::arith::add;
-use crate::arith::chosen;
-use crate::arith::scaled;
-use crate::arith::sub;
-use crate::cells::COLUMN;
-use crate::cells::WAC;
-use crate::cells::WARM;
-use crate::cells::known;
 use crate::records::column_sum;
 use crate::records::coupon;
 use crate::records::value;
+use second_numbers::arith::add;
+use second_numbers::arith::chosen;
+use second_numbers::arith::scaled;
+use second_numbers::arith::sub;
+use second_numbers::cells::COLUMN;
+use second_numbers::cells::WAC;
+use second_numbers::cells::WARM;
+use second_numbers::cells::known;
 
 // The amounts of columns 1 to 3 stand in the three cells after these: brokered balances, balances
 // subject to penalty, and penalty months.

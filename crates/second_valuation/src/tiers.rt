@@ -1,11 +1,11 @@
 // The tiers of annual withdrawals, lowest edge first: those of the filing's record of kind 4, or the
 // house's where it has none. The record has the number of its tiers after the kind, and each tier's
 // edge in hundredths and annual withdrawal in thousandths.
-use crate::arith::add;
-use crate::arith::chosen;
-use crate::arith::sub;
-use crate::bytes::number;
-use crate::cells::entry;
+use second_numbers::arith::add;
+use second_numbers::arith::chosen;
+use second_numbers::arith::sub;
+use second_numbers::bytes::number;
+use second_numbers::cells::entry;
 
 // What a tier has, by where the first tier of a record has it.
 pub const EDGE: u64 = 6;

@@ -1,18 +1,18 @@
 // How much of a balance stays on in a month that is not the last, from the gain of withdrawing and
 // its cost, n months before maturity. Coupon c in thousandths, penalty p and shifted retail rate r as
 // in the filing. What the gain takes off stands apart, so that no figure is negative.
-use crate::arith::add;
-use crate::arith::chosen;
-use crate::arith::mul;
-use crate::arith::sub;
-use crate::bytes::number;
-use crate::cells::entry;
 use crate::records::TIERS;
 use crate::records::sheet;
 use crate::shares::SubBalance;
 use crate::tiers::EDGE;
 use crate::tiers::WITHDRAWAL;
 use crate::tiers::tier_number;
+use second_numbers::arith::add;
+use second_numbers::arith::chosen;
+use second_numbers::arith::mul;
+use second_numbers::arith::sub;
+use second_numbers::bytes::number;
+use second_numbers::cells::entry;
 
 pub const WHOLE: u64 = 1000000000;
 

@@ -1,11 +1,11 @@
 // Days of the Gregorian calendar, and months between them. A month is counted through the years,
 // year × 12 + 1 to 12, and a day is the number month × 32 + day.
-use crate::arith::add;
-use crate::arith::chosen;
-use crate::arith::mul;
-use crate::arith::sub;
-use crate::bytes::number;
-use crate::cells::entry;
+use second_numbers::arith::add;
+use second_numbers::arith::chosen;
+use second_numbers::arith::mul;
+use second_numbers::arith::sub;
+use second_numbers::bytes::number;
+use second_numbers::cells::entry;
 
 // The last days of months 1 to 12 of a year that is not a leap year.
 const LAST_DAYS: [u64; 13] = [0, 31, 28, 31, 30, 31, 30, 31, 31, 30, 31, 30, 31];

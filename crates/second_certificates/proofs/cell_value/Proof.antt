@@ -1,8 +1,8 @@
--- `second_valuation::certificates::cell_value` is safe and ends: the loop counts its turns. Assumes nothing.
+-- `second_certificates::cell_value` is safe and ends: the loop counts its turns. Assumes nothing.
 use borrow.Author.Needs.{needs}
 use Prim.Native.Nat.{_-_}
-use Rattle.second_valuation.proofs.certificates.cell_value.Statement.{statement}
-use Rattle.second_valuation.proofs.certificates.cell_value.Tie as tie
+use Rattle.second_certificates.proofs.cell_value.Statement.{statement}
+use Rattle.second_certificates.proofs.cell_value.Tie as tie
 
 abbrev Inv-loop : tie.InvT-loop
 Inv-loop sums cell value₀ i₀ value i = Unit {0}

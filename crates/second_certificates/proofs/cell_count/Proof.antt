@@ -1,8 +1,8 @@
--- `second_valuation::certificates::cell_count` is safe and ends: the loop counts its turns. Assumes nothing.
+-- `second_certificates::cell_count` is safe and ends: the loop counts its turns. Assumes nothing.
 use borrow.Author.Needs.{needs}
 use Prim.Native.Nat.{_-_}
-use Rattle.second_valuation.proofs.certificates.cell_count.Statement.{statement}
-use Rattle.second_valuation.proofs.certificates.cell_count.Tie as tie
+use Rattle.second_certificates.proofs.cell_count.Statement.{statement}
+use Rattle.second_certificates.proofs.cell_count.Tie as tie
 
 abbrev Inv-loop : tie.InvT-loop
 Inv-loop sums count₀ k₀ count k = Unit {0}

@@ -30,15 +30,15 @@ const NINE: [[u64; 9]; 6] = [
 // The cell of the total.
 pub const TOTAL: u64 = 645;
 
-pub(crate) const MOST_COUPON: u64 = 1500;
+pub const MOST_COUPON: u64 = 1500;
 
 // What is known of the k-th of the nine, from 0 on; past the last it begins anew.
-pub(crate) fn known(k: u64, what: u64) -> u64 {
+pub fn known(k: u64, what: u64) -> u64 {
     NINE[what as usize % 6][k as usize % 9]
 }
 
 // Whether a WARM is within the row of the k-th cell.
-pub(crate) fn is_within(k: u64, months: u64) -> bool {
+pub fn is_within(k: u64, months: u64) -> bool {
     (known(k, FIRST_MONTH) <= months) & (months <= known(k, LAST_MONTH))
 }
 
@@ -51,7 +51,7 @@ pub fn entry(table: &[u64], k: u64) -> u64 {
 // The largest value that a filing may have in a cell; 0 for a cell that it may not have. Cells 601
 // to 661 hold a balance, a coupon (WAC), months (WARM), the total, a brokered or penalty share of a
 // column, a penalty, or any value; the others are -.
-pub(crate) fn limit(cell: u64) -> u64 {
+pub fn limit(cell: u64) -> u64 {
     let classes = b"-BBBXCCCMMM----BBBXCCCMMM------BBXCCMM---BXCMT----SSSSSSPPPXXX";
     match letter(classes, sub(cell, 600)) {
         b'B' => 999999999,

@@ -5,7 +5,7 @@
 pub const LARGEST: u64 = 18446744073709551615;
 
 // a × b / d, rounded down, or up where `up` says so.
-pub(crate) fn scaled(a: u64, b: u64, d: u64, up: bool) -> u64 {
+pub fn scaled(a: u64, b: u64, d: u64, up: bool) -> u64 {
     let more = chosen(up, sub(d, 1), 0);
     let n = add(mul(a, b), more);
     if d == 0 { 0 } else { n / d }

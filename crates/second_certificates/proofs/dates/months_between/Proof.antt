@@ -1,8 +1,8 @@
--- `second_valuation::dates::months_between` is safe and ends: the loop counts its turns. Assumes nothing.
+-- `second_certificates::dates::months_between` is safe and ends: the loop counts its turns. Assumes nothing.
 use borrow.Author.Needs.{needs}
 use Prim.Native.Nat.{_-_}
-use Rattle.second_valuation.proofs.dates.months_between.Statement.{statement}
-use Rattle.second_valuation.proofs.dates.months_between.Tie as tie
+use Rattle.second_certificates.proofs.dates.months_between.Statement.{statement}
+use Rattle.second_certificates.proofs.dates.months_between.Tie as tie
 
 abbrev Inv-loop : tie.InvT-loop
 Inv-loop from to months₀ months = Unit {0}

@@ -1,18 +1,20 @@
-// The cells that certificates make. The input has numbers of 8 bytes: year, month and day of the
-// valuation date; then, for each certificate, those of its issue and of its maturity, its balance and
-// its coupon.
-use crate::arith::LARGEST;
-use crate::arith::add;
-use crate::arith::chosen;
-use crate::arith::mul;
-use crate::arith::scaled;
-use crate::arith::sub;
-use crate::bytes::number;
-use crate::cells::TOTAL;
-use crate::cells::entry;
-use crate::cells::known;
+// Of the second valuation, which shares nothing with the library's crates: the cells that certificates
+// make. The input has numbers of 8 bytes: year, month and day of the valuation date; then, for each
+// certificate, those of its issue and of its maturity, its balance and its coupon.
+mod dates;
+
 use crate::dates::date;
 use crate::dates::months_between;
+use second_numbers::arith::LARGEST;
+use second_numbers::arith::add;
+use second_numbers::arith::chosen;
+use second_numbers::arith::mul;
+use second_numbers::arith::scaled;
+use second_numbers::arith::sub;
+use second_numbers::bytes::number;
+use second_numbers::cells::TOTAL;
+use second_numbers::cells::entry;
+use second_numbers::cells::known;
 
 // The refusal's number and place, number 0 where there is none; and the sums of the certificates:
 // four places for each of the nine cells, of which three are used, the balance and the sums of

@@ -1,8 +1,8 @@
--- `second_valuation::certificates::sums_of` is safe and ends: the loop counts its turns. Assumes nothing.
+-- `second_certificates::sums_of` is safe and ends: the loop counts its turns. Assumes nothing.
 use borrow.Author.Needs.{needs}
 use Prim.Native.Nat.{_-_}
-use Rattle.second_valuation.proofs.certificates.sums_of.Statement.{statement}
-use Rattle.second_valuation.proofs.certificates.sums_of.Tie as tie
+use Rattle.second_certificates.proofs.sums_of.Statement.{statement}
+use Rattle.second_certificates.proofs.sums_of.Tie as tie
 
 abbrev Inv-loop : tie.InvT-loop
 Inv-loop s count sums₀ k₀ sums k = Unit {0}

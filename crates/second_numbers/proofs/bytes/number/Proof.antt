@@ -1,8 +1,8 @@
--- `second_valuation::bytes::number` is safe and ends: the loop counts its turns. Assumes nothing.
+-- `second_numbers::bytes::number` is safe and ends: the loop counts its turns. Assumes nothing.
 use borrow.Author.Needs.{needs}
 use Prim.Native.Nat.{_-_}
-use Rattle.second_valuation.proofs.bytes.number.Statement.{statement}
-use Rattle.second_valuation.proofs.bytes.number.Tie as tie
+use Rattle.second_numbers.proofs.bytes.number.Statement.{statement}
+use Rattle.second_numbers.proofs.bytes.number.Tie as tie
 
 abbrev Inv-loop : tie.InvT-loop
 Inv-loop s at offset size end n₀ k₀ n k = Unit {0}

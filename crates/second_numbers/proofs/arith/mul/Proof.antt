@@ -1,9 +1,9 @@
--- `second_valuation::arith::mul` is safe: a ≤ LARGEST / b says that a × b ≤ LARGEST. Assumes nothing.
+-- `second_numbers::arith::mul` is safe: a ≤ LARGEST / b says that a × b ≤ LARGEST. Assumes nothing.
 use borrow.Author.Needs.{needs}
 use native.Mathlib.Omega.{arith}
 use native.Mathlib.Nat.{le-div-iff-mul-le, pos-of-ne-zero}
-use Rattle.second_valuation.proofs.arith.mul.Statement.{statement}
-use Rattle.second_valuation.proofs.arith.mul.Tie as tie
+use Rattle.second_numbers.proofs.arith.mul.Statement.{statement}
+use Rattle.second_numbers.proofs.arith.mul.Tie as tie
 
 returns : tie.Need-returns
 returns c = tt
