@@ -1,4 +1,4 @@
--- `discounts::fill_factors` meets its contract: the months passed are written. Assumes nothing.
+-- `discount_factors::fill_factors` meets its contract: the months passed are written. Assumes nothing.
 use Prim.Native.Nat.{ℕ, _+_, _*_, _-_, _≤_, _<_}
 use mathlib.Core.List.{List, []}
 use mathlib.Core.Path.{_≡_, _∙_}
@@ -8,10 +8,10 @@ use Rattle.lists.specs.Runs.{written}
 use Rattle.lists.specs.Tables.{tableFrom, table, joined}
 use Rattle.lists.proofs.RunLaws.{Overwritten, overwritten-none, overwritten-row, overwritten-all}
 use Rattle.pricing.specs.Rounding.{Rounding, down, up}
-use Rattle.discounts.specs.Inner.Factors.{yieldFactors, monthFactors, factorsBy}
-use Rattle.discounts.proofs.FactorLaws.{month-length, month-within, factors-left}
-use Rattle.discounts.proofs.fill_factors.Statement.{statement}
-use Rattle.discounts.proofs.fill_factors.Tie as tie
+use Rattle.discount_factors.specs.Inner.Factors.{yieldFactors, monthFactors, factorsBy}
+use Rattle.discount_factors.proofs.FactorLaws.{month-length, month-within, factors-left}
+use Rattle.discount_factors.proofs.fill_factors.Statement.{statement}
+use Rattle.discount_factors.proofs.fill_factors.Tie as tie
 
 -- a table with the factors of some months
 abbrev Written : Rounding → List ℕ → ℕ → ℕ → List ℕ → Type 0

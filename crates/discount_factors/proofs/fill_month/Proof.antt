@@ -1,4 +1,4 @@
--- `discounts::fill_month` meets its contract. Assumes nothing.
+-- `discount_factors::fill_month` meets its contract. Assumes nothing.
 use Prim.Native.Nat.{ℕ, suc, _+_}
 use mathlib.Core.List.{List}
 use mathlib.Core.Path.{_≡_, _∙_}
@@ -11,9 +11,9 @@ use Rattle.schedule.proofs.ShiftLaws.{shifted-rates-le}
 use Rattle.pricing.specs.Rounding.{up}
 use Rattle.pricing.specs.Inner.Multipliers.{multipliersBy, chainedBy, AtMost}
 use Rattle.pricing.proofs.MultiplierLaws.{chained-at-most, upper-chained}
-use Rattle.discounts.specs.Inner.Factors.{yieldFactors}
-use Rattle.discounts.proofs.fill_month.Statement.{statement}
-use Rattle.discounts.proofs.fill_month.Tie as tie
+use Rattle.discount_factors.specs.Inner.Factors.{yieldFactors}
+use Rattle.discount_factors.proofs.fill_month.Statement.{statement}
+use Rattle.discount_factors.proofs.fill_month.Tie as tie
 
 add-n : tie.Need-add-n
 add-n c = search needs

@@ -18,7 +18,7 @@ use Rattle.pricing.specs.Run.{discountFactorBy}
 use Rattle.pricing.specs.Inner.Multipliers.{discountsBy, AtMost}
 use Rattle.pricing.proofs.LimitLaws.{discount-limit}
 use Rattle.pricing.proofs.MultiplierLaws.{discount-pos}
-use Rattle.discounts.specs.Inner.Factors.{sheetYield, yieldFactors, monthFactors, factorsBy, factorIn, AtMostPar}
+use Rattle.discount_factors.specs.Inner.Factors.{sheetYield, yieldFactors, monthFactors, factorsBy, factorIn, AtMostPar}
 
 -- a rate of the seven scenarios
 pub shifted-at : (rate scenario : ℕ) → scenario < 7 → getD (shiftedRates rate) scenario 0 ≡ shiftedRate scenario rate
