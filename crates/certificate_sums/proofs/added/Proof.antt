@@ -4,9 +4,9 @@ use native.Mathlib.Nat.{mul-le-mul-left}
 use native.Mathlib.Omega.{arith}
 use mathlib.Core.Path.{refl}
 use borrow.Author.Needs.{needs}
-use Rattle.certificates.specs.Inner.Totals.{addedAt, totalsWith}
-use Rattle.certificates.proofs.scan.added.Statement.{statement}
-use Rattle.certificates.proofs.scan.added.Tie as tie
+use Rattle.certificate_sums.specs.Inner.Totals.{addedAt, totalsWith}
+use Rattle.certificate_sums.proofs.added.Statement.{statement}
+use Rattle.certificate_sums.proofs.added.Tie as tie
 
 mul-totals : tie.Need-mul-totals
 mul-totals c = search needs

@@ -14,9 +14,9 @@ ghost use lib.ListN.{getD};
 ghost use Rattle.schedule.specs.Limits.{balanceLimit, filedCouponLimit, monthsLimit};
 ghost use Rattle.answers.specs.Answers.{verdictOf};
 ghost use Rattle.certificate_terms.specs.Terms.{certificateCount};
-ghost use Rattle.certificates.specs.Verdict.{eachVerdict};
-ghost use Rattle.certificates.specs.Sums.{totalsOf};
-ghost use Rattle.certificates.specs.Inner.Totals.{totalsWith, summedCount};
+ghost use Rattle.certificate_sums.specs.EachVerdict.{eachVerdict};
+ghost use Rattle.certificate_sums.specs.Sums.{totalsOf};
+ghost use Rattle.certificate_sums.specs.Inner.Totals.{totalsWith, summedCount};
 
 // The answer on the certificates in turn, and the sums of those before the one that is refused, of all where none is.
 pub struct Scanned {
@@ -24,7 +24,7 @@ pub struct Scanned {
     pub totals: Totals,
 }
 
-pub(crate) fn scan(valuation: Date, certificates: &[u64]) -> Scanned
+pub fn scan(valuation: Date, certificates: &[u64]) -> Scanned
     ensures { λ r. ⌜ verdictOf (r .answer) ≡ eachVerdict valuation (now (certificates .entry)) ⌝ }
     ensures { λ r. ⌜ r .totals ≡ totalsOf valuation (now (certificates .entry)) (summedCount (verdictOf (r .answer)) (certificateCount (now (certificates .entry)))) ⌝ }
 {

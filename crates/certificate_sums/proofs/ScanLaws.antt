@@ -18,11 +18,11 @@ use Rattle.certificate_terms.specs.declared.Certificate.{Certificate}
 use Rattle.certificate_terms.specs.Terms.{certificateCount, certificateAt, remainingMonths, positionOf}
 use Rattle.certificate_terms.specs.Faults.{ownVerdict}
 use Rattle.filled_cells.specs.declared.Totals.{Totals}
-use Rattle.certificates.specs.Sums.{positionSum, balanceOf, weightedCoupon, weightedMonths, totalsOf}
-use Rattle.certificates.specs.Verdict.{sumOverLimit, certificateVerdict, eachVerdict}
-use Rattle.certificates.specs.Inner.Totals.{totalsWith, summedCount}
+use Rattle.certificate_sums.specs.Sums.{positionSum, balanceOf, weightedCoupon, weightedMonths, totalsOf}
+use Rattle.certificate_sums.specs.EachVerdict.{sumOverLimit, certificateVerdict, eachVerdict}
+use Rattle.certificate_sums.specs.Inner.Totals.{totalsWith, summedCount}
 use Rattle.certificate_terms.proofs.FaultLaws.{Sound, own-location, own-sound, sound-position}
-use Rattle.certificates.proofs.SumLaws.{Passed, sum-here, balance-sum-le, coupon-sum-le, months-sum-le, totals-suc}
+use Rattle.certificate_sums.proofs.SumLaws.{Passed, sum-here, balance-sum-le, coupon-sum-le, months-sum-le, totals-suc}
 
 module _ (v : Date) (s : List ℕ) where
   -- before certificate k: no certificate is refused, and the sums are those of the certificates before it

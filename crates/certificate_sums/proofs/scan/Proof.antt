@@ -9,9 +9,9 @@ use Rattle.calendar.specs.declared.Date.{Date}
 use Rattle.certificate_terms.specs.Terms.{certificateCount, columnOf, positionFor, positionOf}
 use Rattle.certificate_terms.specs.Faults.{ownVerdict}
 use Rattle.certificate_terms.proofs.FaultLaws.{Sound, remaining-one, remaining-le-original, sound-position}
-use Rattle.certificates.proofs.ScanLaws.{Scanning, scan-start, scan-all, balance-at-le, coupon-at-le, months-at-le, scan-own, own-summed, over-summed, scan-sound, scan-over, scan-next}
-use Rattle.certificates.proofs.scan.scan.Statement.{statement}
-use Rattle.certificates.proofs.scan.scan.Tie as tie
+use Rattle.certificate_sums.proofs.ScanLaws.{Scanning, scan-start, scan-all, balance-at-le, coupon-at-le, months-at-le, scan-own, own-summed, over-summed, scan-sound, scan-over, scan-next}
+use Rattle.certificate_sums.proofs.scan.Statement.{statement}
+use Rattle.certificate_sums.proofs.scan.Tie as tie
 
 abbrev Inv-loop : tie.InvT-loop
 Inv-loop valuation certificates totals₀ k₀ totals k = Scanning valuation certificates k totals

@@ -20,9 +20,9 @@ use Rattle.calendar.specs.declared.Date.{Date}
 use Rattle.certificate_terms.specs.declared.Certificate.{Certificate}
 use Rattle.certificate_terms.specs.Terms.{certificateAt, remainingMonths, positionOf}
 use Rattle.certificate_terms.specs.Faults.{ownVerdict}
-use Rattle.certificates.specs.Sums.{standsAt, positionSum, balanceOf, weightedCoupon, weightedMonths, totalsOf}
-use Rattle.certificates.specs.Verdict.{sumOverLimit, certificateVerdict}
-use Rattle.certificates.specs.Inner.Totals.{addedAt, totalsWith}
+use Rattle.certificate_sums.specs.Sums.{standsAt, positionSum, balanceOf, weightedCoupon, weightedMonths, totalsOf}
+use Rattle.certificate_sums.specs.EachVerdict.{sumOverLimit, certificateVerdict}
+use Rattle.certificate_sums.specs.Inner.Totals.{addedAt, totalsWith}
 use Rattle.certificate_terms.proofs.FaultLaws.{Sound, own-sound}
 
 module _ (v : Date) (s : List ℕ) where
