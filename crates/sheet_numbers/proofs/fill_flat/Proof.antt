@@ -6,10 +6,10 @@ use borrow.Author.Needs.{needs}
 use lib.ListN.{length}
 use Rattle.lists.proofs.TableLaws.{table-length}
 use Rattle.fields.specs.Records.{sheetNumber}
-use Rattle.decode.specs.Contents.{rateCount}
-use Rattle.decode.proofs.ContentsLaws.{flat-filled}
-use Rattle.decode.proofs.fill_flat.Statement.{statement}
-use Rattle.decode.proofs.fill_flat.Tie as tie
+use Rattle.sheet_numbers.specs.Sheets.{rateCount}
+use Rattle.sheet_numbers.proofs.ArrayLaws.{flat-filled}
+use Rattle.sheet_numbers.proofs.fill_flat.Statement.{statement}
+use Rattle.sheet_numbers.proofs.fill_flat.Tie as tie
 
 sheet-number-requires : tie.Need-sheet-number-requires
 sheet-number-requires c κs = search needs

@@ -9,9 +9,9 @@ use borrow.Author.Tests.{lt-ltb, le-ltb}
 use lib.Dec.{ltb}
 use lib.ListN.{getD}
 use Rattle.lists.proofs.FillLaws.{Filled, fill-more, fill-all}
-use Rattle.decode.specs.Contents.{rateCount}
-use Rattle.decode.proofs.fill_from.Statement.{statement}
-use Rattle.decode.proofs.fill_from.Tie as tie
+use Rattle.sheet_numbers.specs.Sheets.{rateCount}
+use Rattle.sheet_numbers.proofs.fill_from.Statement.{statement}
+use Rattle.sheet_numbers.proofs.fill_from.Tie as tie
 
 -- the rate at an index
 abbrev rateAt : List ℕ → ℕ → ℕ → ℕ → ℕ

@@ -8,9 +8,9 @@ use mathlib.Core.Path.{_≡_, refl, sym, ap, _∙_}
 use lib.ListN.{length}
 use Rattle.lists.proofs.FillLaws.{Filled, fill-more}
 use Rattle.fields.specs.Records.{sheetNumber}
-use Rattle.decode.proofs.ContentsLaws.{filled-from}
-use Rattle.decode.proofs.fill_numbers.Statement.{statement}
-use Rattle.decode.proofs.fill_numbers.Tie as tie
+use Rattle.sheet_numbers.proofs.ArrayLaws.{filled-from}
+use Rattle.sheet_numbers.proofs.fill_numbers.Statement.{statement}
+use Rattle.sheet_numbers.proofs.fill_numbers.Tie as tie
 
 abbrev Inv-loop : tie.InvT-loop
 Inv-loop s at numbers₀ within i₀ numbers i = (i ≤ length numbers₀) × Filled (λ (j : ℕ). sheetNumber s at (1 + j)) 0 (length numbers₀) i numbers

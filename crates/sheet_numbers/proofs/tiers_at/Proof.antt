@@ -1,9 +1,9 @@
 -- `tiers_at` meets its contract.
 -- Assumes nothing.
-use Rattle.decode.specs.Contents.{tiersAt}
+use Rattle.sheet_numbers.specs.Sheets.{tiersAt}
 use borrow.Author.Needs.{needs}
-use Rattle.decode.proofs.tiers_at.Statement.{statement}
-use Rattle.decode.proofs.tiers_at.Tie as tie
+use Rattle.sheet_numbers.proofs.tiers_at.Statement.{statement}
+use Rattle.sheet_numbers.proofs.tiers_at.Tie as tie
 
 tier-count-requires : tie.Need-tier-count-requires
 tier-count-requires c κs = search needs

@@ -2,10 +2,10 @@
 -- Assumes nothing.
 use borrow.Author.Tests.{lt-ltb, le-ltb}
 use mathlib.Core.Path.{sym, _∙_}
-use Rattle.decode.specs.Contents.{tierNumber}
+use Rattle.sheet_numbers.specs.Sheets.{tierNumber}
 use borrow.Author.Needs.{needs}
-use Rattle.decode.proofs.tier_number.Statement.{statement}
-use Rattle.decode.proofs.tier_number.Tie as tie
+use Rattle.sheet_numbers.proofs.tier_number.Statement.{statement}
+use Rattle.sheet_numbers.proofs.tier_number.Tie as tie
 
 mul-sheet-number : tie.Need-mul-sheet-number
 mul-sheet-number c = search needs

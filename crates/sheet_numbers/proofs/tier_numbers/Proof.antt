@@ -5,9 +5,9 @@ use native.Mathlib.Omega.{arith}
 use mathlib.Core.Path.{_≡_}
 use Rattle.lists.proofs.FillLaws.{Filled, fill-none, fill-more, fill-all}
 use Rattle.schedule.specs.Limits.{tierLimit}
-use Rattle.decode.specs.Contents.{tierNumber}
-use Rattle.decode.proofs.tier_numbers.Statement.{statement}
-use Rattle.decode.proofs.tier_numbers.Tie as tie
+use Rattle.sheet_numbers.specs.Sheets.{tierNumber}
+use Rattle.sheet_numbers.proofs.tier_numbers.Statement.{statement}
+use Rattle.sheet_numbers.proofs.tier_numbers.Tie as tie
 
 abbrev Inv-loop : tie.InvT-loop
 Inv-loop s at count first numbers₀ i₀ numbers i = (i ≤ tierLimit) × Filled (tierNumber s at count first) 0 tierLimit i numbers
