@@ -2,7 +2,7 @@
 use answers::Answer;
 use contents::FiledTiers;
 use deposits::RatePaths;
-use discounts::FactorTable;
+use discount_factors::FactorTable;
 use kept_totals::moved;
 use kept_totals::totals_after;
 use sub_balances::NO_PLACE;

@@ -18,8 +18,8 @@ use Rattle.contents.specs.declared.FiledTiers.{FiledTiers}
 use Rattle.contents.specs.Valid.{Valid}
 use Rattle.pricing.specs.Scales.{par}
 use Rattle.pricing.specs.Rounding.{down, up}
-use Rattle.discounts.specs.Inner.Factors.{factorsBy, AtMostPar}
-use Rattle.discounts.proofs.FactorLaws.{factors-at-most-par, upper-factor-pos}
+use Rattle.discount_factors.specs.Inner.Factors.{factorsBy, AtMostPar}
+use Rattle.discount_factors.proofs.FactorLaws.{factors-at-most-par, upper-factor-pos}
 use Rattle.filing_tiers.specs.Inner.FiledLimits.{FiledLimits}
 use Rattle.filing_tiers.proofs.FilingTierLaws.{filed-limits}
 use Rattle.place_values.proofs.HeldLaws.{rates-within}

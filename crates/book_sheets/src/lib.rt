@@ -1,7 +1,7 @@
 // The values of a place under the sheets and tiers that a book holds.
 use contents::FiledTiers;
 use deposits::RatePaths;
-use discounts::FactorTable;
+use discount_factors::FactorTable;
 use discounts::to_multipliers;
 use filing_tiers::tiers_of;
 use place_values::place_row::held_values;

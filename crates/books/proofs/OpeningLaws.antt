@@ -19,7 +19,7 @@ use Rattle.filing.specs.Readings.{readContents}
 use Rattle.filing.specs.Verdict.{filingVerdict}
 use Rattle.filing.proofs.ReadingLaws.{reading-accepted}
 use Rattle.pricing.specs.Rounding.{down, up}
-use Rattle.discounts.specs.Inner.Factors.{factorsBy, WithinRates}
+use Rattle.discount_factors.specs.Inner.Factors.{factorsBy, WithinRates}
 use Rattle.place_values.proofs.HeldLaws.{yields-within}
 use Rattle.book_places.specs.declared.Answered.{Answered}
 use Rattle.book_places.specs.BookPlaces.{emptyUnder}

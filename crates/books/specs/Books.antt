@@ -6,7 +6,7 @@ use Rattle.contents.specs.Contents.{Contents}
 use Rattle.filing.specs.Readings.{readContents}
 use Rattle.sub_balances.specs.declared.SubBalance.{SubBalance}
 use Rattle.pricing.specs.Rounding.{down, up}
-use Rattle.discounts.specs.Inner.Factors.{factorsBy}
+use Rattle.discount_factors.specs.Inner.Factors.{factorsBy}
 use Rattle.book_places.specs.declared.Book.{Book}
 use Rattle.book_places.specs.BookPlaces.{emptyUnder}
 use Rattle.book_sheets.specs.Sheets.{valuesUnder}

@@ -23,14 +23,15 @@ use Rattle.filled_cells.specs.declared.Totals.{Totals}
 use Rattle.filled_cells.specs.declared.Cells.{Cells}
 use Rattle.filled_cells.specs.Cells.{cellsOf}
 use Rattle.filled_cells.specs.Inner.Listing.{Bounded, acceptedCells}
-use Rattle.certificates.specs.Sums.{positionSum, balanceOf, weightedCoupon, weightedMonths, totalsOf}
-use Rattle.certificates.specs.Verdict.{countVerdict, certificateVerdict, eachVerdict, certificatesVerdict}
+use Rattle.certificate_sums.specs.Sums.{positionSum, balanceOf, weightedCoupon, weightedMonths, totalsOf}
+use Rattle.certificate_sums.specs.EachVerdict.{certificateVerdict, eachVerdict}
+use Rattle.certificates.specs.Verdict.{countVerdict, certificatesVerdict}
 use Rattle.certificates.specs.Filled.{filledCells}
 use Rattle.certificates.specs.Promise.{Converted}
 use Rattle.certificates.specs.Inner.Answers.{noCells}
 use Rattle.lists.specs.Ranges.{within}
 use Rattle.filled_cells.proofs.ListingLaws.{cells-count}
-use Rattle.certificates.proofs.SumLaws.{Passed, balance-sum-le, coupon-sum-le, months-sum-le}
+use Rattle.certificate_sums.proofs.SumLaws.{Passed, balance-sum-le, coupon-sum-le, months-sum-le}
 
 module _ (v : Date) (s : List ℕ) where
   -- no refusal of the certificates in turn: each passes

@@ -1,3 +1,1 @@
-pub mod SumLaws
-pub mod ScanLaws
 pub mod CallLaws

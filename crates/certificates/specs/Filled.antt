@@ -7,7 +7,7 @@ use Rattle.calendar.specs.declared.Date.{Date}
 use Rattle.certificate_terms.specs.Terms.{certificateCount}
 use Rattle.filled_cells.specs.declared.CellValue.{CellValue}
 use Rattle.filled_cells.specs.Cells.{cellsOf}
-use Rattle.certificates.specs.Sums.{totalsOf}
+use Rattle.certificate_sums.specs.Sums.{totalsOf}
 use Rattle.certificates.specs.Verdict.{certificatesVerdict}
 
 -- the cells of the certificates; a refusal gives none

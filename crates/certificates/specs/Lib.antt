@@ -1,4 +1,3 @@
-pub mod Sums
 pub mod Verdict
 pub mod Filled
 pub mod Promise

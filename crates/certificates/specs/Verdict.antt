@@ -1,32 +1,16 @@
--- The verdict on a list of certificates (02:CR 5): the count, then certificate by certificate its own faults and the sum of its cell. Definitions only.
-use Prim.Native.Nat.{ℕ, suc}
-use mathlib.Core.Bool.{Bool, not}
+-- The verdict on a list of certificates (02:CR 5): the count, then the certificates in turn. Definitions only.
+use Prim.Native.Nat.{ℕ}
+use mathlib.Core.Bool.{not}
 use mathlib.Core.List.{List}
-use lib.Dec.{ltb}
-use Rattle.lists.specs.Tables.{table}
-use Rattle.schedule.specs.Limits.{balanceLimit}
-use Rattle.answers.specs.Verdict.{Verdict, refusedIf, firstRefusal, firstOf}
-use Rattle.calendar.specs.declared.Date.{Date}
-use Rattle.certificate_terms.specs.Terms.{certificateCount, certificateAt, positionOf}
-use Rattle.certificate_terms.specs.Faults.{ownVerdict}
-use Rattle.certificates.specs.Sums.{balanceOf, positionSum}
 use Rattle.lists.specs.Ranges.{within}
+use Rattle.answers.specs.Verdict.{Verdict, refusedIf, firstRefusal}
+use Rattle.calendar.specs.declared.Date.{Date}
+use Rattle.certificate_terms.specs.Terms.{certificateCount}
+use Rattle.certificate_sums.specs.EachVerdict.{eachVerdict}
 
 -- 5, at index 0: the count is outside 1 to 1,000
 unfoldable pub countVerdict : List ℕ → Verdict
 countVerdict s = refusedIf (not (within 1 1000 (certificateCount s))) 5 0
-
--- the balances at certificate k's position, up to and with it, are past the limit of a balance
-unfoldable pub sumOverLimit : Date → List ℕ → ℕ → Bool
-sumOverLimit valuation s k = ltb balanceLimit (positionSum valuation s balanceOf (positionOf valuation (certificateAt s k)) (suc k))
-
--- certificate k: its own faults, then 5 for the sum of its cell
-unfoldable pub certificateVerdict : Date → List ℕ → ℕ → Verdict
-certificateVerdict valuation s k = firstRefusal (ownVerdict valuation k (certificateAt s k)) (refusedIf (sumOverLimit valuation s k) 5 k)
-
--- the certificates in turn
-unfoldable pub eachVerdict : Date → List ℕ → Verdict
-eachVerdict valuation s = firstOf (table (certificateCount s) (certificateVerdict valuation s))
 
 -- the count before everything, then the certificates
 unfoldable pub certificatesVerdict : Date → List ℕ → Verdict

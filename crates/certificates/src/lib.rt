@@ -1,10 +1,8 @@
 // Certificates to cells: from the dates, balances and coupons that branches keep to the cells of Schedule CMR.
-mod scan;
-
-use crate::scan::scan;
 use answers::Answer;
 use answers::number;
 use calendar::Date;
+use certificate_sums::scan;
 use filled_cells::CellValue;
 use filled_cells::Cells;
 use present_cells::cells_of;

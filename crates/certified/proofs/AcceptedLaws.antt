@@ -25,7 +25,7 @@ use Rattle.certificate_terms.specs.Terms.{certificateCount}
 use Rattle.filled_cells.specs.declared.Totals.{Totals}
 use Rattle.filled_cells.specs.declared.CellValue.{CellValue}
 use Rattle.filled_cells.specs.Cells.{cellsOf}
-use Rattle.certificates.specs.Sums.{totalsOf}
+use Rattle.certificate_sums.specs.Sums.{totalsOf}
 use Rattle.certificates.specs.Verdict.{certificatesVerdict}
 use Rattle.certificates.specs.Filled.{filledCells}
 use Rattle.certificates.proofs.CallLaws.{totals-bounded, filled-some}

@@ -17,8 +17,9 @@ use Rattle.certificate_terms.specs.Faults.{overLimit, noSuchDay, notOutstanding
 use Rattle.filled_cells.specs.declared.CellValue.{CellValue}
 use Rattle.filled_cells.specs.Means.{mean, balanceAt, couponAt, monthsAt}
 use Rattle.filled_cells.specs.Cells.{isFilled, positionWith, formCell, formCells, isPresent, valueOf, cellValue, cellsOf}
-use Rattle.certificates.specs.Sums.{standsAt, positionSum, totalsOf}
-use Rattle.certificates.specs.Verdict.{countVerdict, sumOverLimit, certificateVerdict, eachVerdict, certificatesVerdict}
+use Rattle.certificate_sums.specs.Sums.{standsAt, positionSum, totalsOf}
+use Rattle.certificate_sums.specs.EachVerdict.{sumOverLimit, certificateVerdict, eachVerdict}
+use Rattle.certificates.specs.Verdict.{countVerdict, certificatesVerdict}
 use Rattle.certificates.specs.Filled.{filledCells}
 
 abbrev date : ℕ → ℕ → ℕ → Date

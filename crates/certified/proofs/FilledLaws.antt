@@ -14,12 +14,13 @@ use Rattle.calendar.specs.declared.Date.{Date}
 use Rattle.certificate_terms.specs.Terms.{certificateCount, certificateAt, remainingMonths, originalMonths, columnOf, positionFor, positionOf}
 use Rattle.filled_cells.specs.declared.Totals.{Totals}
 use Rattle.filled_cells.specs.Means.{mean, balanceAt, couponAt, monthsAt}
-use Rattle.certificates.specs.Sums.{standsAt, positionSum, balanceOf, weightedCoupon, weightedMonths, totalsOf}
-use Rattle.certificates.specs.Verdict.{countVerdict, eachVerdict, certificatesVerdict}
+use Rattle.certificate_sums.specs.Sums.{standsAt, positionSum, balanceOf, weightedCoupon, weightedMonths, totalsOf}
+use Rattle.certificate_sums.specs.EachVerdict.{eachVerdict}
+use Rattle.certificates.specs.Verdict.{countVerdict, certificatesVerdict}
 use Rattle.lists.proofs.TestLaws.{and-true}
 use Rattle.lists.proofs.RangeLaws.{least-passes}
 use Rattle.certificate_terms.proofs.FaultLaws.{Sound, sound-position}
-use Rattle.certificates.proofs.SumLaws.{Passed, passed-sound, balance-sum-le}
+use Rattle.certificate_sums.proofs.SumLaws.{Passed, passed-sound, balance-sum-le}
 use Rattle.certified.proofs.WeightedLaws.{AtMost, AtLeast, mean-at-most, mean-at-least}
 use Rattle.certificates.proofs.CallLaws.{each-passed}
 

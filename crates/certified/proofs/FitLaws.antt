@@ -19,7 +19,7 @@ use Rattle.certificate_terms.specs.Terms.{certificateCount}
 use Rattle.filled_cells.specs.declared.Totals.{Totals}
 use Rattle.filled_cells.specs.Means.{balanceAt, couponAt, monthsAt}
 use Rattle.filled_cells.specs.Cells.{isFilled, positionWith, formCell, isPresent, valueOf, cellsOf}
-use Rattle.certificates.specs.Sums.{positionSum, balanceOf, totalsOf}
+use Rattle.certificate_sums.specs.Sums.{positionSum, balanceOf, totalsOf}
 use Rattle.certificates.specs.Verdict.{certificatesVerdict}
 use Rattle.certificates.specs.Filled.{filledCells}
 use Rattle.certificates.proofs.CallLaws.{filled-some}

@@ -14,10 +14,10 @@ use Rattle.lists.proofs.TableLaws.{table-ext}
 use Rattle.schedule.specs.Limits.{balanceLimit, totalLimit}
 use Rattle.calendar.specs.declared.Date.{Date}
 use Rattle.certificate_terms.specs.Terms.{certificateCount, certificateAt, positionOf}
-use Rattle.certificates.specs.Sums.{positionSum, balanceOf, totalsOf}
+use Rattle.certificate_sums.specs.Sums.{positionSum, balanceOf, totalsOf}
 use Rattle.certificates.specs.Verdict.{certificatesVerdict}
 use Rattle.certificate_terms.proofs.FaultLaws.{sound-position}
-use Rattle.certificates.proofs.SumLaws.{Passed, passed-sound, sum-none, sum-suc, balance-sum-le}
+use Rattle.certificate_sums.proofs.SumLaws.{Passed, passed-sound, sum-none, sum-suc, balance-sum-le}
 use Rattle.certified.proofs.FilledLaws.{all-passed}
 
 -- sums of tables: bounded, of two functions, and of one entry

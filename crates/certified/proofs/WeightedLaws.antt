@@ -10,8 +10,8 @@ use Rattle.calendar.specs.declared.Date.{Date}
 use Rattle.certificate_terms.specs.declared.Certificate.{Certificate}
 use Rattle.certificate_terms.specs.Terms.{certificateAt, positionOf}
 use Rattle.filled_cells.specs.Means.{mean}
-use Rattle.certificates.specs.Sums.{standsAt, positionSum, balanceOf}
-use Rattle.certificates.proofs.SumLaws.{sum-none, sum-suc}
+use Rattle.certificate_sums.specs.Sums.{standsAt, positionSum, balanceOf}
+use Rattle.certificate_sums.proofs.SumLaws.{sum-none, sum-suc}
 
 -- a weighted sum of at most so many times the weight has at most that mean, one of at least so many times at least
 pub mean-le : (weighted weight most : ℕ) → 0 < weight → weighted ≤ most * weight → mean weighted weight ≤ most

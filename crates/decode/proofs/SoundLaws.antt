@@ -32,7 +32,8 @@ use Rattle.fields.proofs.FirstLaws.{first-earlier}
 use Rattle.notes.proofs.CountingLaws.{ranked-cell, counting-holds}
 use Rattle.column_sums.specs.Balances.{cellIn}
 use Rattle.cell_amounts.specs.Amounts.{filedValue, amountAt}
-use Rattle.decode.specs.Contents.{cellOffset, cellValue, sheetOffset, tierNumber, tiersAt, contentsOf}
+use Rattle.sheet_numbers.specs.Sheets.{tierNumber, tiersAt}
+use Rattle.decode.specs.Contents.{cellOffset, cellValue, sheetOffset, contentsOf}
 use Rattle.contents.specs.Contents.{cell}
 use Rattle.cell_amounts.proofs.AmountLaws.{amount-past}
 use Rattle.column_sums.specs.Inner.Sums.{BalancesWithin}

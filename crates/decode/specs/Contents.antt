@@ -1,20 +1,20 @@
 -- What a filing says: its cells (amended, 02:CR 6; coupons in thousandths, 02:CR 4), its CD yields, its retail rates (01:6-11; by month, 02:CR 3) and its tiers (02:CR 1). Definitions only.
-use Prim.Native.Nat.{ℕ, _+_, _*_, _/_}
+use Prim.Native.Nat.{ℕ, _+_, _/_}
 use mathlib.Core.Bool.{cond}
 use mathlib.Core.List.{List}
 use lib.ListN.{length}
 use lib.Dec.{ltb}
 use Rattle.lists.specs.Tables.{table, tableFrom}
 use Rattle.schedule.specs.Cells.{firstCell, cellCount}
-use Rattle.schedule.specs.Limits.{monthsLimit, tierLimit}
-use Rattle.fields.specs.Records.{sheetNumber, tierCount}
+use Rattle.schedule.specs.Limits.{monthsLimit}
+use Rattle.fields.specs.Records.{sheetNumber}
 use Rattle.record_kinds.specs.Kinds.{yieldsKind, flatRatesKind, tiersKind, ratePathKind}
 use Rattle.records.specs.declared.Item.the-variants.{Sheet}
 use Rattle.records.specs.Items.{firstWith}
 use Rattle.notes.specs.Counting.{countingBefore}
-use Rattle.contents.specs.declared.FiledTiers.{FiledTiers}
 use Rattle.contents.specs.Contents.{Contents, contentsWith}
 use Rattle.cell_amounts.specs.Amounts.{amountAt}
+use Rattle.sheet_numbers.specs.Sheets.{rateCount, tiersAt}
 
 -- the offset of the record that counts for a cell (02:CR 6), or the input's length where there is none
 unfoldable pub cellOffset : List ℕ → ℕ → ℕ
@@ -28,30 +28,12 @@ cellValue s n = cond (ltb (cellOffset s n) (length s)) (amountAt s (cellOffset s
 unfoldable pub sheetOffset : List ℕ → ℕ → ℕ
 sheetOffset s kind = firstWith s (Sheet kind) (length s)
 
--- how many retail rates a filing says: three columns of 120 months
-abbrev pub rateCount : ℕ
-rateCount = 360
-
 -- the i-th retail rate, from 0, column by column (02:CR 3): the number of kind 5, or, where there is none, the flat rate of kind 3 in each month of its
 -- column, hundredths of a percent a year
 unfoldable pub rateNumber : List ℕ → ℕ → ℕ
 rateNumber s i =
     cond (ltb (sheetOffset s ratePathKind) (length s)) (sheetNumber s (sheetOffset s ratePathKind) (i + 1))
     (sheetNumber s (sheetOffset s flatRatesKind) (i / monthsLimit + 1))
-
--- of a record of kind 4 with `count` tiers (02:CR 1): every second number from `first` on, one for the i-th tier, from 0; 0 past the last tier
-unfoldable pub tierNumber : List ℕ → ℕ → ℕ → ℕ → ℕ → ℕ
-tierNumber s at count first i = cond (ltb i count) (sheetNumber s at (first + 2 * i)) 0
-
--- the tiers of a record of kind 4 (02:CR 1), lowest edge first: edges in hundredths, annual withdrawals in thousandths. At the input's length, where no
--- record stands, there are none
-unfoldable pub tiersAt : List ℕ → ℕ → FiledTiers
-tiersAt s at =
-    record {
-      count = tierCount s at;
-      edges = table tierLimit (tierNumber s at (tierCount s at) 2);
-      withdrawals = table tierLimit (tierNumber s at (tierCount s at) 3);
-    }
 
 -- the cells from 601 on, the yields of kind 2 by month from 1 on, the retail rates of kinds 3 and 5 column by column, the tiers of kind 4
 unfoldable pub contentsOf : List ℕ → Contents

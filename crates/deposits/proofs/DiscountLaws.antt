@@ -10,7 +10,7 @@ use Rattle.withdrawal.specs.Tiers.{TierTable}
 use Rattle.pricing.specs.Rounding.{Rounding, down, up}
 use Rattle.pricing.proofs.RunLaws.{run-ext}
 use Rattle.month_multipliers.specs.Multipliers.{factorOf}
-use Rattle.discounts.specs.Inner.Factors.{factorIn}
+use Rattle.discount_factors.specs.Inner.Factors.{factorIn}
 use Rattle.discounts.specs.Inner.Tables.{HoldsFactors, factorsOf}
 use Rattle.discounts.proofs.TableLaws.{held-factor}
 use Rattle.deposits.specs.declared.Deposit.{Deposit}

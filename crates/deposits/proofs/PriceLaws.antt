@@ -20,7 +20,7 @@ use Rattle.pricing.proofs.LimitLaws.{discounted-limit}
 use Rattle.pricing.proofs.RunLaws.{run-suc, run-small}
 use Rattle.deposits.specs.declared.Deposit.{Deposit}
 use Rattle.deposits.specs.DepositTerms.{servicingCost, termsOf}
-use Rattle.discounts.specs.Inner.Factors.{factorIn, AtMostPar}
+use Rattle.discount_factors.specs.Inner.Factors.{factorIn, AtMostPar}
 use Rattle.deposits.specs.Inner.Prices.{tabledPrice, DepositLimits}
 use Rattle.deposits.proofs.TermsLaws.{terms-of-bounded}
 

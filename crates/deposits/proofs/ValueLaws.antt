@@ -17,11 +17,11 @@ use Rattle.pricing.specs.Run.{discountFactorBy, priceBy, valueBy}
 use Rattle.pricing.proofs.RoundingLaws.{quotient-zero}
 use Rattle.pricing.proofs.RunLaws.{run-ext}
 use Rattle.deposits.specs.declared.Deposit.{Deposit}
-use Rattle.discounts.specs.Inner.Factors.{sheetYield, factorsBy, factorIn}
+use Rattle.discount_factors.specs.Inner.Factors.{sheetYield, factorsBy, factorIn}
 use Rattle.deposits.specs.DepositTerms.{termsOf}
 use Rattle.deposits.specs.Inner.Prices.{tabledPrice, shiftedPath}
 use Rattle.deposits.specs.Inner.Values.{tabledValue, valueBounds, tabledValues}
-use Rattle.discounts.proofs.FactorLaws.{factor-is}
+use Rattle.discount_factors.proofs.FactorLaws.{factor-is}
 
 -- of a scenario there are two values, and fourteen of all
 pub bounds-length : (tiers : TierTable) (balance : ℕ) (d : Deposit) (rate : ℕ → ℕ) (lower upper : List ℕ) (scenario : ℕ)

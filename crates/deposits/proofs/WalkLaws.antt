@@ -21,7 +21,7 @@ use Rattle.pricing.specs.Run.{balanceBy, discountedBy}
 use Rattle.pricing.specs.Inner.Month.{runBy, Small}
 use Rattle.deposits.specs.declared.Deposit.{Deposit}
 use Rattle.deposits.specs.DepositTerms.{servicingCost, termsOf}
-use Rattle.discounts.specs.Inner.Factors.{factorIn, AtMostPar}
+use Rattle.discount_factors.specs.Inner.Factors.{factorIn, AtMostPar}
 use Rattle.deposits.specs.Inner.Prices.{tabledPrice, tabledPrices, shiftedPath, DepositLimits}
 use Rattle.deposits.specs.Inner.Values.{tabledValue, valueBounds}
 use Rattle.discounts.specs.Inner.Tables.{factorsOf, Discounting}

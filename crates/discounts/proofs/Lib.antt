@@ -1,2 +1,1 @@
-pub mod FactorLaws
 pub mod TableLaws

@@ -7,7 +7,7 @@ use Rattle.pricing.specs.Scales.{par}
 use Rattle.pricing.specs.Rounding.{Rounding, down, up}
 use Rattle.month_multipliers.specs.Multipliers.{factorOf}
 use Rattle.month_multipliers.proofs.DiscountLaws.{factor-back, discounts-lower, discounts-upper}
-use Rattle.discounts.specs.Inner.Factors.{AtMostPar}
+use Rattle.discount_factors.specs.Inner.Factors.{AtMostPar}
 use Rattle.discounts.specs.Inner.Tables.{HoldsFactors, Discounting}
 
 -- a table that holds the multipliers of a list's factors, over the months of a term

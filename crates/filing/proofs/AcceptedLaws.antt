@@ -17,7 +17,8 @@ use Rattle.schedule.proofs.CellLaws.{coupon-cell, months-cell, penalty-months-c
 use Rattle.fields.specs.Records.{sheetNumber}
 use Rattle.record_kinds.specs.Kinds.{flatRatesKind, ratePathKind, sheetOf, sheetKinds, sheetKind}
 use Rattle.lists.proofs.TestLaws.{neither}
-use Rattle.decode.specs.Contents.{sheetOffset, rateCount, rateNumber, contentsOf}
+use Rattle.sheet_numbers.specs.Sheets.{rateCount}
+use Rattle.decode.specs.Contents.{sheetOffset, rateNumber, contentsOf}
 use Rattle.contents.specs.Contents.{cell, cdYield, retailRate}
 use Rattle.column_sums.specs.Balances.{columnBalances}
 use Rattle.required_sheets.specs.RequiredSheets.{sheetMissing}

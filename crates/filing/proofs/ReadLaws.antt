@@ -15,7 +15,8 @@ use Rattle.answers.proofs.VerdictLaws.{first-passed, first-refused}
 use Rattle.record_verdicts.specs.RecordVerdicts.{recordsVerdict}
 use Rattle.column_sums.specs.Inner.Sums.{columnSums}
 use Rattle.contents.specs.Contents.{contentsWith}
-use Rattle.decode.specs.Contents.{rateCount, contentsOf}
+use Rattle.sheet_numbers.specs.Sheets.{rateCount}
+use Rattle.decode.specs.Contents.{contentsOf}
 use Rattle.readings.specs.declared.Reading.{Reading}
 use Rattle.required_sheets.specs.RequiredSheets.{sheetVerdict}
 use Rattle.filing.specs.Verdict.{contentsVerdict, filingVerdict}

@@ -28,7 +28,8 @@ use Rattle.scan.proofs.NotingLaws.{table-same}
 use Rattle.fields.proofs.FirstLaws.{first-found, first-earlier, first-reached}
 use Rattle.notes.proofs.CountingLaws.{ranked-cell, counting-most, counting-holds}
 use Rattle.cell_amounts.specs.Amounts.{filedValue, amountAt}
-use Rattle.decode.specs.Contents.{cellOffset, cellValue, sheetOffset, rateCount, rateNumber, tierNumber, tiersAt, contentsOf}
+use Rattle.sheet_numbers.specs.Sheets.{rateCount, tierNumber, tiersAt}
+use Rattle.decode.specs.Contents.{cellOffset, cellValue, sheetOffset, rateNumber, contentsOf}
 use Rattle.filing.specs.Survivors.{withdraws, survives, Surviving}
 
 module _ (t : List ℕ) (sound : firstRefused t (recordVerdict t) ≡ length t)

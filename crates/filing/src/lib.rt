@@ -20,7 +20,7 @@ ghost use Rattle.record_verdicts.specs.RecordVerdicts.{recordsVerdict};
 ghost use Rattle.schedule.specs.Cells.{cellCount};
 ghost use Rattle.schedule.specs.Limits.{monthsLimit};
 ghost use Rattle.contents.specs.Contents.{contentsWith};
-ghost use Rattle.decode.specs.Contents.{rateCount};
+ghost use Rattle.sheet_numbers.specs.Sheets.{rateCount};
 ghost use Rattle.column_sums.specs.Inner.Sums.{columnSums};
 ghost use Rattle.required_sheets.specs.RequiredSheets.{sheetVerdict};
 ghost use Rattle.filing.specs.Verdict.{filingVerdict};

@@ -21,10 +21,10 @@ use Rattle.shares.proofs.SubBalanceLaws.{balanceAt-limit}
 use Rattle.withdrawal.specs.declared.WithdrawalTiers.{WithdrawalTiers}
 use Rattle.withdrawal.specs.Inner.TierArrays.{tierTable, Usable}
 use Rattle.pricing.specs.Rounding.{Rounding, down, up}
-use Rattle.discounts.specs.Inner.Factors.{factorsBy}
+use Rattle.discount_factors.specs.Inner.Factors.{factorsBy}
 use Rattle.deposits.specs.Inner.Prices.{DepositLimits}
 use Rattle.discounts.specs.Inner.Tables.{HoldsFactors, factorsOf, Discounting}
-use Rattle.discounts.proofs.FactorLaws.{factors-at-most-par, upper-factor-pos}
+use Rattle.discount_factors.proofs.FactorLaws.{factors-at-most-par, upper-factor-pos}
 use Rattle.discounts.proofs.TableLaws.{lower-discounting, upper-discounting}
 use Rattle.filing_tiers.specs.FilingTiers.{filingTiers}
 use Rattle.place_values.specs.PlaceTerms.{depositAt}

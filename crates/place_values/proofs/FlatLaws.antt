@@ -13,7 +13,8 @@ use Rattle.schedule.specs.Shift.{shiftedRate, pathRate}
 use Rattle.fields.specs.Records.{sheetNumber}
 use Rattle.record_kinds.specs.Kinds.{flatRatesKind, ratePathKind}
 use Rattle.column_sums.proofs.SumLaws.{column-range}
-use Rattle.decode.specs.Contents.{sheetOffset, rateCount, rateNumber, contentsOf}
+use Rattle.sheet_numbers.specs.Sheets.{rateCount}
+use Rattle.decode.specs.Contents.{sheetOffset, rateNumber, contentsOf}
 use Rattle.contents.specs.Contents.{retailRate}
 use Rattle.contents.specs.Valid.{Valid}
 use Rattle.shares.specs.Places.{placeAt}

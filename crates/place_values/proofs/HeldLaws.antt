@@ -25,7 +25,7 @@ use Rattle.pricing.proofs.WidthLaws.{value-width}
 use Rattle.pricing.proofs.RoundingLaws.{quotient-le}
 use Rattle.pricing.proofs.LimitLaws.{price-limit}
 use Rattle.deposits.specs.declared.Deposit.{Deposit}
-use Rattle.discounts.specs.Inner.Factors.{sheetYield, factorsBy, WithinRates}
+use Rattle.discount_factors.specs.Inner.Factors.{sheetYield, factorsBy, WithinRates}
 use Rattle.deposits.specs.Inner.Prices.{shiftedPath, DepositLimits}
 use Rattle.discounts.specs.Inner.Tables.{HoldsFactors, factorsOf}
 use Rattle.deposits.specs.Inner.Values.{tabledValues}

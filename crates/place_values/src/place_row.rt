@@ -14,7 +14,7 @@ ghost use Rattle.schedule.specs.Limits.{balanceLimit};
 ghost use Rattle.sub_balances.specs.PlaceOrder.{subBalanceCount};
 ghost use Rattle.withdrawal.specs.Inner.TierArrays.{tierTable, Usable};
 ghost use Rattle.pricing.specs.Rounding.{down, up};
-ghost use Rattle.discounts.specs.Inner.Factors.{WithinRates};
+ghost use Rattle.discount_factors.specs.Inner.Factors.{WithinRates};
 ghost use Rattle.deposits.specs.Inner.Levels.{lentTiers};
 ghost use Rattle.deposits.specs.Inner.Prices.{DepositLimits};
 ghost use Rattle.discounts.specs.Inner.Tables.{factorsOf, Discounting};

@@ -6,7 +6,7 @@ use book_places::empty_book;
 use book_places::refusal;
 use book_places::with_place;
 use book_sheets::values_in;
-use discounts::fill_factors;
+use discount_factors::fill_factors;
 use filing::read;
 use place_limits::fits;
 use schedule::CELLS;

@@ -10,7 +10,7 @@ use Rattle.contents.specs.Valid.{Valid}
 use Rattle.sub_balances.specs.declared.SubBalance.{SubBalance}
 use Rattle.sub_balances.specs.PlaceOrder.{subBalanceCount}
 use Rattle.pricing.specs.Rounding.{down, up}
-use Rattle.discounts.specs.Inner.Factors.{factorsBy}
+use Rattle.discount_factors.specs.Inner.Factors.{factorsBy}
 use Rattle.deposits.specs.Inner.Prices.{DepositLimits}
 use Rattle.place_values.specs.PlaceTerms.{depositAt}
 use Rattle.place_values.specs.HeldValues.{valuesHeld}

@@ -9,7 +9,8 @@ use Rattle.lists.proofs.FillLaws.{Filled, fill-more}
 use Rattle.schedule.specs.Cells.{firstCell, cellCount}
 use Rattle.cell_amounts.specs.Amounts.{amountAt}
 use Rattle.decode.specs.Contents.{cellOffset, cellValue, contentsOf}
-use Rattle.decode.proofs.ContentsLaws.{filled-from, cell-noted, value-noted}
+use Rattle.sheet_numbers.proofs.ArrayLaws.{filled-from}
+use Rattle.decode.proofs.ContentsLaws.{cell-noted, value-noted}
 use Rattle.decode.proofs.SoundLaws.{offset-limit}
 use Rattle.decode.proofs.fill_cells.Statement.{statement}
 use Rattle.decode.proofs.fill_cells.Tie as tie

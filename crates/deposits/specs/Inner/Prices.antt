@@ -7,7 +7,7 @@ use Rattle.schedule.specs.Shift.{shiftedRate, pathRate}
 use Rattle.withdrawal.specs.Tiers.{TierTable}
 use Rattle.pricing.specs.Rounding.{Rounding, down, up}
 use Rattle.pricing.specs.Run.{discountedBy}
-use Rattle.discounts.specs.Inner.Factors.{factorIn}
+use Rattle.discount_factors.specs.Inner.Factors.{factorIn}
 use Rattle.deposits.specs.declared.Deposit.{Deposit}
 use Rattle.deposit_prices.specs.declared.Bounds.{Bounds}
 use Rattle.deposits.specs.DepositTerms.{termsOf}

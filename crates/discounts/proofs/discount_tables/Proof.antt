@@ -1,6 +1,6 @@
 -- `discounts::discount_tables` meets its contract. Assumes nothing.
 use Rattle.pricing.specs.Rounding.{down, up, roundingOf}
-use Rattle.discounts.proofs.FactorLaws.{factors-at-most-par}
+use Rattle.discount_factors.proofs.FactorLaws.{factors-at-most-par}
 use borrow.Author.Needs.{needs}
 use Rattle.discounts.proofs.discount_tables.Statement.{statement}
 use Rattle.discounts.proofs.discount_tables.Tie as tie

@@ -10,7 +10,8 @@ use Rattle.records.specs.Items.{firstWith}
 use Rattle.notes.specs.Counting.{countsFrom, countingBefore}
 use Rattle.column_sums.specs.Balances.{cellIn}
 use Rattle.column_sums.specs.Inner.Sums.{columnSum, columnSums}
-use Rattle.decode.specs.Contents.{cellOffset, cellValue, sheetOffset, rateNumber, tierNumber, tiersAt, contentsOf}
+use Rattle.sheet_numbers.specs.Sheets.{tierNumber, tiersAt}
+use Rattle.decode.specs.Contents.{cellOffset, cellValue, sheetOffset, rateNumber, contentsOf}
 use Rattle.readings.specs.EmptyContents.{emptyContents}
 use Rattle.readings.proofs.clear.Statement.{statement}
 use Rattle.readings.proofs.clear.Tie as tie

@@ -1,0 +1,2 @@
+-- What only inner contracts cite.
+pub mod Totals
