@@ -4,39 +4,22 @@ use mathlib.Core.Path.{_≡_, ap, _∙_}
 use mathlib.Core.Bool.{cond}
 use mathlib.Core.List.{List}
 use lib.Dec.{eqb}
-use borrow.Author.Tests.{eq-eqb, ne-eqb}
 use Rattle.answers.specs.Answers.{numberOf, locationOf, verdictOf}
 use Rattle.answers.specs.Verdict.{Verdict}
 use Rattle.calendar.specs.declared.Date.{Date}
 use Rattle.filled_cells.specs.declared.Cells.{Cells}
 use Rattle.certificates.specs.Promise.{Converted}
-use Rattle.certificates.specs.Verdict.{certificatesVerdict}
-use Rattle.certificates.specs.Filled.{filledCells}
-use Rattle.filled_cells.specs.Cells.{cellArray}
-use Rattle.cell_numbers.specs.CellNumbers.{numbersOf}
+use Rattle.plain_numbers.specs.CellNumbers.{numbersOf}
 use Rattle.exports.specs.Converted.{ConvertedForC}
 
-module _ (valuation : Date) (s before after : List ℕ) (r : Cells) (number location count : ℕ) (kept : Converted valuation s r)
-    (n : number ≡ numberOf (r .answer)) (p : location ≡ locationOf (r .answer)) (m : count ≡ r .count) where
-  number-of : number ≡ certificatesVerdict valuation s .number
-  unfolding verdictOf
-  number-of = n ∙ ap (λ (v : Verdict). v .number) (kept .answer-is)
-
-  from-list : after ≡ cond (eqb (certificatesVerdict valuation s .number) 0) (numbersOf (cellArray (filledCells valuation s))) before
-      → ConvertedForC valuation s before number location count after
-  unfolding verdictOf
-  from-list h =
-      record {
-        number-is = number-of;
-        location-is = p ∙ ap (λ (v : Verdict). v .location) (kept .answer-is);
-        count-is = m ∙ kept .count-is;
-        list-is = h;
-      }
-
-  -- accepted: the cells are written
-  pub converted-for-c : number ≡ 0 → after ≡ numbersOf (r .cells) → ConvertedForC valuation s before number location count after
-  converted-for-c z e = from-list (rw (← number-of, eq-eqb number 0 z) (e ∙ ap numbersOf (kept .cells-are)))
-
-  -- refused: the list is left
-  pub refused-for-c : (number ≡ 0 → ⊥) → after ≡ before → ConvertedForC valuation s before number location count after
-  refused-for-c z e = from-list (rw (← number-of, ne-eqb number 0 z) e)
+pub converted-for-c : (valuation : Date) (s before after : List ℕ) (r : Cells) (number location count : ℕ) → Converted valuation s r
+    → number ≡ numberOf (r .answer) → location ≡ locationOf (r .answer) → count ≡ r .count
+    → after ≡ cond (eqb (numberOf (r .answer)) 0) (numbersOf (r .cells)) before → ConvertedForC valuation s before number location count after
+unfolding verdictOf
+converted-for-c valuation s before after r number location count kept n p m e =
+    record {
+      number-is = n ∙ ap (λ (v : Verdict). v .number) (kept .answer-is);
+      location-is = p ∙ ap (λ (v : Verdict). v .location) (kept .answer-is);
+      count-is = m ∙ kept .count-is;
+      list-is = rw (← kept .answer-is, ← kept .cells-are) e;
+    }

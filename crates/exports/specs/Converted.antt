@@ -9,7 +9,7 @@ use Rattle.calendar.specs.declared.Date.{Date}
 use Rattle.filled_cells.specs.Cells.{cellArray}
 use Rattle.certificates.specs.Verdict.{certificatesVerdict}
 use Rattle.certificates.specs.Filled.{filledCells}
-use Rattle.cell_numbers.specs.CellNumbers.{numbersOf}
+use Rattle.plain_numbers.specs.CellNumbers.{numbersOf}
 
 -- s is the list of certificates, before and after are the cells' list at the call and at the return; number and location are 0 for acceptance
 pub record ConvertedForC (valuation : Date) (s before : List ℕ) (number location count : ℕ) (after : List ℕ) : Type 0 where

@@ -1,6 +1,7 @@
 // The book's call.
 use book_changes::book_of;
-use kept_totals::shown;
+use plain_numbers::answer_numbers;
+use plain_numbers::write_totals;
 ghost use Rattle.exports.specs.Changed.{BookForC};
 
 // Opens a book from a filing and makes changes in turn as `book_changes::book_of` does: answers 0 for acceptance, else the first refusal's number, with its
@@ -16,12 +17,9 @@ pub extern "C" fn spritapricot_book(
 {
     let changed = book_of(filing, changes);
     let answer = changed.answer;
-    let number = answers::number(answer);
-    *location = locations::location(answer) as u64;
-    if number == 0 {
-        let book = changed.book;
-        let kept = book.totals;
-        *totals = shown(book.balance, &kept);
-    }
+    let number = answer_numbers(answer, location);
+    let book = changed.book;
+    let kept = book.totals;
+    write_totals(number, book.balance, &kept, totals);
     number
 }

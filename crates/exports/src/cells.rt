@@ -1,7 +1,8 @@
 // The certificates' call.
 use calendar::Date;
-use cell_numbers::cell_numbers;
 use certificates::to_cells;
+use plain_numbers::answer_numbers;
+use plain_numbers::write_cells;
 ghost use Rattle.exports.specs.Converted.{ConvertedForC};
 
 // Turns certificates into cells as `certificates::to_cells` does: answers 0 for acceptance, else the refusal's number, with the refusal's location in `location`;
@@ -20,13 +21,8 @@ pub extern "C" fn spritapricot_cells(
 {
     let valuation = Date { year, month, day };
     let filled = to_cells(valuation, certificates);
-    let answer = filled.answer;
-    let number = answers::number(answer);
-    *location = locations::location(answer) as u64;
     *count = filled.count as u64;
-    if number == 0 {
-        let listed = filled.cells;
-        *cells = cell_numbers(listed);
-    }
-    number
+    write_cells(filled, cells);
+    let answer = filled.answer;
+    answer_numbers(answer, location)
 }

@@ -2,6 +2,7 @@
 pub mod book;
 pub mod cells;
 
+use plain_numbers::answer_numbers;
 use valuation::value;
 ghost use Rattle.exports.specs.Exported.{ValuedForC};
 
@@ -10,7 +11,5 @@ ghost use Rattle.exports.specs.Exported.{ValuedForC};
 pub extern "C" fn spritapricot_value(filing: &[u8], numbers: &mut [u64], location: &mut u64) -> u64
     ensures { λ r. ⌜ ValuedForC (now (filing .entry)) (now (numbers .entry)) r (now (location .exit)) (now (numbers .exit)) ⌝ }
 {
-    let answer = value(filing, numbers);
-    *location = locations::location(answer) as u64;
-    answers::number(answer)
+    answer_numbers(value(filing, numbers), location)
 }

@@ -1,8 +1,6 @@
 // The totals of a book, moved by the difference of a place's values.
-use lists::write;
 use positions::position;
 ghost use mathlib.Core.Path.{_≡_};
-ghost use mathlib.Core.List.{_∷_};
 ghost use Prim.Native.Nat.{_-_, _<_};
 ghost use Rattle.kept_totals.specs.KeptTotals as kept;
 ghost use Rattle.kept_totals.specs.KeptTotals.{sumsPlace, totalAfter, totalsAfter};
@@ -57,13 +55,4 @@ fn less(total: u64, old: u64) -> u64
     ensures { λ r. ⌜ r ≡ total - old ⌝ }
 {
     if total < old { 0 } else { total - old }
-}
-
-// The balance total, and then the totals.
-pub fn shown(balance: u64, totals: &[u64; 28]) -> [u64; 29]
-    ensures { λ r. ⌜ r ≡ balance ∷ now (totals .entry) ⌝ }
-{
-    let mut numbers = [balance; 29];
-    write(&mut numbers, 1, totals);
-    numbers
 }

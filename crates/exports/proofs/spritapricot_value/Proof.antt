@@ -7,18 +7,17 @@ use Rattle.exports.proofs.spritapricot_value.Tie as tie
 value-requires : tie.Need-value-requires
 value-requires c κs = search needs
 
-location-requires : tie.Need-location-requires
-location-requires c κs = search needs
-
-number-requires : tie.Need-number-requires
-number-requires c κs = search needs
+answer-numbers-requires : tie.Need-answer-numbers-requires
+answer-numbers-requires c κs = search needs
 
 same-length : tie.Need-same-length
 same-length c = search needs
 
 returns : tie.Need-returns
-returns c = valued-for-c _ _ _ _ _ _ (c .before .before .before .before .value .ensures) (c .number .ensures) (c .before .location .ensures)
+returns c =
+    let numbers = c .answer-numbers .ensures in
+    valued-for-c _ _ _ _ _ _ (c .before .before .before .before .value .ensures) (numbers .0) (numbers .1)
 
 pub spritapricot-value-spec : {M : Type 1} → statement M
 spritapricot-value-spec =
-    tie.close (tie.spec value-requires location-requires number-requires same-length returns)
+    tie.close (tie.spec value-requires answer-numbers-requires same-length returns)

@@ -5,8 +5,8 @@ use mathlib.Core.List.{[], _∷_}
 use native.Mathlib.Omega.{arith}
 use lib.ListN.{length, replicate}
 use Rattle.lists.proofs.RunLaws.{overwritten-is, overwritten-more, overwritten-all}
-use Rattle.kept_totals.proofs.shown.Statement.{statement}
-use Rattle.kept_totals.proofs.shown.Tie as tie
+use Rattle.plain_numbers.proofs.shown.Statement.{statement}
+use Rattle.plain_numbers.proofs.shown.Tie as tie
 
 slice-aggregate-write : tie.Need-slice-aggregate-write
 slice-aggregate-write c = search needs

@@ -6,9 +6,9 @@ use native.Mathlib.Omega.{arith}
 use lib.ListN.{replicate}
 use Rattle.lists.specs.Tables.{tableFrom, table, joined}
 use Rattle.lists.proofs.RunLaws.{Overwritten, overwritten-none, overwritten-row, overwritten-all}
-use Rattle.cell_numbers.specs.CellNumbers.{pairAt, numbersOf}
-use Rattle.cell_numbers.proofs.cell_numbers.Statement.{statement}
-use Rattle.cell_numbers.proofs.cell_numbers.Tie as tie
+use Rattle.plain_numbers.specs.CellNumbers.{pairAt, numbersOf}
+use Rattle.plain_numbers.proofs.cell_numbers.Statement.{statement}
+use Rattle.plain_numbers.proofs.cell_numbers.Tie as tie
 
 abbrev Inv-loop : tie.InvT-loop
 Inv-loop cells numbers₀ i₀ numbers i = (i ≤ 28) × Overwritten (joined (table i (pairAt cells))) (2 * i) (replicate 56 0) numbers
