@@ -14,7 +14,7 @@ pub fn number(s: &[u8], at: u64, offset: u64, size: u64) -> u64 {
 }
 
 // The byte at a position.
-pub fn letter(s: &[u8], at: u64) -> u8 {
+pub(crate) fn letter(s: &[u8], at: u64) -> u8 {
     let i = at as usize;
     if i < s.len() { s[i] } else { 0 }
 }

@@ -29,7 +29,7 @@ fn shift(scenario: u64) {
 }
 
 // The four totals of each scenario, behind its shift, from the 568 numbers of a valued filing.
-pub fn scenario_lines(name: &[u8], numbers: &[u64]) {
+pub(crate) fn scenario_lines(name: &[u8], numbers: &[u64]) {
     if 540 <= numbers.len() {
         total_lines(name, &numbers[540..]);
     }
@@ -51,7 +51,7 @@ pub fn total_lines(name: &[u8], totals: &[u64]) {
 }
 
 // The numbers of a list, each behind a space, and the line's end.
-pub fn rest_of_line(list: &[u64]) {
+pub(crate) fn rest_of_line(list: &[u64]) {
     let mut i: usize = 0;
     while i < list.len() {
         next_number(list[i]);

@@ -13,7 +13,7 @@ pub fn print_answer(answer: Answer) {
 }
 
 // A line of how many entries a call left, and how many of them are as they were.
-pub fn print_counts(rest: u64, kept: u64) {
+pub(crate) fn print_counts(rest: u64, kept: u64) {
     text(b"rest");
     next_number(rest);
     next_number(kept);
@@ -21,7 +21,7 @@ pub fn print_counts(rest: u64, kept: u64) {
 }
 
 // One more where a condition holds.
-pub fn count_if(count: u64, holds: bool) -> u64 {
+pub(crate) fn count_if(count: u64, holds: bool) -> u64 {
     if holds {
         std::num::wrapping_add_u64(count, 1)
     } else {
