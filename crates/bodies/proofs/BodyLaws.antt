@@ -10,7 +10,7 @@ use lib.Dec.{ltb, eqb}
 use Rattle.schedule.specs.Limits.{cellClass, classLimit}
 use Rattle.fields.specs.Records.{recordKind, recordCell, recordValue, amendmentNumber, amendmentState, amendmentValue, sheetNumber}
 use Rattle.record_kinds.specs.Kinds.{cellKind, fineCouponKind, givesCell, amendmentKind, sheetOf, sheetKinds, sheetKind}
-use Rattle.bodies.specs.Bodies.{valueLimit, unfitAmendment, numberOver, overLimit}
+use Rattle.bodies.specs.Bodies.{valueLimit, unfitFor, unfitAmendment, numberOver, overLimit}
 use Rattle.bodies.proofs.SheetLaws.{none-over}
 
 -- a kind that gives a cell its value is no sheet
@@ -34,7 +34,7 @@ pub record FitAmendment (s : List ℕ) (at : ℕ) : Type 0 where
   pub emptied : (amendmentState s at ≡ 0 → ⊥) → amendmentValue s at ≡ 0
 
 pub amendment-fits : (s : List ℕ) (at : ℕ) → unfitAmendment s at ≡ false → FitAmendment s at
-unfolding unfitAmendment
+unfolding unfitFor unfitAmendment
 amendment-fits s at =
     by (eqb (amendmentNumber s at) 0) (eqb (amendmentState s at) 0) (eqb (amendmentState s at) 1) (eqb (amendmentValue s at) 0) refl refl refl
   where

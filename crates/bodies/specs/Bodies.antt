@@ -8,13 +8,18 @@ use Rattle.schedule.specs.Limits.{couponLimit, cellClass, classLimit}
 use Rattle.fields.specs.Records.{recordKind, recordCell, recordValue, amendmentNumber, amendmentState, amendmentValue, sheetNumber}
 use Rattle.record_kinds.specs.Kinds.{fineCouponKind, givesCell, amendmentKind, sheetKind}
 
--- an amendment (02:CR 6) whose number is 0, whose value is over its class's limit, which withdraws a cell and holds a value, or whose state is another
-unfoldable pub unfitAmendment : List ℕ → ℕ → Bool
-unfitAmendment s at =
-    cond (eqb (amendmentNumber s at) 0) true
-    (cond (eqb (amendmentState s at) 0) (ltb (classLimit (cellClass (recordCell s at))) (amendmentValue s at))
-    (cond (eqb (amendmentState s at) 1) (not (eqb (amendmentValue s at) 0))
+-- an amendment (02:CR 6), by its number, state and value, of a cell with a limit: its number is 0, its value is over the limit, it withdraws the cell and
+-- holds a value, or its state is another
+unfoldable pub unfitFor : ℕ → ℕ → ℕ → ℕ → Bool
+unfitFor limit number state value =
+    cond (eqb number 0) true
+    (cond (eqb state 0) (ltb limit value)
+    (cond (eqb state 1) (not (eqb value 0))
     true))
+
+-- the amendment at an offset is so, for its class's limit
+unfoldable pub unfitAmendment : List ℕ → ℕ → Bool
+unfitAmendment s at = unfitFor (classLimit (cellClass (recordCell s at))) (amendmentNumber s at) (amendmentState s at) (amendmentValue s at)
 
 -- one of a sheet's first n numbers is over the limit
 unfoldable pub numberOver : List ℕ → ℕ → ℕ → ℕ → Bool

@@ -15,7 +15,7 @@ use schedule::limits::COUPON_LIMIT;
 use schedule::tables::cell_class;
 use schedule::tables::class_limit;
 ghost use mathlib.Core.Path.{_≡_};
-ghost use Rattle.bodies.specs.Bodies.{valueLimit, unfitAmendment, numberOver, overLimit};
+ghost use Rattle.bodies.specs.Bodies.{valueLimit, unfitFor, unfitAmendment, numberOver, overLimit};
 
 // 5: a value is over its limit.
 pub fn over_limit(s: &[u8], at: usize) -> bool
@@ -42,17 +42,28 @@ fn value_limit(s: &[u8], at: usize) -> u64
     class_limit(cell_class(record_cell(s, at)))
 }
 
-// An amendment whose number is 0, whose value is over its class's limit, which withdraws a cell and holds a value, or whose state is another.
+// An amendment that does not fit its cell.
 fn unfit_amendment(s: &[u8], at: usize) -> bool
     ensures { λ r. ⌜ r ≡ unfitAmendment (now (s .entry)) at ⌝ }
 {
-    if amendment_number(s, at) == 0 {
+    let limit = class_limit(cell_class(record_cell(s, at)));
+    unfit_for(
+        limit,
+        amendment_number(s, at) as u64,
+        amendment_state(s, at) as u64,
+        amendment_value(s, at),
+    )
+}
+
+// An amendment of a cell with a limit whose number is 0, whose value is over the limit, which withdraws the cell and holds a value, or whose state is another.
+pub fn unfit_for(limit: u64, number: u64, state: u64, value: u64) -> bool
+    ensures { λ r. ⌜ r ≡ unfitFor limit number state value ⌝ }
+{
+    if number == 0 {
         return true;
     }
-    let state = amendment_state(s, at);
-    let value = amendment_value(s, at);
     if state == 0 {
-        return class_limit(cell_class(record_cell(s, at))) < value;
+        return limit < value;
     }
     if state == 1 {
         return value != 0;

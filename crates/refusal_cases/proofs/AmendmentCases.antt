@@ -14,7 +14,7 @@ use Rattle.fields.specs.Records.{nextRecord, searchRecords, firstRecord}
 use Rattle.record_kinds.specs.Kinds.{givesCell, namesCell, sheetOf, sheetKinds, sheetKind, sheetLength, dueLength}
 use Rattle.records.specs.Items.{sameItem, recordClass, recordItem, firstWith}
 use Rattle.notes.specs.Counting.{itemRank, counting, countsFrom, countingBefore}
-use Rattle.bodies.specs.Bodies.{valueLimit, unfitAmendment, numberOver, overLimit}
+use Rattle.bodies.specs.Bodies.{valueLimit, unfitFor, unfitAmendment, numberOver, overLimit}
 use Rattle.tier_faults.specs.TierFaults.{unfitTier, unsoundTiers}
 use Rattle.faults.specs.Faults.{incomplete, standsBefore, sheetBefore, pathBesideFlat}
 use Rattle.record_verdicts.specs.RecordVerdicts.{shapeVerdict, bodyVerdict, recordVerdict, firstRefused, verdictBy}
@@ -84,7 +84,7 @@ cases = body-cases ++ order-cases ++ survivor-cases
 
 -- every case holds
 verdicts-hold : map (λ (c : Case). filingVerdict (c .input)) cases ≡ map (λ (c : Case). c .verdict) cases
-unfolding numberAt nextRecord searchRecords firstRecord givesCell namesCell sheetOf sheetKinds sheetKind sheetLength dueLength sameItem recordClass recordItem firstWith itemRank counting countsFrom countingBefore incomplete standsBefore sheetBefore pathBesideFlat anyBelow valueLimit unfitAmendment numberOver overLimit unfitTier unsoundTiers cellClass classLimit contains position positions brokeredCell penaltyBalanceCell penaltyMonthsCell unusedCells firstRefused verdictBy sheetOffset sheetMissing filingVerdict refused filedValue amountAt cellOffset cellValue contentsOf rateNumber tiersAt tierNumber cellIn monthsOutside columnBalances balances aboveColumn totalDiffers sum those inColumn withinRow sheetVerdict positionVerdict monthsVerdict columnVerdict columnsVerdict totalVerdict cellsVerdict shapeVerdict bodyVerdict recordVerdict accepted refusedIf firstRefusal firstOf tableFrom joined
+unfolding numberAt nextRecord searchRecords firstRecord givesCell namesCell sheetOf sheetKinds sheetKind sheetLength dueLength sameItem recordClass recordItem firstWith itemRank counting countsFrom countingBefore incomplete standsBefore sheetBefore pathBesideFlat anyBelow valueLimit unfitFor unfitAmendment numberOver overLimit unfitTier unsoundTiers cellClass classLimit contains position positions brokeredCell penaltyBalanceCell penaltyMonthsCell unusedCells firstRefused verdictBy sheetOffset sheetMissing filingVerdict refused filedValue amountAt cellOffset cellValue contentsOf rateNumber tiersAt tierNumber cellIn monthsOutside columnBalances balances aboveColumn totalDiffers sum those inColumn withinRow sheetVerdict positionVerdict monthsVerdict columnVerdict columnsVerdict totalVerdict cellsVerdict shapeVerdict bodyVerdict recordVerdict accepted refusedIf firstRefusal firstOf tableFrom joined
 verdicts-hold = refl
 
 -- the record that counts: the highest number wherever it stands, kinds 1 and 6 as number 0, withdrawn as absent, a coupon tenfold

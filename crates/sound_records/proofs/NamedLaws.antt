@@ -3,10 +3,10 @@
 use Prim.Native.Nat.{ℕ, _+_, _-_, _≤_}
 use native.Mathlib.Omega.{arith}
 use mathlib.Core.Path.{_≡_, refl, sym, subst, _∙_}
-use mathlib.Core.Bool.{Bool, true, false, cond, not, _||_, _&&_, true≢false}
+use mathlib.Core.Bool.{Bool, true, false, _||_, _&&_, true≢false}
 use mathlib.Core.List.{List}
 use borrow.Author.Tests.{ltb-false, le-ltb, eqb-true, eqb-false, eq-eqb, ne-eqb}
-use lib.Dec.{ltb, eqb}
+use lib.Dec.{eqb}
 use lib.ListN.{length, getD}
 use Rattle.lists.proofs.TestLaws.{and-false}
 use Rattle.schedule.specs.Cells.{firstCell}
@@ -18,7 +18,7 @@ use Rattle.record_kinds.specs.Kinds.{cellKind, flatRatesKind, tiersKind, ratePa
 use Rattle.records.specs.declared.Item.the-variants.{Cell}
 use Rattle.records.specs.Items.{recordClass, recordItem}
 use Rattle.notes.specs.Inner.Notes.{notedBefore}
-use Rattle.bodies.specs.Bodies.{valueLimit, unfitAmendment, overLimit}
+use Rattle.bodies.specs.Bodies.{valueLimit, unfitFor, unfitAmendment, overLimit}
 use Rattle.tier_faults.specs.TierFaults.{unsoundTiers}
 use Rattle.bodies.proofs.BodyLaws.{value-within, amendment-within}
 use Rattle.faults.specs.Faults.{incomplete, pathBesideFlat, unlisted, repeated}
@@ -218,7 +218,7 @@ module _ (s : List ℕ) (at : ℕ) where
     -- what an amendment says, by its fields
     pub fit-is : {limit number state value : ℕ} → limit ≡ classLimit (cellClass (recordCell s at)) → number ≡ numberAt s (at + 6) 2 → state ≡ numberAt s (at + 8) 2
         → value ≡ numberAt s (at + 10) 8
-        → cond (eqb number 0) true (cond (eqb state 0) (ltb limit value) (cond (eqb state 1) (not (eqb value 0)) true)) ≡ unfitAmendment s at
+        → unfitFor limit number state value ≡ unfitAmendment s at
     unfolding unfitAmendment
     fit-is p q r v =
         let second : at + 2 + 4 ≡ at + 6 = omega arith in

@@ -3,6 +3,7 @@
 mod limits;
 
 use crate::limits::most_in;
+use bodies::unfit_for;
 use fields::field_within;
 use record_kinds::AMENDMENT_KIND;
 use record_kinds::FINE_COUPON_KIND;
@@ -12,9 +13,9 @@ use schedule::FIRST_CELL;
 use schedule::tables::cell_class;
 use schedule::tables::class_limit;
 ghost use mathlib.Core.Path.{_≡_};
-ghost use mathlib.Core.Bool.{true, cond, not};
+ghost use mathlib.Core.Bool.{true};
 ghost use Prim.Native.Nat.{_+_, _≤_};
-ghost use lib.Dec.{ltb, eqb};
+ghost use lib.Dec.{eqb};
 ghost use lib.ListN.{length};
 ghost use Rattle.fields.specs.Records.{recordKind};
 ghost use Rattle.record_kinds.specs.Kinds.{fineCouponKind, amendmentKind, givesCell};
@@ -78,23 +79,10 @@ fn sound_amendment(s: &[u8], at: usize) -> bool
     if limit == 0 {
         return false;
     }
-    fits(
+    !unfit_for(
         limit,
         field_within(s, at, 6, 2),
         field_within(s, at, 8, 2),
         field_within(s, at, 10, 8),
     )
-}
-
-// An amendment has a number, and a value within its limit, or it withdraws its cell and holds none.
-fn fits(limit: u64, number: u64, state: u64, value: u64) -> bool
-    ensures { λ r. ⌜ r ≡ not (cond (eqb number 0) true (cond (eqb state 0) (ltb limit value) (cond (eqb state 1) (not (eqb value 0)) true))) ⌝ }
-{
-    if number == 0 {
-        return false;
-    }
-    if state == 0 {
-        return value <= limit;
-    }
-    (state == 1) & (value == 0)
 }

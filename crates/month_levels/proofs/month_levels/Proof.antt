@@ -2,7 +2,7 @@
 use Prim.Native.Nat.{ℕ, _-_, _≤_}
 use mathlib.Core.Path.{_≡_, ap, _∙_}
 use native.Mathlib.Omega.{arith}
-use Rattle.schedule.specs.Shift.{shiftedRate}
+use Rattle.schedule.specs.Shift.{shiftedRate, shiftedLimit}
 use Rattle.schedule.proofs.ShiftLaws.{shifted-rate-le}
 use Rattle.withdrawal.specs.Inner.Incentives.{incentiveFrom}
 use Rattle.withdrawal.proofs.IncentiveLaws.{incentive-small}
@@ -38,7 +38,7 @@ shifted-requires : tie.Need-shifted-requires Inv-loop μ-loop
 shifted-requires c κs = tt
 
 -- the shifted rate is within its limit
-rate-le : (c : tie.After-shifted Inv-loop μ-loop) → c .shifted .result ≤ 2800
+rate-le : (c : tie.After-shifted Inv-loop μ-loop) → c .shifted .result ≤ shiftedLimit
 rate-le c =
     rw (c .shifted .ensures, c .before .new .ensures)
     (shifted-rate-le _ _ (omega arith) (c .before .before .before .before .pre .2))

@@ -67,8 +67,8 @@ field-within-requires-4 c κs = search needs
 field-within-requires-5 : tie.Need-field-within-requires-5
 field-within-requires-5 c κs = search needs
 
-fits-requires : tie.Need-fits-requires
-fits-requires c κs = search needs
+unfit-for-requires : tie.Need-unfit-for-requires
+unfit-for-requires c κs = search needs
 
 returns-4 : tie.Need-returns-4
 returns-4 c =
@@ -86,9 +86,9 @@ returns-4 c =
       within = omega (arith, start .pre .0, size .before .before .if1 .left);
       sized = sym (size-is (size .before)) ∙ size .if2 .left;
       listed = limit-class _ _ amends (λ z. known .if3 .left (limit-is limit ∙ z));
-      fit = sym is ∙ not-true _ (sym (c .fits2 .ensures) ∙ e);
+      fit = sym is ∙ (sym (c .unfit-for .ensures) ∙ not-true _ e);
     })
-    (λ t. c .fits2 .ensures ∙ ap not (is ∙ told-amendment _ _ amends t .fit))
+    (λ t. ap not (c .unfit-for .ensures ∙ (is ∙ told-amendment _ _ amends t .fit)))
 
 pub sound-amendment-spec : {M : Type 1} → statement M
 sound-amendment-spec =
@@ -105,5 +105,5 @@ sound-amendment-spec =
     field-within-requires-3
     field-within-requires-4
     field-within-requires-5
-    fits-requires
+    unfit-for-requires
     returns-4)
