@@ -1,19 +1,19 @@
 // What is printed of a book. The input has the length of a filing, 8 bytes, the filing, and the calls.
+use crate::arith::add;
+use crate::arith::chosen;
+use crate::book_calls::ACTION;
+use crate::book_calls::PLACE;
+use crate::book_calls::balance_total;
+use crate::book_calls::field;
+use crate::book_calls::held;
+use crate::book_calls::is_refused;
+use crate::bytes::number;
 use crate::figures::print_bounds;
 use crate::figures::print_part;
 use crate::figures::print_totals;
 use crate::lines::print_answer;
 use crate::lines::print_line;
-use second_numbers::arith::add;
-use second_numbers::arith::chosen;
-use second_numbers::bytes::number;
-use second_valuation::book::ACTION;
-use second_valuation::book::PLACE;
-use second_valuation::book::balance_total;
-use second_valuation::book::field;
-use second_valuation::book::held;
-use second_valuation::book::is_refused;
-use second_valuation::refusals::refusal_of;
+use crate::refusals::refusal_of;
 
 // Opens the book of an input and keeps it; nothing for an input that is cut short.
 pub fn print_book(s: &[u8], survivals: &[u64]) {
@@ -53,7 +53,7 @@ fn print_call(filing: &[u8], calls: &[u8], survivals: &[u64], k: u64) {
             print_bounds(filing, survivals, part);
         }
         _ => {
-            print_line(b"balance", balance_total(calls, count));
+            print_line(b"balance", &[balance_total(calls, count)]);
             print_totals(filing, survivals, b"total ", calls, count);
         }
     }

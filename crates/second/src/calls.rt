@@ -1,5 +1,7 @@
 // The calls by their numbers.
+use crate::arith::chosen;
 use crate::book::print_book;
+use crate::bytes::number;
 use crate::certificates::print_certificates;
 use crate::filings::NUMBERS;
 use crate::filings::PLACES;
@@ -7,8 +9,6 @@ use crate::filings::print_list;
 use crate::filings::print_listing;
 use crate::lines::print_line;
 use crate::searches::print_search;
-use second_numbers::arith::chosen;
-use second_numbers::bytes::number;
 
 // Call 0 values and splits a filing; call 1 prints its listing; call 2 searches a tier; call 3 makes
 // cells of certificates; call 4 keeps a book. The head has the call's number, the length of its list
@@ -26,6 +26,6 @@ pub fn print_call(s: &[u8], survivals: &[u64], head: &[u8]) {
         2 => print_search(s, survivals),
         3 => print_certificates(s),
         4 => print_book(s, survivals),
-        _ => print_line(b"no call", call),
+        _ => print_line(b"no call", &[call]),
     }
 }

@@ -1,11 +1,10 @@
 // What is printed of certificates.
+use crate::arith::LARGEST;
 use crate::lines::print_answer;
 use crate::lines::print_line;
-use crate::lines::print_pair;
-use second_certificates::cell_count;
-use second_certificates::cell_value;
-use second_certificates::sums_of;
-use second_numbers::arith::LARGEST;
+use crate::sums::cell_count;
+use crate::sums::cell_value;
+use crate::sums::sums_of;
 
 // The answer, and the cells with their values; none on a refusal.
 pub fn print_certificates(s: &[u8]) {
@@ -15,17 +14,17 @@ pub fn print_certificates(s: &[u8]) {
         let list = sums.list;
         print_cells(&list);
     } else {
-        print_line(b"cells", 0);
+        print_line(b"cells", &[0]);
     }
 }
 
 // How many cells there are, and each.
 fn print_cells(sums: &[u64]) {
-    print_line(b"cells", cell_count(sums));
+    print_line(b"cells", &[cell_count(sums)]);
     for cell in 601..646 {
         let value = cell_value(sums, cell);
         if value != LARGEST {
-            print_pair(b"cell", cell, value);
+            print_line(b"cell", &[cell, value]);
         }
     }
 }

@@ -1,9 +1,9 @@
 // The entries of standard input. An entry is the number of a call, the length of its list of
 // numbers, that of its list of places and that of its input, 4 bytes each, and the input.
+use crate::bytes::number;
 use crate::calls::print_call;
 use crate::lines::print_line;
 use libc::STDIN_FILENO;
-use second_numbers::bytes::number;
 
 // Prints entry i; false where there is none.
 pub fn print_entry(survivals: &[u64], i: u64) -> bool {
@@ -11,7 +11,7 @@ pub fn print_entry(survivals: &[u64], i: u64) -> bool {
     if io::read_full(STDIN_FILENO, &mut head) < 16 {
         return false;
     }
-    print_line(b"entry", i);
+    print_line(b"entry", &[i]);
     let mut room = [0u8; 65537];
     print_input(&mut room, survivals, &head);
     true

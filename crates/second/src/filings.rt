@@ -1,16 +1,15 @@
 // What is printed of a filing: its values, its sub-balances and its listing.
+use crate::arith::chosen;
+use crate::arith::sub;
 use crate::figures::print_bounds;
 use crate::figures::print_part;
 use crate::figures::print_totals;
 use crate::lines::print;
 use crate::lines::print_answer;
-use crate::lines::print_last;
-use crate::lines::print_number;
-use crate::lines::print_pair;
-use second_numbers::arith::chosen;
-use second_numbers::arith::sub;
-use second_valuation::refusals::refusal_of;
-use second_valuation::shares::sub_balance;
+use crate::lines::print_line;
+use crate::lines::print_numbers;
+use crate::refusals::refusal_of;
+use crate::shares::sub_balance;
 
 // How many numbers the values of a filing are, and how many places its sub-balances.
 pub const NUMBERS: u64 = 568;
@@ -18,7 +17,8 @@ pub const NUMBERS: u64 = 568;
 pub const PLACES: u64 = 36;
 
 // Values a filing, with a list of `length` numbers of which NUMBERS are needed, or splits it, with a
-// list of `length` places of which PLACES are needed; what is left of the list stands last.
+// list of `length` places of which PLACES are needed. The rest stands last: how many places of the list
+// are past the written ones, and how many of these are as they were.
 pub fn print_list(s: &[u8], survivals: &[u64], length: u64, needed: u64) {
     let refusal = refusal_of(s, length, needed);
     print_answer(refusal.number, refusal.place);
@@ -29,7 +29,7 @@ pub fn print_list(s: &[u8], survivals: &[u64], length: u64, needed: u64) {
         _ => {}
     }
     let rest = sub(length, written);
-    print_pair(b"rest", rest, rest);
+    print_line(b"rest", &[rest, rest]);
 }
 
 // The listing of up to 65,536 bytes.
@@ -40,7 +40,7 @@ pub fn print_listing(s: &[u8], survivals: &[u64]) {
     } else if refusal.number == 0 {
         print_totals(s, survivals, b"", s, 0);
     } else {
-        print_pair(b"refused", refusal.number, refusal.place);
+        print_line(b"refused", &[refusal.number, refusal.place]);
     }
 }
 
@@ -49,9 +49,7 @@ fn print_values(s: &[u8], survivals: &[u64]) {
     for place in 0..36 {
         let part = sub_balance(s, place);
         if part.balance != 0 {
-            print(b"value");
-            print_number(place);
-            print_number(part.balance);
+            print_numbers(b"value", &[place, part.balance]);
             print_bounds(s, survivals, part);
         }
     }
@@ -65,7 +63,7 @@ fn print_shares(s: &[u8]) {
         let part = sub_balance(s, place);
         if part.balance | part.coupon | part.months | part.penalty != 0 {
             print_part(b"share", place, part);
-            print_last(14);
+            print_line(b"", &[14]);
         }
     }
 }

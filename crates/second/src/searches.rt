@@ -1,13 +1,12 @@
 // What is printed of a search for a tier. The input has what is earned, what is lost and the cost,
 // 8 bytes each, and a filing, whose tiers are searched.
+use crate::bytes::number;
+use crate::cells::entry;
 use crate::lines::print;
 use crate::lines::print_answer;
-use crate::lines::print_last;
-use crate::lines::print_number;
-use second_numbers::bytes::number;
-use second_numbers::cells::entry;
-use second_valuation::refusals::refusal_of;
-use second_valuation::withdrawals::reached_tier;
+use crate::lines::print_line;
+use crate::refusals::refusal_of;
+use crate::withdrawals::reached_tier;
 
 // The largest parts of a gain, and the largest cost, that are searched with.
 const MOST_GAIN: u64 = 10000000000000000;
@@ -37,9 +36,7 @@ fn print_found(s: &[u8], survivals: &[u64], earned: u64, lost: u64, cost: u64) {
         print(b"too large\n");
     } else {
         let tier = reached_tier(s, earned, lost, cost);
-        print(b"tier");
-        print_number(tier.withdrawal);
-        print_number(entry(survivals, tier.withdrawal));
-        print_last(tier.edges);
+        let survival = entry(survivals, tier.withdrawal);
+        print_line(b"tier", &[tier.withdrawal, survival, tier.edges]);
     }
 }

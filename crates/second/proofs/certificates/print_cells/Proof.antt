@@ -12,4 +12,4 @@ abbrev μ-loop : tie.MeasureT-loop
 
 pub print-cells-spec : {M : Type 1} → statement M
 print-cells-spec =
-    tie.close (tie.spec Inv-loop μ-loop (λ c. search needs) (λ c κs. tt) (λ c κs. tt) (λ c. tt) (λ c κs. tt) (λ c. search needs) (λ c κs. tt) (λ c. search needs) (λ c. search needs) (λ c. tt) (λ c. tt))
+    tie.close (tie.spec Inv-loop μ-loop (λ c. search needs) (λ c κs. tt) (λ c. search needs) (λ c κs. tt) (λ c. tt) (λ c κs. tt) (λ c. search needs) (λ c. search needs) (λ c κs. tt) (λ c. search needs) (λ c. search needs) (λ c. tt) (λ c. tt))

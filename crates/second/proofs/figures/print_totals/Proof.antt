@@ -5,11 +5,11 @@ use Rattle.second.proofs.figures.print_totals.Statement.{statement}
 use Rattle.second.proofs.figures.print_totals.Tie as tie
 
 abbrev Inv-loop : tie.InvT-loop
-Inv-loop s survivals name calls count scenario₀ scenario = Unit {0}
+Inv-loop s survivals name calls count scenario₀ t7 scenario = Unit {0}
 
 abbrev μ-loop : tie.MeasureT-loop
-μ-loop s survivals name calls count scenario₀ scenario = 7 - scenario
+μ-loop s survivals name calls count scenario₀ t7 scenario = 7 - scenario
 
 pub print-totals-spec : {M : Type 1} → statement M
 print-totals-spec =
-    tie.close (tie.spec Inv-loop μ-loop (λ c. tt) (λ c κs. tt) (λ c κs. tt) (λ c κs. tt) (λ c κs. tt) (λ c κs. tt) (λ c κs. tt) (λ c κs. tt) (λ c κs. tt) (λ c κs. tt) (λ c κs. tt) (λ c. search needs) (λ c. search needs) (λ c. tt) (λ c. tt))
+    tie.close (tie.spec Inv-loop μ-loop (λ c. tt) (λ c κs. tt) (λ c κs. tt) (λ c. search needs) (λ c κs. tt) (λ c. search needs) (λ c κs. tt) (λ c. search needs) (λ c. search needs) (λ c. tt) (λ c. tt))

@@ -5,11 +5,11 @@ use Rattle.second.proofs.filings.print_shares.Statement.{statement}
 use Rattle.second.proofs.filings.print_shares.Tie as tie
 
 abbrev Inv-loop : tie.InvT-loop
-Inv-loop s place₀ t4 place = Unit {0}
+Inv-loop s place₀ t4 t5 t6 place = Unit {0}
 
 abbrev μ-loop : tie.MeasureT-loop
-μ-loop s place₀ t4 place = 36 - place
+μ-loop s place₀ t4 t5 t6 place = 36 - place
 
 pub print-shares-spec : {M : Type 1} → statement M
 print-shares-spec =
-    tie.close (tie.spec Inv-loop μ-loop (λ c. tt) (λ c κs. tt) (λ c. search needs) (λ c κs. tt) (λ c κs. tt) (λ c. search needs) (λ c. search needs) (λ c. tt) (λ c. tt))
+    tie.close (tie.spec Inv-loop μ-loop (λ c. tt) (λ c κs. tt) (λ c. search needs) (λ c κs. tt) (λ c. search needs) (λ c. search needs) (λ c κs. tt) (λ c. search needs) (λ c. search needs) (λ c. tt) (λ c. tt))
