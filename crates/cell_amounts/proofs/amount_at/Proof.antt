@@ -34,10 +34,14 @@ record-cell-requires c κs = search needs
 cell-class-requires : tie.Need-cell-class-requires
 cell-class-requires c κs = search needs
 
--- a coupon in hundredths, and its limit
+-- where a coupon in hundredths was read
+abbrev start-of : tie.Then3 → tie.Start
+start-of c = c .before .before .before .before .before .before .before .before
+
+-- such a coupon, and its limit
 tenfold : (c : tie.Then3)
     → 10 * c .before .before .before .before .before .filed-value .result
-    ≡ amountAt (c .before .before .before .before .before .before .before .before .args .s .now) (c .before .before .before .before .before .before .before .before .args .at)
+    ≡ amountAt (start-of c .args .s .now) (start-of c .args .at)
 unfolding amountAt
 tenfold c =
     let at-cell = c .before .before in
@@ -51,14 +55,14 @@ tenfold c =
     (simp (ne-eqb _ fineCouponKind (at-cell .before .if2 .left), eq-eqb _ couponClass (c .if3 .taken)))
 
 limit : (c : tie.Then3)
-    → heldLimit (cellClass (recordCell (c .before .before .before .before .before .before .before .before .args .s .now) (c .before .before .before .before .before .before .before .before .args .at)))
+    → heldLimit (cellClass (recordCell (start-of c .args .s .now) (start-of c .args .at)))
     ≡ couponLimit
 unfolding heldLimit
 limit c =
     rw (← c .before .before .record-cell .ensures, ← c .before .cell-class .ensures) (simp (eq-eqb _ couponClass (c .if3 .taken)))
 
 mul-result : tie.Need-mul-result
-mul-result c = omega (arith, tenfold c, limit c, c .before .before .before .before .before .before .before .before .pre)
+mul-result c = omega (arith, tenfold c, limit c, start-of c .pre)
 
 returns-3 : tie.Need-returns-3
 returns-3 c = tenfold c

@@ -30,14 +30,24 @@ enum-told : tie.Need-enum-told Inv-loop μ-loop
 enum-told c = search needs
 
 returns : tie.Need-returns Inv-loop μ-loop
-returns c = let at = c .before .before .before .before .before .loop in
-    reading-fails _ _ _ (at .numbers) (at .at) (at .j) (at .inv) (c .before .before .before .before .loop-test .taken) (c .before .before .before .before .before .before .before .before .pre) (sym (c .before .before .read-number .ensures) ∙ c .enum-told .given .1)
+returns c =
+    let turn = c .before .before .before .before in
+    let at = turn .before .loop in
+    let start = turn .before .before .before .before in
+    reading-fails _ _ _ (at .numbers) (at .at) (at .j) (at .inv) (turn .loop-test .taken) (start .pre)
+    (sym (c .before .before .read-number .ensures) ∙ c .enum-told .given .1)
 
 mul-numbers : tie.Need-mul-numbers Inv-loop μ-loop
-mul-numbers c = omega (arith, c .before .before .before .before .before .loop-test .taken, c .before .before .before .before .before .before .before .before .before .pre)
+mul-numbers c =
+    let turn = c .before .before .before .before .before in
+    let start = turn .before .before .before .before in
+    omega (arith, turn .loop-test .taken, start .pre)
 
 array-write-numbers : tie.Need-array-write-numbers Inv-loop μ-loop
-array-write-numbers c = omega (arith, c .before .before .before .before .before .loop-test .taken, c .before .before .before .before .before .before .before .before .before .pre)
+array-write-numbers c =
+    let turn = c .before .before .before .before .before in
+    let start = turn .before .before .before .before in
+    omega (arith, turn .loop-test .taken, start .pre)
 
 add-j : tie.Need-add-j Inv-loop μ-loop
 add-j c = omega (arith, c .before .before .before .before .before .loop-test .taken)
@@ -46,8 +56,12 @@ loop-less : tie.Need-loop-less Inv-loop μ-loop
 loop-less c = omega (arith, c .before .before .before .before .before .loop-test .taken)
 
 loop-again : tie.Need-loop-again Inv-loop μ-loop
-loop-again c = let at = c .before .before .before .before .before .before .loop in
-    reading-next _ _ _ (at .numbers) (at .at) (at .j) (at .inv) (c .before .before .before .before .before .loop-test .taken) (c .before .before .before .before .before .before .before .before .before .pre) _ _ (sym (c .before .before .before .read-number .ensures) ∙ c .before .value .given .1)
+loop-again c =
+    let turn = c .before .before .before .before .before in
+    let at = turn .before .loop in
+    let start = turn .before .before .before .before in
+    reading-next _ _ _ (at .numbers) (at .at) (at .j) (at .inv) (turn .loop-test .taken) (start .pre) _ _
+    (sym (c .before .before .before .read-number .ensures) ∙ c .before .value .given .1)
 
 returns-2 : tie.Need-returns-2 Inv-loop μ-loop
 returns-2 c = let at = c .before .loop in

@@ -16,21 +16,26 @@ number-end-requires c κs = search needs
 returns : tie.Need-returns
 returns c = field-none _ _ _ (rw (c .before .number-end .ensures) at (c .if1 .taken))
 
-digits-value-requires : tie.Need-digits-value-requires
-digits-value-requires c κs = let some : c .before .before .before .args .at < numberEnd (c .before .before .before .args .text .now) (c .before .before .before .args .at) = rw (c .before .number-end .ensures) at (c .if1 .left) in
-    let end = number-end-le _ _ some in
-    (omega (arith, c .if1 .left), rw (c .before .number-end .ensures) end)
+-- where the text is read from
+abbrev start-of : tie.Else1 → tie.Start
+start-of c = c .before .before .before
 
--- digits stand there, and their value is what was read
-begun : (c : tie.Else1) → c .before .before .before .args .at < numberEnd (c .before .before .before .args .text .now) (c .before .before .before .args .at)
+-- digits stand there
+begun : (c : tie.Else1) → start-of c .args .at < numberEnd (start-of c .args .text .now) (start-of c .args .at)
 begun c = rw (c .before .number-end .ensures) at (c .if1 .left)
 
+digits-value-requires : tie.Need-digits-value-requires
+digits-value-requires c κs =
+    let end = number-end-le _ _ (begun c) in
+    (omega (arith, c .if1 .left), rw (c .before .number-end .ensures) end)
+
+-- their value is what was read
 digits-are : (c : tie.After-digits-value)
-    → wholeOf (c .before .before .before .before .args .text .now) (c .before .before .before .before .args .at)
-    (numberEnd (c .before .before .before .before .args .text .now) (c .before .before .before .before .args .at))
+    → wholeOf (start-of (c .before) .args .text .now) (start-of (c .before) .args .at) (numberEnd (start-of (c .before) .args .text .now) (start-of (c .before) .args .at))
     ≡ c .digits-value .result
 digits-are c =
-    sym (c .digits-value .ensures ∙ ap (wholeOf (c .before .before .before .before .args .text .now) (c .before .before .before .before .args .at)) (c .before .before .number-end .ensures))
+    let start = start-of (c .before) in
+    sym (c .digits-value .ensures ∙ ap (wholeOf (start .args .text .now) (start .args .at)) (c .before .before .number-end .ensures))
 
 enum-known-value : tie.Need-enum-known-value
 enum-known-value c = search needs
@@ -45,16 +50,25 @@ byte-at-requires : tie.Need-byte-at-requires
 byte-at-requires c κs = search needs
 
 returns-3 : tie.Need-returns-3
-returns-3 c = field-other _ _ _ (λ e. c .if2 .taken (c .before .byte-at .ensures ∙ ap (byteAt (c .before .before .before .before .before .before .before .before .before .args .text .now)) (c .before .before .before .before .before .before .before .number-end .ensures) ∙ e))
+returns-3 c =
+    let digits = c .before .before .before .before .before .before in
+    let text = start-of digits .args .text .now in
+    field-other _ _ _ (λ e. c .if2 .taken (c .before .byte-at .ensures ∙ ap (byteAt text) (digits .before .number-end .ensures) ∙ e))
 
 add-t9 : tie.Need-add-t9
-add-t9 c = omega (arith, number-end-le _ _ (begun (c .before .before .before .before .before .before)), c .before .before .before .before .before .before .before .number-end .ensures)
+add-t9 c =
+    let digits = c .before .before .before .before .before .before in
+    omega (arith, number-end-le _ _ (begun digits), digits .before .number-end .ensures)
 
 returns-4 : tie.Need-returns-4
-returns-4 c = let end = c .before .before .before .before .before .before .before .number-end .ensures in
+returns-4 c =
+    let value = c .before .before .before in
+    let digits = value .before .before .before in
+    let text = start-of digits .args .text .now in
+    let end = digits .before .number-end .ensures in
     rw end
-    (field-read _ _ _ _ (begun (c .before .before .before .before .before .before)) (digits-are (c .before .before .before .before .before) ∙ c .before .before .before .value .given .1)
-    (sym (ap (byteAt (c .before .before .before .before .before .before .before .before .before .args .text .now)) end) ∙ sym (c .before .byte-at .ensures) ∙ c .if2 .left))
+    (field-read _ _ _ _ (begun digits) (digits-are (value .before .before) ∙ value .value .given .1)
+    (sym (ap (byteAt text) end) ∙ sym (c .before .byte-at .ensures) ∙ c .if2 .left))
 
 pub read-number-spec : {M : Type 1} → statement M
 read-number-spec =
