@@ -9,7 +9,7 @@ ghost use lib.ListN.{replicate};
 ghost use Rattle.schedule.specs.Limits.{monthsLimit};
 ghost use Rattle.pricing.specs.Rounding.{down, up, roundingOf};
 ghost use Rattle.discount_factors.specs.Inner.Factors.{factorsBy, WithinRates, AtMostPar};
-ghost use Rattle.discounts.specs.Inner.Tables.{HoldsFactors};
+ghost use Rattle.discounts.specs.Inner.Tables.{HoldsFactors, SameBehind};
 
 // Multipliers of the factors, in their entries.
 pub type MultiplierTable = [u64; 840];
@@ -22,7 +22,8 @@ pub fn discount_tables(
     upper: &mut MultiplierTable,
 )
     requires { ⌜ WithinRates (now yields) × (longest ≤ monthsLimit) × (now lower ≡ replicate 840 0) × (now upper ≡ replicate 840 0) ⌝ }
-    ensures { λ _. ⌜ HoldsFactors down longest (factorsBy down (now (yields .entry)) longest) (now (lower .exit)) × HoldsFactors up longest (factorsBy up (now (yields .entry)) longest) (now (upper .exit)) ⌝ }
+    ensures { λ _. ⌜ HoldsFactors down longest (factorsBy down (now (yields .entry)) longest) (now (lower .exit)) × HoldsFactors up longest (factorsBy up (now (yields .entry)) longest) (now (upper .exit))
+        × SameBehind longest (factorsBy down (now (yields .entry)) longest) (now (lower .exit)) × SameBehind longest (factorsBy up (now (yields .entry)) longest) (now (upper .exit)) ⌝ }
 {
     fill_factors(yields, longest, lower, upper);
     to_multipliers(lower, longest, false);
@@ -33,7 +34,7 @@ pub fn discount_tables(
 // slice the table is known to have its 840 entries.
 pub fn to_multipliers(table: &mut FactorTable, months: u64, up: bool)
     requires { ⌜ AtMostPar (now table) × (months ≤ monthsLimit) ⌝ }
-    ensures { λ _. ⌜ HoldsFactors (roundingOf up) months (now (table .entry)) (now (table .exit)) ⌝ }
+    ensures { λ _. ⌜ HoldsFactors (roundingOf up) months (now (table .entry)) (now (table .exit)) × SameBehind months (now (table .entry)) (now (table .exit)) ⌝ }
 {
     let count = 7 * months as usize;
     let list: &mut [u64] = table;

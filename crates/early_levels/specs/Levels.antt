@@ -27,6 +27,10 @@ abbrev pub Levelled : Bool → ℕ → ℕ → ℕ → ℕ → List ℕ → List
 Levelled brokered coupon penalty months count edges rates column levels =
     (month : ℕ) → suc month < months → MonthLevelled brokered coupon penalty months count edges rates column month (getD levels month [])
 
+-- the room from the last month on is as it was
+abbrev pub LeftBehind : ℕ → List (List ℕ) → List (List ℕ) → Type 0
+LeftBehind months before after = (month : ℕ) → months ≤ suc month → getD after month [] ≡ getD before month []
+
 -- the multipliers of a level, by growth, servicing cost and the survivals of the tiers
 unfoldable pub multipliersAt : Bool → ℕ → ℕ → ℕ → List ℕ → ℕ → ℕ → MonthMultipliers
 multipliersAt brokered growth servicing count survivals retained level = multipliersOf growth servicing (levelSurvival brokered count survivals retained level)
@@ -41,3 +45,8 @@ abbrev pub Multiplied : Bool → ℕ → ℕ → ℕ → List ℕ → ℕ → Li
 Multiplied brokered growth servicing count survivals retained paid left carried whole =
     (level : ℕ) → level ≤ lastLevel brokered count
     → heldAt paid left carried whole level ≡ multipliersAt brokered growth servicing count survivals retained level
+
+-- past them the arrays hold nothing
+abbrev pub NothingPast : ℕ → List ℕ → List ℕ → List ℕ → List Bool → Type 0
+NothingPast last paid left carried whole =
+    (level : ℕ) → last < level → heldAt paid left carried whole level ≡ record { paid = 0; left = 0; carried = 0; whole = false }

@@ -13,14 +13,14 @@ ghost use mathlib.Core.Bool.{false};
 ghost use lib.ListN.{getD, replicate};
 ghost use Rattle.schedule.specs.Limits.{couponLimit, penaltyLimit, monthsLimit, rateLimit, tierLimit};
 ghost use Rattle.pricing.specs.Scales.{par, growthLimit, servicingLimit};
-ghost use Rattle.month_levels.specs.Levels.{EdgesFit, levelSurvival};
-ghost use Rattle.early_levels.specs.Levels.{Levelled, Multiplied};
+ghost use Rattle.month_levels.specs.Levels.{EdgesFit, lastLevel, levelSurvival};
+ghost use Rattle.early_levels.specs.Levels.{Levelled, LeftBehind, Multiplied, NothingPast};
 
 // Seven levels for each month: the highest scenario's first.
 pub type Levels = [[u8; 7]; MONTHS];
 
 // Writes the levels of all months but the last, at the retail rates of a column, 1 to 3, which are not shifted. As a slice the room is known to have 120
-// months; what stood in it is of no account.
+// months; behind them it is left as it was.
 pub fn early_levels(
     brokered: bool,
     coupon: u64,
@@ -34,7 +34,8 @@ pub fn early_levels(
 )
     requires { ⌜ (coupon ≤ couponLimit) × (penalty ≤ penaltyLimit) × (months ≤ monthsLimit) × EdgesFit count (now edges) ⌝ }
     requires { ⌜ ((i : ℕ) → getD (now rates) i 0 ≤ rateLimit) × (1 ≤ column) × (column ≤ 3) ⌝ }
-    ensures { λ _. ⌜ Levelled brokered coupon penalty months count (now (edges .entry)) (now (rates .entry)) column (now (levels .exit)) ⌝ }
+    ensures { λ _. ⌜ Levelled brokered coupon penalty months count (now (edges .entry)) (now (rates .entry)) column (now (levels .exit))
+        × LeftBehind months (now (levels .entry)) (now (levels .exit)) ⌝ }
 {
     let parts = coupon_parts(coupon, penalty);
     let list: &mut [[u8; 7]] = levels;
@@ -62,7 +63,8 @@ pub fn level_multipliers(
 )
     requires { ⌜ (growth ≤ growthLimit) × (servicing ≤ servicingLimit) × (count ≤ tierLimit) × ((i : ℕ) → levelSurvival brokered count (now survivals) retained i ≤ par) ⌝ }
     requires { ⌜ (now paid ≡ replicate 17 0) × (now left ≡ replicate 17 0) × (now carried ≡ replicate 17 0) × (now whole ≡ replicate 17 false) ⌝ }
-    ensures { λ _. ⌜ Multiplied brokered growth servicing count (now (survivals .entry)) retained (now (paid .exit)) (now (left .exit)) (now (carried .exit)) (now (whole .exit)) ⌝ }
+    ensures { λ _. ⌜ Multiplied brokered growth servicing count (now (survivals .entry)) retained (now (paid .exit)) (now (left .exit)) (now (carried .exit)) (now (whole .exit))
+        × NothingPast (lastLevel brokered count) (now (paid .exit)) (now (left .exit)) (now (carried .exit)) (now (whole .exit)) ⌝ }
 {
     let last = last_level(brokered, count);
     let mut i: usize = 0;

@@ -50,8 +50,8 @@ held-values-requires c κs =
       (
         (l .rates-le, tiers .tiers-of .ensures .1),
         λ pos. (
-          lower-discounting (a .lower .now) _ (a .held .«remaining_months») (below .to-multipliers .ensures) (l .lower-le),
-          upper-discounting (a .upper .now) _ (a .held .«remaining_months») (above .to-multipliers2 .ensures) (l .upper-le) (λ i h. l .upper-pos i (omega (arith, h, months))),
+          lower-discounting (a .lower .now) _ (a .held .«remaining_months») (below .to-multipliers .ensures .0) (l .lower-le),
+          upper-discounting (a .upper .now) _ (a .held .«remaining_months») (above .to-multipliers2 .ensures .0) (l .upper-le) (λ i h. l .upper-pos i (omega (arith, h, months))),
         ),
       ),
     )
@@ -65,7 +65,7 @@ returns-2 c =
     let test = tiers .before in
     let a = test .before .before .args in
     c .held-values .ensures
-    ∙ held-by (a .place) (a .held) (a .rates .now) _ (a .lower .now) (a .upper .now) _ _ (λ pos. (below .to-multipliers .ensures, above .to-multipliers2 .ensures))
+    ∙ held-by (a .place) (a .held) (a .rates .now) _ (a .lower .now) (a .upper .now) _ _ (λ pos. (below .to-multipliers .ensures .0, above .to-multipliers2 .ensures .0))
     ∙ rw (tiers .tiers-of .ensures .0, ← test .before .usable .ensures, not-false (test .before .usable .result) (test .if1 .left))
 
 pub values-in-spec : {M : Type 1} → statement M

@@ -25,8 +25,10 @@ unfolding roundingOf
 returns c =
     let lower = c .before .before in
     let factors = lower .before .before in (
-      rw (factors .fill-factors .ensures .0) at (lower .to-multipliers .ensures),
-      rw (factors .fill-factors .ensures .1) at (c .to-multipliers2 .ensures),
+      rw (factors .fill-factors .ensures .0) at (lower .to-multipliers .ensures .0),
+      rw (factors .fill-factors .ensures .1) at (c .to-multipliers2 .ensures .0),
+      rw (factors .fill-factors .ensures .0) at (lower .to-multipliers .ensures .1),
+      rw (factors .fill-factors .ensures .1) at (c .to-multipliers2 .ensures .1),
     )
 
 pub discount-tables-spec : {M : Type 1} → statement M

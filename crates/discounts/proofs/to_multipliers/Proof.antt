@@ -56,7 +56,11 @@ loop-again c =
     )
 
 returns : tie.Need-returns Inv-loop μ-loop
-returns c i h = c .before .loop .inv .1 .holds i (omega (arith, c .loop-test .left, h))
+returns c =
+    let at = c .before in (
+      λ i h. at .loop .inv .1 .holds i (omega (arith, c .loop-test .left, h)),
+      λ i h. at .loop .inv .2 i (omega (arith, at .loop .inv .0, h)),
+    )
 
 pub to-multipliers-spec : {M : Type 1} → statement M
 to-multipliers-spec =

@@ -13,6 +13,10 @@ use Rattle.month_multipliers.specs.Multipliers.{discountMultiplier, factorOf, D
 abbrev pub HoldsFactors : Rounding → ℕ → List ℕ → List ℕ → Type 0
 HoldsFactors ρ months factors discounts = (i : ℕ) → i < scenarioCount * months → getD discounts i 0 ≡ discountMultiplier ρ (getD factors i 0)
 
+-- behind some months a table is as a list is
+abbrev pub SameBehind : ℕ → List ℕ → List ℕ → Type 0
+SameBehind months list discounts = (i : ℕ) → scenarioCount * months ≤ i → getD discounts i 0 ≡ getD list i 0
+
 -- the factors whose multipliers a table holds, over some months, billionths
 unfoldable pub factorsOf : Rounding → ℕ → List ℕ → List ℕ
 factorsOf ρ months discounts = table (scenarioCount * months) (λ (i : ℕ). factorOf ρ (getD discounts i 0))

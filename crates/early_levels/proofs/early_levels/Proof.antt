@@ -1,8 +1,11 @@
 -- `early_levels::early_levels` meets its contract: the months before t have their levels. Assumes nothing.
-use Prim.Native.Nat.{_-_, _≤_}
+use Prim.Native.Nat.{ℕ, _-_, _≤_}
+use mathlib.Core.Path.{_≡_, refl, _∙_}
 use mathlib.Core.List.{[]}
 use native.Mathlib.Numerals.{add-one}
 use native.Mathlib.Omega.{arith}
+use lib.ListN.{getD}
+use lib.Seq.{getD-set-other}
 use Rattle.withdrawal.proofs.IncentiveLaws.{parts-within}
 use Rattle.lists.proofs.FillLaws.{FilledBy, filled-start, filled-more}
 use Rattle.early_levels.specs.Levels.{MonthLevelled}
@@ -12,7 +15,8 @@ use Rattle.early_levels.proofs.early_levels.Tie as tie
 
 abbrev Inv-loop : tie.InvT-loop
 Inv-loop brokered coupon penalty months rates column count edges parts list₀ t₀ list t =
-    (t ≤ 120) × FilledBy (MonthLevelled brokered coupon penalty months count edges rates column) [] 120 t list
+    (t ≤ 120) × FilledBy (MonthLevelled brokered coupon penalty months count edges rates column) [] 120 t list × (t ≤ months - 1)
+    × ((month : ℕ) → t ≤ month → getD list month [] ≡ getD list₀ month [])
 
 abbrev μ-loop : tie.MeasureT-loop
 μ-loop brokered coupon penalty months rates column count edges parts list₀ t₀ list t = months - t
@@ -21,7 +25,7 @@ coupon-parts-requires : tie.Need-coupon-parts-requires Inv-loop μ-loop
 coupon-parts-requires c κs = (c .pre .0 .0, c .pre .0 .1)
 
 loop-holds : tie.Need-loop-holds Inv-loop μ-loop
-loop-holds c = (omega arith, filled-start _ [] _ (c .list .given .0 .1))
+loop-holds c = (omega arith, filled-start _ [] _ (c .list .given .0 .1), omega arith, λ month h. refl)
 
 add-loop : tie.Need-add-loop Inv-loop μ-loop
 add-loop c = omega arith
@@ -83,12 +87,20 @@ loop-less c = omega arith
 loop-again : tie.Need-loop-again Inv-loop μ-loop
 loop-again c =
     let at = c .before .before .before in
-    (omega arith, filled-more _ [] 120 (at .loop .t) (at .loop .list) (c .month-levels .result) (omega arith) (levelled c) (at .loop .inv .1))
+    let t = at .loop .t in
+    let seven = c .month-levels .result in (
+      omega arith,
+      filled-more _ [] 120 t (at .loop .list) seven (omega arith) (levelled c) (at .loop .inv .1),
+      omega arith,
+      λ month h. getD-set-other (at .loop .list) t month seven [] (λ e. omega (arith, e, h)) ∙ at .loop .inv .3 month (omega (arith, h)),
+    )
 
 returns : tie.Need-returns Inv-loop μ-loop
-returns c month h =
-    let at = c .before in
-    at .loop .inv .1 .holds month (omega (arith, c .loop-test .left))
+returns c =
+    let at = c .before in (
+      λ month h. at .loop .inv .1 .holds month (omega (arith, c .loop-test .left)),
+      λ month h. at .loop .inv .3 month (omega (arith, h, at .loop .inv .2)),
+    )
 
 pub early-levels-spec : {M : Type 1} → statement M
 early-levels-spec =

@@ -1,14 +1,20 @@
 -- `early_levels::level_multipliers` meets its contract: the levels before i have their multipliers. Assumes nothing.
-use Prim.Native.Nat.{ℕ, _+_, _-_, _≤_, _<_}
-use mathlib.Core.Path.{_≡_, ap}
+use Prim.Native.Nat.{ℕ, zero, suc, _+_, _-_, _≤_, _<_}
+use mathlib.Core.Path.{_≡_, refl, ap}
 use mathlib.Core.Bool.{Bool, false}
 use native.Mathlib.Omega.{arith}
+use lib.ListN.{getD, replicate}
+use lib.Seq.{getD-set-other}
 use Rattle.lists.proofs.FillLaws.{FilledBy, filled-none, filled-more}
+use Rattle.lists.proofs.TableLaws.{zeros-getD}
 use Rattle.month_levels.proofs.LevelLaws.{last-le}
 use Rattle.month_multipliers.specs.declared.MonthMultipliers.{MonthMultipliers}
-use Rattle.early_levels.specs.Levels.{multipliersAt}
+use Rattle.early_levels.specs.Levels.{multipliersAt, heldAt}
 use Rattle.early_levels.proofs.level_multipliers.Statement.{statement}
 use Rattle.early_levels.proofs.level_multipliers.Tie as tie
+
+abbrev nothing : MonthMultipliers
+nothing = record { paid = 0; left = 0; carried = 0; whole = false }
 
 abbrev Inv-loop : tie.InvT-loop
 Inv-loop brokered growth servicing count survivals retained paid₀ left₀ carried₀ whole₀ last i₀ paid left carried whole i =
@@ -17,6 +23,7 @@ Inv-loop brokered growth servicing count survivals retained paid₀ left₀ carr
     × FilledBy (λ (j n : ℕ). n ≡ multipliersAt brokered growth servicing count survivals retained j .left) 0 17 i left
     × FilledBy (λ (j n : ℕ). n ≡ multipliersAt brokered growth servicing count survivals retained j .carried) 0 17 i carried
     × FilledBy (λ (j : ℕ) (b : Bool). b ≡ multipliersAt brokered growth servicing count survivals retained j .whole) false 17 i whole
+    × ((level : ℕ) → i ≤ level → heldAt paid left carried whole level ≡ nothing)
 
 abbrev μ-loop : tie.MeasureT-loop
 μ-loop brokered growth servicing count survivals retained paid₀ left₀ carried₀ whole₀ last i₀ paid left carried whole i = last + 1 - i
@@ -27,7 +34,15 @@ last-level-requires c κs = tt
 loop-holds : tie.Need-loop-holds Inv-loop μ-loop
 loop-holds c =
     let zeros = c .before .pre .1 in
-    rw (zeros .0, zeros .1, zeros .2, zeros .3) (omega arith, filled-none _ 0 0 17, filled-none _ 0 0 17, filled-none _ 0 0 17, filled-none _ false false 17)
+    rw (zeros .0, zeros .1, zeros .2, zeros .3) (omega arith, filled-none _ 0 0 17, filled-none _ 0 0 17, filled-none _ 0 0 17, filled-none _ false false 17, λ level h. none level)
+  where
+    false-at : (n level : ℕ) → getD (replicate n false) level false ≡ false
+    false-at zero level = refl
+    false-at (suc n) zero = refl
+    false-at (suc n) (suc level) = false-at n level
+
+    none : (level : ℕ) → heldAt (replicate 17 0) (replicate 17 0) (replicate 17 0) (replicate 17 false) level ≡ nothing
+    none level = rw (zeros-getD 17 level, false-at 17 level)
 
 level-survival-requires : tie.Need-level-survival-requires Inv-loop μ-loop
 level-survival-requires c κs = c .before .before .before .pre .0 .2
@@ -91,13 +106,23 @@ loop-again c =
           (ap (λ (m : MonthMultipliers). m .carried) (multipliers-are c)) (state .inv .3),
       filled-more _ false 17 (state .i) (state .whole) (c .multipliers-of .result .whole) (index-lt c)
           (ap (λ (m : MonthMultipliers). m .whole) (multipliers-are c)) (state .inv .4),
+      λ level h. let other : (level ≡ state .i → ⊥) = λ e. omega (arith, e, h) in
+          rw (
+            getD-set-other (state .paid) (state .i) level (c .multipliers-of .result .paid) 0 other,
+            getD-set-other (state .left) (state .i) level (c .multipliers-of .result .left) 0 other,
+            getD-set-other (state .carried) (state .i) level (c .multipliers-of .result .carried) 0 other,
+            getD-set-other (state .whole) (state .i) level (c .multipliers-of .result .whole) false other,
+          )
+          (state .inv .5 level (omega (arith, h))),
     )
 
 returns : tie.Need-returns Inv-loop μ-loop
-returns c level h =
-    let at = c .before in
-    let within : level < at .loop .i = omega (arith, c .loop-test .left, h, at .before .last-level .ensures) in
-    rw (at .loop .inv .1 .holds level within, at .loop .inv .2 .holds level within, at .loop .inv .3 .holds level within, at .loop .inv .4 .holds level within)
+returns c =
+    let at = c .before in (
+      λ level h. let within : level < at .loop .i = omega (arith, c .loop-test .left, h, at .before .last-level .ensures) in
+          rw (at .loop .inv .1 .holds level within, at .loop .inv .2 .holds level within, at .loop .inv .3 .holds level within, at .loop .inv .4 .holds level within),
+      λ level h. at .loop .inv .5 level (omega (arith, at .loop .inv .0, h, at .before .last-level .ensures)),
+    )
 
 pub level-multipliers-spec : {M : Type 1} → statement M
 level-multipliers-spec =

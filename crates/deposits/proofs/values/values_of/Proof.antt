@@ -110,11 +110,11 @@ value-bounds-requires c κs =
     let lt : test .before .loop .scenario < 7 = omega (arith, test .loop-test .taken) in (
       (limits .0, limits .1 .months-le, lt),
       (
-        priceable (lent start) (a .d) (a .rates .now) (a .column) _ _ _ _ _ (a .lower .now) (a .upper .now) _ (limits .1) (limits .3) (early .early-levels .ensures)
-            (rw (← (last .before .before .coupon-growth .ensures), ← (last .before .servicing-cost .ensures)) (m .level-multipliers .ensures)) lt
+        priceable (lent start) (a .d) (a .rates .now) (a .column) _ _ _ _ _ (a .lower .now) (a .upper .now) _ (limits .1) (limits .3) (early .early-levels .ensures .0)
+            (rw (← (last .before .before .coupon-growth .ensures), ← (last .before .servicing-cost .ensures)) (m .level-multipliers .ensures .0)) lt
             (known .1) (known .2) (known .0),
-        prices-le (lent start) (a .d) (a .rates .now) (a .column) _ _ _ _ _ (a .lower .now) (a .upper .now) _ (limits .1) (limits .3) (early .early-levels .ensures)
-            (rw (← (last .before .before .coupon-growth .ensures), ← (last .before .servicing-cost .ensures)) (m .level-multipliers .ensures)) lt
+        prices-le (lent start) (a .d) (a .rates .now) (a .column) _ _ _ _ _ (a .lower .now) (a .upper .now) _ (limits .1) (limits .3) (early .early-levels .ensures .0)
+            (rw (← (last .before .before .coupon-growth .ensures), ← (last .before .servicing-cost .ensures)) (m .level-multipliers .ensures .0)) lt
             (known .1) (known .2) (known .0),
       ),
     )
@@ -163,8 +163,8 @@ returns-2 c =
     overwritten-all _ _ _ _ (c .before .loop .inv .1) (omega arith)
     ∙ rw e
     (ap joined (table-ext 7 _ _
-    (λ s h. bounds-are (lent start) (a .d) (a .rates .now) (a .column) _ _ _ _ _ (a .lower .now) (a .upper .now) s (limits .1) (limits .3) (early .early-levels .ensures)
-    (rw (← (last .before .before .coupon-growth .ensures), ← (last .before .servicing-cost .ensures)) (m .level-multipliers .ensures)) h
+    (λ s h. bounds-are (lent start) (a .d) (a .rates .now) (a .column) _ _ _ _ _ (a .lower .now) (a .upper .now) s (limits .1) (limits .3) (early .early-levels .ensures .0)
+    (rw (← (last .before .before .coupon-growth .ensures), ← (last .before .servicing-cost .ensures)) (m .level-multipliers .ensures .0)) h
     (known .1) (known .2) (known .0) (a .balance))))
 
 pub values-of-spec : {M : Type 1} → statement M
