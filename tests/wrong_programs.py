@@ -37,12 +37,12 @@ def closed(text, start, opening, closing):
 
 def functions(text):
     """Name, first and last index of the body, of each function that has an `ensures`."""
-    for head in re.finditer(r"\bfn (\w+)\(", text):
+    for head in re.finditer(r"\bfn (\w+)(?:<[^>]*>)?\(", text):
         at = closed(text, head.end() - 1, "(", ")")
         ensures = False
         while True:
             brace = text.index("{", at)
-            clause = re.search(r"(requires|ensures)\s*$", text[at:brace])
+            clause = re.search(r"(ghost|requires|ensures)\s*$", text[at:brace])
             end = closed(text, brace, "{", "}")
             if not clause:
                 break
