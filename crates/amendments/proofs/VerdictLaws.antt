@@ -4,7 +4,7 @@ use Prim.Native.Nat.{ℕ, _≤_, _<_}
 use native.Mathlib.Nat.{le-antisymm}
 use native.Mathlib.Omega.{arith}
 use mathlib.Core.Path.{_≡_, refl, sym, ap, _∙_}
-use mathlib.Core.Bool.{Bool, true, false, cond, not, _||_}
+use mathlib.Core.Bool.{Bool, true, false, cond, not, or-true, or-false, _||_}
 use mathlib.Core.List.{List}
 use borrow.Author.Tests.{eqb-true, eqb-false, not-false, lt-ltb, le-ltb}
 use lib.Dec.{eqb}
@@ -36,19 +36,11 @@ module _ (before after : Verdict) (at : ℕ) where
   unfolding refused
   fault-or b = by (eqb (before .number) 0) refl b
     where
-      or-true : (x : Bool) → true ≡ (x || true)
-      or-true true = refl
-      or-true false = refl
-
-      or-false : (x : Bool) → x ≡ (x || false)
-      or-false true = refl
-      or-false false = refl
-
       by : (z : Bool) → eqb (before .number) 0 ≡ z → (b : Bool) → not (eqb (all b .number) 0) ≡ (not (eqb (firstRefusal before after .number) 0) || b)
-      by true e true = rw (between true (eqb-true (before .number) 0 e)) (or-true (not (eqb (firstRefusal before after .number) 0)))
+      by true e true = rw (between true (eqb-true (before .number) 0 e)) (sym (or-true (not (eqb (firstRefusal before after .number) 0))))
       by true e false =
           let zero = eqb-true (before .number) 0 e in
-          rw (between false zero, first-passed before after zero) (or-false (not (eqb (after .number) 0)))
+          rw (between false zero, first-passed before after zero) (sym (or-false (not (eqb (after .number) 0))))
       by false e b =
           let some = eqb-false (before .number) 0 e in
           rw (first-refused before (firstRefusal (refusedIf b 16 at) after) some, first-refused before after some, e)

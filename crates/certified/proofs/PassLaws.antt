@@ -2,7 +2,7 @@
 use Prim.Native.Nat.{ℕ, zero, suc, _+_, _*_, _≤_, _<_}
 use native.Mathlib.Omega.{arith}
 use mathlib.Core.Path.{_≡_, refl}
-use mathlib.Core.Bool.{Bool, true, false, not, _&&_}
+use mathlib.Core.Bool.{false, not, and-false}
 use mathlib.Core.List.{List}
 use borrow.Author.Tests.{le-ltb, eq-eqb, ne-eqb}
 use lib.Dec.{ltb, eqb}
@@ -28,10 +28,6 @@ pub record RateSheet (kind n : ℕ) : Type 0 where
   pub numbers-are : sheetKind kind .numbers ≡ n
   pub limit-is : sheetKind kind .limit ≡ rateLimit
   pub some : eqb n 0 ≡ false
-
-and-false : (b : Bool) → (b && false) ≡ false
-and-false true = refl
-and-false false = refl
 
 module _ (s : List ℕ) (at : ℕ) where
   -- no row of the table holds

@@ -1,11 +1,10 @@
 -- The sums of the columns' balances: one position more, the sum of a whole column, and its limit.
 -- Assumes nothing.
-use Prim.Native.Nat.{ℕ, zero, suc, _+_, _*_, _-_, _≤_, _<_}
+use Prim.Native.Nat.{ℕ, zero, suc, _+_, _*_, _-_, _≤_, _<_, zero-le}
 use native.Mathlib.Nat.{not-suc-le-zero}
 use native.Mathlib.Numerals.{add-one}
 use native.Mathlib.Omega.{arith}
 use mathlib.Core.Path.{_≡_, refl, ap, _∙_}
-use mathlib.Core.Bool.{Bool, true, false, cond}
 use mathlib.Core.List.{List}
 use borrow.Author.Tests.{eq-eqb, ne-eqb}
 use lib.Dec.{lit<, eqb}
@@ -13,7 +12,8 @@ use lib.ListN.{getD, set}
 use Rattle.lists.specs.Sums.{sum, sumWhere}
 use Rattle.lists.specs.Tables.{tableFrom, those}
 use Rattle.lists.proofs.EachLaws.{each-lt}
-use Rattle.lists.proofs.TableLaws.{tableFrom-getD, table-getD, table-le}
+use Rattle.lists.proofs.TableLaws.{tableFrom-getD, table-getD, table-set, table-le}
+use Rattle.lists.proofs.TestLaws.{either}
 use Rattle.schedule.specs.Cells.{position, positions, positionAt, inColumn}
 use Rattle.schedule.specs.Limits.{balanceLimit, columnLimit}
 use Rattle.column_sums.specs.Balances.{cellIn, columnBalances, balances}
@@ -33,20 +33,6 @@ unfolding positionAt positions position
 column-range =
     each-lt 9 (λ i. (1 ≤ positionAt i .column) × (positionAt i .column ≤ 3))
     (omega arith, (omega arith, (omega arith, (omega arith, (omega arith, (omega arith, (omega arith, (omega arith, (omega arith, tt)))))))))
-
--- what may be left out is no more than what bounds it
-cond-le : (b : Bool) {x y : ℕ} → x ≤ y → cond b x 0 ≤ y
-cond-le true h = h
-cond-le false h = omega arith
-
--- an entry stored in a table of three columns makes the table of a function that differs there alone
-stored-column : (f g : ℕ → ℕ) (v j : ℕ) → 1 ≤ j → j ≤ 3 → v ≡ g j → ((m : ℕ) → (j ≡ m → ⊥) → f m ≡ g m)
-    → set (tableFrom 1 3 f) (j - 1) v ≡ tableFrom 1 3 g
-unfolding tableFrom
-stored-column f g v j l u =
-    by-column (λ (m : ℕ). v ≡ g m → ((n : ℕ) → (m ≡ n → ⊥) → f n ≡ g n) → set (tableFrom 1 3 f) (m - 1) v ≡ tableFrom 1 3 g)
-    (λ e h. rw (e, h 2 (λ q. omega arith), h 3 (λ q. omega arith))) (λ e h. rw (e, h 1 (λ q. omega arith), h 3 (λ q. omega arith)))
-    (λ e h. rw (e, h 1 (λ q. omega arith), h 2 (λ q. omega arith))) j l u
 
 module _ (cells : List ℕ) where
   -- the sums of columns 1 to 3 at the positions before the i-th
@@ -86,9 +72,10 @@ module _ (cells : List ℕ) where
   unfolding sumsBefore
   balance-added i column h e =
       let range = column-range i h in
-      stored-column _ _ _ column (omega arith) (omega arith)
-      (ap (λ (n : ℕ). n + cellIn cells (positionAt i .balance)) (sum-at i i column h e) ∙ rw e (columnSum-in (positionAt i .column) i refl))
-      (λ m other. columnSum-out m i (λ q. other (e ∙ q)))
+      let at : 1 + (column - 1) ≡ positionAt i .column = omega arith in
+      table-set 1 3 _ _ (column - 1) _ (omega arith)
+      (rw at (ap (λ (n : ℕ). n + cellIn cells (positionAt i .balance)) (sum-at i i column h e) ∙ columnSum-in (positionAt i .column) i refl))
+      (λ m other. columnSum-out m i (λ q. other (at ∙ q)))
 
   -- the parts of the sums
   pub totals-are : columnSums cells .totals ≡ sumsBefore 9
@@ -121,7 +108,7 @@ module _ (cells : List ℕ) where
     unfolding columnSum sumWhere
     columnSum-limit column zero h = omega arith
     columnSum-limit column (suc i) h =
-        omega (arith, columnSum-limit column i (omega arith), cond-le (eqb (positionAt i .column) column) (within i (omega arith)))
+        omega (arith, columnSum-limit column i (omega arith), either (λ (n : ℕ). n ≤ balanceLimit) (eqb (positionAt i .column) column) (within i (omega arith)) zero-le)
 
     -- the sums over the first positions
     pub sums-limit : (i m : ℕ) → i ≤ 9 → getD (sumsBefore i) m 0 ≤ balanceLimit * i

@@ -4,12 +4,10 @@ use Prim.Native.Nat.{ℕ, zero, suc, _+_, _*_, _-_, _^_, _≤_, _<_}
 use native.Mathlib.Nat.{pow-succ', pow-le-pow-right}
 use native.Mathlib.Omega.{arith}
 use mathlib.Core.Path.{_≡_, refl}
-use mathlib.Core.Bool.{Bool, true, false}
 use mathlib.Core.List.{List}
 use mir.Syntax.{w8}
 use mir.Val.{Fits}
-use borrow.Author.Tests.{leb-true, leb-false}
-use lib.Dec.{leb, lit<}
+use lib.Dec.{lit<}
 use lib.ListN.{length, getD, List·getD-eq-default}
 use Rattle.fields.specs.Bytes.{numberAt}
 
@@ -50,13 +48,3 @@ unfolding numberAt
 number-halves s i =
     let e : i + 1 + 1 + 1 + 1 ≡ i + 4 = omega arith in
     rw e (omega arith)
-
--- tests of two orders that hold together are equal
-pub le-same : {a b c d : ℕ} → (a ≤ b → c ≤ d) → (c ≤ d → a ≤ b) → leb a b ≡ leb c d
-le-same {a} {b} {c} {d} f g = by (leb a b) (leb c d) refl refl
-  where
-    by : (t u : Bool) → leb a b ≡ t → leb c d ≡ u → t ≡ u
-    by true true p q = refl
-    by true false p q = absurd (omega (arith, f (leb-true a b p), leb-false c d q))
-    by false true p q = absurd (omega (arith, g (leb-true c d q), leb-false a b p))
-    by false false p q = refl

@@ -4,7 +4,7 @@ use Prim.Native.Nat.{ℕ, zero, suc, _+_, _≤_, _<_}
 use native.Mathlib.Nat.{le-antisymm}
 use native.Mathlib.Omega.{arith}
 use mathlib.Core.Path.{_≡_, refl, sym, _∙_}
-use mathlib.Core.Bool.{Bool, true, false, _||_}
+use mathlib.Core.Bool.{Bool, true, false, or-true, _||_}
 use mathlib.Core.List.{List}
 use borrow.Author.Tests.{leb-true, leb-false, ltb-true, ltb-false}
 use lib.Dec.{leb, ltb}
@@ -125,11 +125,7 @@ module _ (s : List ℕ) where
       first at p = rw p
 
       second : (at : ℕ) → other at ≡ true → either at ≡ true
-      second at q = rw q (all (test at))
-        where
-          all : (b : Bool) → (b || true) ≡ true
-          all true = refl
-          all false = refl
+      second at q = rw q (or-true (test at))
 
       by : (a b : Bool) → ltb d f ≡ a → ltb f end ≡ b → firstRecord s either end ≡ d
       by true b a′ b′ =

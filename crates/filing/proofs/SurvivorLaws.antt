@@ -17,6 +17,7 @@ use Rattle.fields.specs.Records.{recordKind, recordCell, amendmentState, sheetN
 use Rattle.record_kinds.specs.Kinds.{fineCouponKind, amendmentKind, tiersKind, ratePathKind, flatRatesKind}
 use Rattle.records.specs.Items.{sameItem, recordItem, firstWith}
 use Rattle.notes.specs.Counting.{itemRank, rank, countingBefore}
+use Rattle.lists.proofs.TableLaws.{tableFrom-ext}
 use Rattle.fields.proofs.RecordLaws.{first-le, first-passes}
 use Rattle.records.proofs.ItemLaws.{same-item, item-past, record-of-amendment}
 use Rattle.faults.specs.Faults.{standsBefore}
@@ -24,7 +25,6 @@ use Rattle.record_verdicts.specs.RecordVerdicts.{firstRefused, recordVerdict}
 use Rattle.record_verdicts.proofs.FaultLaws.{record-plain, faultless}
 use Rattle.faults.proofs.RepetitionLaws.{single-stands}
 use Rattle.fields.proofs.SearchLaws.{Reached}
-use Rattle.scan.proofs.NotingLaws.{table-same}
 use Rattle.fields.proofs.FirstLaws.{first-found, first-earlier, first-reached}
 use Rattle.notes.proofs.CountingLaws.{ranked-cell, counting-most, counting-holds}
 use Rattle.cell_amounts.specs.Amounts.{filedValue, amountAt}
@@ -194,10 +194,10 @@ module _ (s t : List ℕ) (u : Surviving s t) where
   unfolding contentsOf tiersAt
   survivors-say =
       rw (
-        table-same 601 61 (cellValue t) (cellValue s) (λ n l m. cell-same n),
-        table-same 1 120 (sheetNumber t (sheetOffset t 2)) (sheetNumber s (sheetOffset s 2)) (λ i l m. u .same-numbers 2 i),
-        table-same 0 rateCount (rateNumber t) (rateNumber s) (λ i l m. rate-same i),
-        table-same 0 tierLimit _ _ (λ i l m. tier-same 2 i),
-        table-same 0 tierLimit _ _ (λ i l m. tier-same 3 i),
+        tableFrom-ext 601 61 (cellValue t) (cellValue s) (λ n l m. cell-same n),
+        tableFrom-ext 1 120 (sheetNumber t (sheetOffset t 2)) (sheetNumber s (sheetOffset s 2)) (λ i l m. u .same-numbers 2 i),
+        tableFrom-ext 0 rateCount (rateNumber t) (rateNumber s) (λ i l m. rate-same i),
+        tableFrom-ext 0 tierLimit _ _ (λ i l m. tier-same 2 i),
+        tableFrom-ext 0 tierLimit _ _ (λ i l m. tier-same 3 i),
         u .same-numbers tiersKind 1,
       )

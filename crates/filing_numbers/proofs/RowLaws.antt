@@ -2,7 +2,6 @@
 use Prim.Native.Nat.{ℕ, zero, suc, _≤_, _<_, zero-le}
 use mathlib.Core.Path.{_≡_, ap}
 use mathlib.Core.Logic.{⊎-elim}
-use mathlib.Core.Bool.{Bool, true, false, cond}
 use mathlib.Core.List.{List, _∷_}
 use native.Mathlib.Nat.{le-refl, le-trans, not-suc-le-zero, le-of-suc-le-suc, le-max-left, le-max-right, max-le, eq-or-lt-of-le, ne-of-gt}
 use native.Mathlib.Omega.{arith}
@@ -10,6 +9,7 @@ use lib.Dec.{eqb}
 use lib.ListN.{getD}
 use borrow.Author.Tests.{ne-eqb}
 use Rattle.lists.proofs.TableLaws.{table-getD, joined-le}
+use Rattle.lists.proofs.TestLaws.{either}
 use Rattle.schedule.specs.Limits.{balanceLimit, monthsLimit}
 use Rattle.contents.specs.Contents.{Contents}
 use Rattle.contents.specs.Valid.{Valid}
@@ -73,11 +73,7 @@ module _ (k : Contents) where
     -- nor is the longest term above the limit of months
     term-le : (place : ℕ) → place < 36 → termOf (placeAt (k .cells) place) ≤ monthsLimit
     unfolding termOf placeAt depositAt
-    term-le place h = cond-le (eqb (balanceAt (k .cells) place) 0) (deposit-limits k v place h .months-le)
-      where
-        cond-le : (b : Bool) {n : ℕ} → n ≤ monthsLimit → cond b 0 n ≤ monthsLimit
-        cond-le true l = zero-le
-        cond-le false l = l
+    term-le place h = either (λ (n : ℕ). n ≤ monthsLimit) (eqb (balanceAt (k .cells) place) 0) zero-le (deposit-limits k v place h .months-le)
 
     pub longest-limit : longestTerm (placesOf (k .cells)) ≤ monthsLimit
     unfolding longestTerm

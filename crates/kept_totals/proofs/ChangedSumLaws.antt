@@ -1,5 +1,5 @@
 -- Laws of a sum over places of which one changes, and of a total that is moved by the difference. Assumes nothing.
-use Prim.Native.Nat.{ℕ, zero, suc, _+_, _*_, _-_, _^_, _≤_, _<_}
+use Prim.Native.Nat.{ℕ, zero, suc, _+_, _*_, _-_, _^_, _≤_, _<_, zero-le}
 use mathlib.Core.Path.{_≡_, refl, sym, _∙_}
 use mathlib.Core.Logic.{⊎-elim}
 use mathlib.Core.Bool.{Bool, true, false, cond}
@@ -7,6 +7,7 @@ use native.Mathlib.Nat.{min-eq-right, not-suc-le-zero, le-of-suc-le-suc, eq-or-l
 use native.Mathlib.Omega.{arith}
 use Rattle.lists.specs.Sums.{sumWhere}
 use Rattle.lists.proofs.SumLaws.{sumWhere-ext}
+use Rattle.lists.proofs.TestLaws.{either}
 use Rattle.kept_totals.specs.KeptTotals.{moved}
 
 -- no sum of 0s
@@ -19,16 +20,12 @@ zeros-sum test (suc n) = rw (zeros-sum test n) (by (test n))
     by true = refl
     by false = refl
 
-cond-small : (b : Bool) {x limit : ℕ} → x ≤ limit → cond b x 0 ≤ limit
-cond-small true h = h
-cond-small false h = omega arith
-
 -- n places of at most the limit each
 pub sum-small : (test : ℕ → Bool) (f : ℕ → ℕ) (limit n : ℕ) → ((i : ℕ) → i < n → f i ≤ limit) → sumWhere test f n ≤ limit * n
 unfolding sumWhere
 sum-small test f limit zero h = omega arith
 sum-small test f limit (suc n) h =
-    omega (arith, sum-small test f limit n (λ i l. h i (lt-trans l (lt-suc-self n))), cond-small (test n) (h n (lt-suc-self n)))
+    omega (arith, sum-small test f limit n (λ i l. h i (lt-trans l (lt-suc-self n))), either (λ (x : ℕ). x ≤ limit) (test n) (h n (lt-suc-self n)) zero-le)
 
 -- a place has no more than all places together
 pub place-in-sum : (test : ℕ → Bool) (f : ℕ → ℕ) (n p : ℕ) → p < n → cond (test p) (f p) 0 ≤ sumWhere test f n

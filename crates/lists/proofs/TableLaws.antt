@@ -5,7 +5,7 @@ use mathlib.Core.List.{List, [], _∷_, _++_, append-assoc, append-nil}
 use native.Mathlib.Nat.{not-suc-le-zero, le-of-suc-le-suc, add-zero, zero-add, add-suc, suc-add, mul-zero, mul-suc}
 use native.Mathlib.Numerals.{add-one}
 use native.Mathlib.Omega.{arith}
-use lib.ListN.{length, getD, replicate, length-append, List·getD-append}
+use lib.ListN.{length, getD, set, replicate, length-append, List·getD-append}
 use lib.Seq.{getD-append-add}
 use Rattle.lists.specs.Tables.{tableFrom, table, joined}
 
@@ -33,14 +33,26 @@ module _ {ℓ} {A : Type ℓ} where
   tableFrom-suc s zero f = rw add-zero
   tableFrom-suc s (suc n) f = ap (λ (l : List A). f s ∷ l) (tableFrom-suc (suc s) n f ∙ rw (suc-add, ← add-suc))
 
-  tableFrom-ext : (s n : ℕ) (f g : ℕ → A) → ((i : ℕ) → i < s + n → f i ≡ g i) → tableFrom s n f ≡ tableFrom s n g
+  -- functions that agree make the same table
+  pub tableFrom-ext : (s n : ℕ) (f g : ℕ → A) → ((i : ℕ) → s ≤ i → i < s + n → f i ≡ g i) → tableFrom s n f ≡ tableFrom s n g
   unfolding tableFrom
   tableFrom-ext s zero f g h = refl
-  tableFrom-ext s (suc n) f g h = rw (h s (omega arith), tableFrom-ext (suc s) n f g (λ i l. h i (omega arith)))
+  tableFrom-ext s (suc n) f g h =
+      rw (h s (omega arith) (omega arith), tableFrom-ext (suc s) n f g (λ i l u. h i (omega arith) (omega arith)))
 
-  -- functions that agree make the same table
   pub table-ext : (n : ℕ) (f g : ℕ → A) → ((i : ℕ) → i < n → f i ≡ g i) → table n f ≡ table n g
-  table-ext n f g h = tableFrom-ext 0 n f g (λ i l. h i (omega arith))
+  table-ext n f g h = tableFrom-ext 0 n f g (λ i l u. h i (omega arith))
+
+  -- functions that agree but at one number: the table of the one, with the other's value stored there
+  pub table-set : (s n : ℕ) (f g : ℕ → A) (i : ℕ) (v : A) → i < n → v ≡ g (s + i) → ((j : ℕ) → (s + i ≡ j → ⊥) → f j ≡ g j)
+      → set (tableFrom s n f) i v ≡ tableFrom s n g
+  unfolding tableFrom
+  table-set s zero f g i v l e h = absurd (omega arith)
+  table-set s (suc n) f g zero v l e h =
+      rw (e, add-zero, tableFrom-ext (suc s) n f g (λ j l u. h j (λ q. omega arith)))
+  table-set s (suc n) f g (suc i) v l e h =
+      let at : s + suc i ≡ suc s + i = omega arith in
+      rw (h s (λ q. omega arith), table-set (suc s) n f g i v (omega arith) (rw at at e) (λ j q. h j (λ p. q (sym at ∙ p))))
 
   -- n lists of m elements each have m × n
   pub joined-length : (m s n : ℕ) (f : ℕ → List A) → ((i : ℕ) → length (f i) ≡ m) → length (joined (tableFrom s n f)) ≡ m * n
@@ -85,7 +97,7 @@ table-le s (suc n) f limit h zero = h s (omega arith) (omega arith)
 table-le s (suc n) f limit h (suc i) = table-le (suc s) n f limit (λ j l u. h j (omega arith) (omega arith)) i
 
 -- what bounds each read of two lists bounds each read of them together
-append-le : (xs ys : List ℕ) (limit : ℕ) → ((i : ℕ) → getD xs i 0 ≤ limit) → ((i : ℕ) → getD ys i 0 ≤ limit) → (i : ℕ) → getD (xs ++ ys) i 0 ≤ limit
+pub append-le : (xs ys : List ℕ) (limit : ℕ) → ((i : ℕ) → getD xs i 0 ≤ limit) → ((i : ℕ) → getD ys i 0 ≤ limit) → (i : ℕ) → getD (xs ++ ys) i 0 ≤ limit
 append-le [] ys limit hx hy i = hy i
 append-le (x ∷ xs) ys limit hx hy zero = hx 0
 append-le (x ∷ xs) ys limit hx hy (suc i) = append-le xs ys limit (λ j. hx (suc j)) hy i

@@ -3,7 +3,7 @@
 use Prim.Native.Nat.{ℕ, zero, suc, _+_, _-_, _≤_, _<_, zero-le}
 use mathlib.Core.Path.{_≡_, refl, sym, subst, _∙_}
 use mathlib.Core.Logic.{⊎-elim}
-use mathlib.Core.Bool.{Bool, true, false, cond, _&&_, _||_, true≢false}
+use mathlib.Core.Bool.{Bool, true, false, cond, or-true, _&&_, _||_, true≢false}
 use mathlib.Core.List.{List, [], _∷_}
 use native.Mathlib.Nat.{add-zero, suc-add, add-suc, le-of-suc-le-suc, not-suc-le-zero, eq-or-lt-of-le}
 use native.Mathlib.Numerals.{add-one}
@@ -17,7 +17,7 @@ pub both : (a b : Bool) → T (a && b) → T a × T b
 both true b t = (tt, t)
 both false b t = absurd t
 
--- both of two tests pass, neither does, and one that fails fails with any other
+-- both of two tests pass, and neither does
 pub and-true : (a b : Bool) → (a && b) ≡ true → (a ≡ true) × (b ≡ true)
 and-true true b e = (refl, e)
 and-true false b e = absurd (true≢false (sym e))
@@ -25,10 +25,6 @@ and-true false b e = absurd (true≢false (sym e))
 pub neither : (a b : Bool) → (a || b) ≡ false → (a ≡ false) × (b ≡ false)
 neither true b e = absurd (true≢false e)
 neither false b e = (refl, e)
-
-pub and-false : (b : Bool) → (b && false) ≡ false
-and-false true = refl
-and-false false = refl
 
 -- what holds of both holds of either
 pub either {ℓ} : {A : Type ℓ} (P : A → Type 0) (b : Bool) {x y : A} → P x → P y → P (cond b x y)
@@ -79,11 +75,7 @@ module _ (test : ℕ → Bool) where
   any-none n e h = rw (add-one, e) h
 
   any-first : (n : ℕ) → test n ≡ true → (anyBelow test n || test n) ≡ true
-  any-first n h = rw h (by (anyBelow test n))
-    where
-      by : (b : Bool) → (b || true) ≡ true
-      by true = refl
-      by false = refl
+  any-first n h = rw h (or-true (anyBelow test n))
 
   -- one that passes is enough
   pub any-here : (n i : ℕ) → i < n → test i ≡ true → anyBelow test n ≡ true

@@ -9,6 +9,7 @@ use native.Mathlib.Omega.{arith}
 use borrow.Author.Tests.{leb-false, lt-leb, lt-ltb, le-ltb}
 use lib.Dec.{ltb, lit≤}
 use lib.ListN.{getD}
+use Rattle.lists.proofs.TestLaws.{either}
 use Rattle.schedule.specs.Limits.{tierLimit}
 use Rattle.schedule.specs.Shift.{shiftedRate}
 use Rattle.withdrawal.specs.declared.CouponParts.{CouponParts}
@@ -44,10 +45,6 @@ unreached-at x n edge {r} {higher} h e =
     let still : 100 * (x .share * (r * n)) < edge * (x .cost * n) + 100 * x .forfeited = omega (arith, earned, missed) in
     reached-iff (incentiveFrom x r n) edge ∙ lt-leb _ _ still
 
-cond-le : (b : Bool) (n m : ℕ) {most : ℕ} → n ≤ most → m ≤ most → cond b n m ≤ most
-cond-le true n m h g = h
-cond-le false n m h g = g
-
 -- so the search at a lower rate may start where it ended at a higher one
 pub start-lower : (b : Bool) (count : ℕ) (edges : List ℕ) (x : CouponParts) (n level : ℕ) {r higher : ℕ} → r ≤ higher
     → LevelFor b count edges (incentiveFrom x higher n) level → StartFor b count edges (incentiveFrom x r n) level
@@ -78,8 +75,8 @@ last-le false count h = h
 -- at every level no more survives than all
 pub level-survival-le : (b : Bool) (t : WithdrawalTiers) (level : ℕ) → Usable t → levelSurvival b (t .count) (t .survivals) (t .retained) level ≤ fullSurvival
 unfolding levelSurvival
-level-survival-le true t level u = cond-le (ltb level 1) 0 fullSurvival zero-le (le-refl fullSurvival)
-level-survival-le false t level u = cond-le (ltb level (t .count)) (getD (t .survivals) level 0) (t .retained) (survivals-le t u level) (retained-le t u)
+level-survival-le true t level u = either (λ (n : ℕ). n ≤ fullSurvival) (ltb level 1) zero-le (le-refl fullSurvival)
+level-survival-le false t level u = either (λ (n : ℕ). n ≤ fullSurvival) (ltb level (t .count)) (survivals-le t u level) (retained-le t u)
 
 -- what survives at the level of an incentive is what survives under it
 pub level-survival : (b : Bool) (t : WithdrawalTiers) (x : Incentive) (level : ℕ) → Usable t → LevelFor b (t .count) (t .edges) x level

@@ -4,7 +4,7 @@ use Prim.Native.Nat.{ℕ, zero, suc, _+_, _≤_, _<_}
 use native.Mathlib.Nat.{le-refl}
 use native.Mathlib.Omega.{arith}
 use mathlib.Core.Path.{_≡_, refl, sym, _∙_}
-use mathlib.Core.Bool.{Bool, true, false, cond, _||_}
+use mathlib.Core.Bool.{Bool, true, false, cond, or-false, _||_}
 use mathlib.Core.List.{List}
 use borrow.Author.Tests.{eqb-true, le-leb, lt-leb, leb-false, ltb-true, ltb-false, le-ltb}
 use lib.Dec.{eqb, leb, ltb}
@@ -129,10 +129,6 @@ module _ (s : List ℕ) (block : ℕ) where
   unfolding falls amendsIn fallsAs
   falls-stays {at} r none = sym (falls-next r ∙ rw (not-falling (recordItem s at) none) (or-false (fallsBefore s block at)))
     where
-      or-false : (b : Bool) → (b || false) ≡ b
-      or-false true = refl
-      or-false false = refl
-
       not-falling : (item : Item) → amendsIn block item ≡ false → fallsAs s block at item ≡ false
       not-falling (Cell n) e = refl
       not-falling (Sheet kind) e = refl

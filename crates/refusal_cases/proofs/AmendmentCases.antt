@@ -1,7 +1,7 @@
 -- Closed cases of amendments (02:CR 6): the verdict on each record at its limits and beyond, the order of its tests, and which record counts. Each is
 -- computed.
 -- Assumes nothing.
-use Prim.Native.Nat.{_+_, _-_, _^_}
+use Prim.Native.Nat.{_-_, _^_}
 use mathlib.Core.Path.{_≡_, refl}
 use mathlib.Core.List.{List, [], _∷_, _++_, map}
 use Rattle.lists.specs.Sums.{sum}

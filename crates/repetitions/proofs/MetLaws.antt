@@ -4,14 +4,13 @@ use Prim.Native.Nat.{ℕ, _+_, _*_, _/_, _%_, _^_, _≤_, _<_}
 use native.Mathlib.Nat.{div-eq-of-lt}
 use native.Mathlib.Omega.{arith}
 use mathlib.Core.Path.{_≡_, refl, sym, ap, _∙_}
-use mathlib.Core.Bool.{Bool, true, false, cond, _||_, _&&_}
+use mathlib.Core.Bool.{Bool, true, false, cond, and-false, or-false, or-comm, _||_, _&&_}
 use mathlib.Core.List.{List}
 use borrow.Author.Tests.{eqb-true, eqb-false, eq-eqb, ne-eqb}
 use lib.Dec.{eqb, ltb}
 use lib.ListN.{length, replicate, length-set}
 use lib.Pow.{pow-pos}
 use Rattle.lists.proofs.TableLaws.{zeros-getD}
-use Rattle.lists.proofs.TestLaws.{and-false}
 use Rattle.numbers.specs.Members.{bit, member, withMember}
 use Rattle.numbers.proofs.BitLaws.{member-with}
 use Rattle.schedule.specs.Cells.{firstCell, cellCount}
@@ -35,12 +34,6 @@ wordCount = 1024
 none-member : (n v : ℕ) → member (replicate n 0) v ≡ false
 unfolding member bit
 none-member n v = rw (zeros-getD n (v / 64), div-eq-of-lt (pow-pos (v % 64)))
-
-or-turned : (a b : Bool) → (a || b) ≡ (b || a)
-or-turned true true = refl
-or-turned true false = refl
-or-turned false true = refl
-or-turned false false = refl
 
 -- a cell that is noted, with a number of a block
 pub record InBlock (block cell number : ℕ) : Type 0 where
@@ -136,10 +129,6 @@ module _ (s : List ℕ) (block : ℕ) where
     unfolding firstWith
     amended-next r cell v = found-next s (λ (i : ℕ). sameItem (recordItem s i) (Amendment cell v)) r
 
-    or-none : (b : Bool) → b ≡ (b || false)
-    or-none true = refl
-    or-none false = refl
-
     -- one record more
     pub met-next : Reached s 0 at → Met (nextRecord s at) (metWith block (recordItem s at) met)
     unfolding metWith sameItem withMember
@@ -147,7 +136,7 @@ module _ (s : List ℕ) (block : ℕ) where
       where
         stays : ((cell v : ℕ) → InBlock block cell v → sameItem (recordItem s at) (Amendment cell v) ≡ false) → Met (nextRecord s at) met
         stays other =
-            record { long = so-far .long; holds = λ cell v h. so-far .holds cell v h ∙ sym (amended-next r cell v ∙ rw (other cell v h) (sym (or-none _))) }
+            record { long = so-far .long; holds = λ cell v h. so-far .holds cell v h ∙ sym (amended-next r cell v ∙ rw (other cell v h) (or-false _)) }
 
         other-block : (n number cell v : ℕ) → InBlock block cell v → eqb (blockOf number) block ≡ false → (b : Bool) → eqb number v ≡ b → (eqb n cell && b) ≡ false
         other-block n number cell v h q true e =
@@ -162,7 +151,7 @@ module _ (s : List ℕ) (block : ℕ) where
               long = length-set met (keyOf n number / 64) _ ∙ so-far .long;
               holds = λ cell v h.
                   member-with met (keyOf n number) (keyOf cell v) (omega (arith, key-lt own, so-far .long))
-                  ∙ or-turned (eqb (keyOf cell v) (keyOf n number)) (member met (keyOf cell v))
+                  ∙ or-comm (eqb (keyOf cell v) (keyOf n number)) (member met (keyOf cell v))
                   ∙ rw (so-far .holds cell v h, key-same h own) (sym (amended-next r cell v ∙ rw e));
             }
         more n number false e q = stays (λ cell v h. rw e (other-block n number cell v h q (eqb number v) refl))

@@ -1,7 +1,7 @@
 -- What one record more adds to what is noted.
 -- Assumes nothing.
-use Prim.Native.Nat.{ℕ, zero, suc, _+_, _-_, _≤_, _<_}
-use native.Mathlib.Nat.{add-zero, zero-add, le-refl}
+use Prim.Native.Nat.{ℕ, _+_, _-_, _≤_, _<_}
+use native.Mathlib.Nat.{zero-add, le-refl}
 use native.Mathlib.Omega.{arith}
 use mathlib.Core.Path.{_≡_, refl, sym, _∙_}
 use mathlib.Core.Bool.{Bool, true, false, cond}
@@ -10,6 +10,7 @@ use borrow.Author.Tests.{ltb-true, lt-ltb, le-ltb, eq-eqb, ne-eqb}
 use lib.Dec.{ltb}
 use lib.ListN.{length, set}
 use Rattle.lists.specs.Tables.{tableFrom}
+use Rattle.lists.proofs.TableLaws.{tableFrom-ext, table-set}
 use Rattle.schedule.specs.Cells.{firstCell, cellCount}
 use Rattle.records.specs.declared.Item.{Item}
 use Rattle.records.specs.declared.Item.the-variants.{Cell, Sheet, Amendment, Nothing}
@@ -24,24 +25,6 @@ use Rattle.faults.specs.Faults.{standsBefore, repeated}
 use Rattle.faults.proofs.RepetitionLaws.{single-stands}
 use Rattle.fields.proofs.SearchLaws.{Reached, next-lt, first-next}
 use Rattle.notes.proofs.CountingLaws.{counting-next, counting-stays, falls-next, falls-stays}
-
--- tables of functions that agree are equal
-pub table-same {ℓ} : {A : Type ℓ} (base n : ℕ) (f g : ℕ → A) → ((j : ℕ) → base ≤ j → j < base + n → f j ≡ g j) → tableFrom base n f ≡ tableFrom base n g
-unfolding tableFrom
-table-same base zero f g h = refl
-table-same base (suc n) f g h =
-    rw (h base (omega arith) (omega arith), table-same (suc base) n f g (λ j l u. h j (omega arith) (omega arith)))
-
--- a table of functions that agree but at one index, with the other's value stored there
-table-set {ℓ} : {A : Type ℓ} (base n : ℕ) (f g : ℕ → A) (i : ℕ) (v : A) → i < n → v ≡ g (base + i) → ((j : ℕ) → (base + i ≡ j → ⊥) → f j ≡ g j)
-    → set (tableFrom base n f) i v ≡ tableFrom base n g
-unfolding tableFrom
-table-set base zero f g i v l e h = absurd (omega arith)
-table-set base (suc n) f g zero v l e h =
-    rw (e, add-zero, table-same (suc base) n f g (λ j l u. h j (λ q. omega arith)))
-table-set base (suc n) f g (suc i) v l e h =
-    let at : base + suc i ≡ suc base + i = omega arith in
-    rw (h base (λ q. omega arith), table-set (suc base) n f g i v (omega arith) (rw at at e) (λ j q. h j (λ p. q (sym at ∙ p))))
 
 one-more : (f at next size : ℕ) (a b : Bool) → ltb f at ≡ a → at < next
     → cond (ltb (cond a f (cond b at next)) next) (cond a f (cond b at next)) size ≡ cond a f (cond b at size)
@@ -79,19 +62,19 @@ module _ (s : List ℕ) (at : ℕ) (reached : Reached s 0 at) where
   -- the sheets and the cells stay where the record is of none, and so do those that count and those that fall
   sheets-stay : ((kind : ℕ) → sameItem (recordItem s at) (Sheet kind) ≡ false) → notedBefore s at .sheets ≡ notedBefore s (nextRecord s at) .sheets
   unfolding notedBefore
-  sheets-stay other = table-same 0 kindCount _ _ (λ k l u. noted-stays (Sheet k) (other k))
+  sheets-stay other = tableFrom-ext 0 kindCount _ _ (λ k l u. noted-stays (Sheet k) (other k))
 
   cells-stay : ((cell : ℕ) → sameItem (recordItem s at) (Cell cell) ≡ false) → notedBefore s at .cells ≡ notedBefore s (nextRecord s at) .cells
   unfolding notedBefore
-  cells-stay other = table-same firstCell cellCount _ _ (λ n l u. noted-stays (Cell n) (other n))
+  cells-stay other = tableFrom-ext firstCell cellCount _ _ (λ n l u. noted-stays (Cell n) (other n))
 
   counting-stay : ((cell : ℕ) → itemRank cell (recordItem s at) ≡ 0) → notedBefore s at .counting ≡ notedBefore s (nextRecord s at) .counting
   unfolding notedBefore
-  counting-stay none = table-same firstCell cellCount _ _ (λ n l u. counting-stays s n reached (none n))
+  counting-stay none = tableFrom-ext firstCell cellCount _ _ (λ n l u. counting-stays s n reached (none n))
 
   falling-stay : ((block : ℕ) → amendsIn block (recordItem s at) ≡ false) → notedBefore s at .falling ≡ notedBefore s (nextRecord s at) .falling
   unfolding notedBefore
-  falling-stay none = table-same 0 blockCount _ _ (λ n l u. falls-stays s n reached (none n))
+  falling-stay none = tableFrom-ext 0 blockCount _ _ (λ n l u. falls-stays s n reached (none n))
 
   -- a record of a cell is noted among those that count
   counting-set : (cell : ℕ) → firstCell ≤ cell → cell < firstCell + cellCount → ((n : ℕ) → (cell ≡ n → ⊥) → itemRank n (recordItem s at) ≡ 0)

@@ -2,7 +2,7 @@
 use Prim.Native.Nat.{ℕ, zero, suc, _+_, _-_, _≤_, _<_}
 use mathlib.Core.Path.{_≡_, refl, sym, ap, _∙_}
 use mathlib.Core.Bool.{Bool, true, false, cond}
-use mathlib.Core.List.{List, [], _∷_, _++_, map}
+use mathlib.Core.List.{List, map}
 use borrow.Author.Tests.{ltb-true, lt-ltb, le-ltb}
 use native.Mathlib.Numerals.{add-one}
 use native.Mathlib.Omega.{arith}
@@ -11,7 +11,7 @@ use lib.ListN.{length, getD, set, drop, replicate, length-map, take-append-drop,
 use lib.Seq.{drop-set-lt, drop-drop}
 use lib.IntN.{ℤ}
 use Rattle.lists.specs.Tables.{tableFrom, table, padded}
-use Rattle.lists.proofs.TableLaws.{table-length, table-getD, table-ext, table-le, zeros-getD}
+use Rattle.lists.proofs.TableLaws.{table-length, table-getD, table-ext, table-le, append-le, zeros-getD}
 use Rattle.lists.proofs.FillLaws.{Filled, fill-none, fill-more, fill-first}
 use Rattle.lists.proofs.TestLaws.{everyEntry, entries-le}
 use Rattle.withdrawal.specs.declared.WithdrawalTiers.{WithdrawalTiers}
@@ -141,11 +141,6 @@ map-table f s (suc n) g = rw (map-table f (suc s) n g)
 padded-holds : (n : ℕ) (f : ℕ → ℕ) (i : ℕ) → i < n → getD (tierArray (table n f)) i 0 ≡ f i
 unfolding padded
 padded-holds n f i h = List·getD-append (table n f) _ 0 i (rw (table-length 0 n f) h) ∙ table-getD n f i 0 h
-
-append-le : (xs ys : List ℕ) (b : ℕ) → ((i : ℕ) → getD xs i 0 ≤ b) → ((i : ℕ) → getD ys i 0 ≤ b) → (i : ℕ) → getD (xs ++ ys) i 0 ≤ b
-append-le [] ys b h g i = g i
-append-le (x ∷ xs) ys b h g zero = h 0
-append-le (x ∷ xs) ys b h g (suc i) = append-le xs ys b (λ j. h (suc j)) g i
 
 -- what bounds a table bounds its entries
 pub padded-le : (n : ℕ) (f : ℕ → ℕ) (b : ℕ) → ((i : ℕ) → f i ≤ b) → (i : ℕ) → getD (tierArray (table n f)) i 0 ≤ b

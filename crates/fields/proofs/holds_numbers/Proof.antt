@@ -6,7 +6,7 @@ use native.Mathlib.Omega.{arith}
 use mathlib.Core.Path.{sym}
 use Prim.Native.Nat.{_+_, _*_, _-_, _/_}
 use lib.ListN.{length}
-use Rattle.fields.proofs.ByteLaws.{le-same}
+use Rattle.lists.proofs.OrderLaws.{leb-iff}
 use Rattle.fields.proofs.holds_numbers.Statement.{statement}
 use Rattle.fields.proofs.holds_numbers.Tie as tie
 
@@ -26,7 +26,7 @@ returns-2 c =
 returns-3 : tie.Need-returns-3
 returns-3 c =
     let a = c .before .before .args in
-    le-same {a = a .n} {b = (length (a .s .now) - 4 - a .at) / 2} {c = a .at + 4 + 2 * a .n} {d = length (a .s .now)} (λ l. omega arith) (λ l. omega arith)
+    leb-iff (a .n) ((length (a .s .now) - 4 - a .at) / 2) (a .at + 4 + 2 * a .n) (length (a .s .now)) (λ l. omega arith) (λ l. omega arith)
 
 pub holds-numbers-spec : {M : Type 1} → statement M
 holds-numbers-spec = tie.close (tie.spec returns sub-room returns-2 returns-3)
