@@ -34,7 +34,7 @@ module _ (t : WithdrawalTiers) (d : Deposit) (rates : List ℕ) (column : ℕ) (
   level-within = level-last (d .brokered) (t .count) (t .edges) _ (levelAt levels month scenario) level-here
 
   pub level-at-le : levelAt levels month scenario ≤ tierLimit
-  level-at-le = le-trans level-within (last-le (d .brokered) (t .count) (u .count-le))
+  level-at-le = le-trans level-within (last-le (d .brokered) (t .count) (u .edges-fit .count-le))
 
   -- its multipliers are those of the month's survival
   pub multipliers-here : DepositLimits d

@@ -12,8 +12,9 @@ ghost use mathlib.Core.Path.{_≡_};
 ghost use mathlib.Core.Bool.{false};
 ghost use lib.ListN.{getD, replicate};
 ghost use Rattle.schedule.specs.Limits.{couponLimit, penaltyLimit, monthsLimit, rateLimit, tierLimit};
+ghost use Rattle.withdrawal.specs.Inner.TierArrays.{EdgesFit};
 ghost use Rattle.pricing.specs.Scales.{par, growthLimit, servicingLimit};
-ghost use Rattle.month_levels.specs.Levels.{EdgesFit, lastLevel, levelSurvival};
+ghost use Rattle.month_levels.specs.Levels.{lastLevel, levelSurvival};
 ghost use Rattle.early_levels.specs.Levels.{Levelled, LeftBehind, Multiplied, NothingPast};
 
 // Seven levels for each month: the highest scenario's first.

@@ -6,17 +6,11 @@ use mathlib.Core.Bool.{Bool, true, false, cond}
 use mathlib.Core.List.{List}
 use lib.Dec.{ltb}
 use lib.ListN.{getD}
-use Rattle.schedule.specs.Limits.{tierLimit, edgeLimit}
 use Rattle.withdrawal.specs.declared.Incentive.{Incentive}
 use Rattle.withdrawal.specs.Gain.{atMost}
 use Rattle.withdrawal.specs.Survival.{fullSurvival}
 use Rattle.withdrawal.specs.Inner.Incentives.{gainOf}
 use Rattle.withdrawal.specs.Inner.Levels.{Unreached, FirstLevel}
-
--- edges in an array, within the limits
-pub record EdgesFit (count : ℕ) (edges : List ℕ) : Type 0 where
-  pub count-le : count ≤ tierLimit
-  pub edge-le : (i : ℕ) → getD edges i 0 ≤ edgeLimit
 
 -- the level of an incentive, of brokered money or not
 abbrev pub LevelFor : Bool → ℕ → List ℕ → Incentive → ℕ → Type 0

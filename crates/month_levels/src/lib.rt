@@ -12,8 +12,9 @@ ghost use Prim.Native.Nat.{ℕ, _-_, _<_, _≤_};
 ghost use lib.ListN.{getD};
 ghost use Rattle.schedule.specs.Limits.{rateLimit, monthsLimit, tierLimit};
 ghost use Rattle.schedule.specs.Shift.{scenarioCount, shiftedRate};
+ghost use Rattle.withdrawal.specs.Inner.TierArrays.{EdgesFit};
 ghost use Rattle.withdrawal.specs.Inner.Incentives.{incentiveFrom, PartsWithin, Small};
-ghost use Rattle.month_levels.specs.Levels.{EdgesFit, LevelFor, StartFor, lastLevel, levelSurvival};
+ghost use Rattle.month_levels.specs.Levels.{LevelFor, StartFor, lastLevel, levelSurvival};
 
 // Levels of a month with `left` months to go, at a retail rate that is not shifted: the highest scenario's first. Rates fall from one to the next, so that
 // no edge is reached again that the one before did not reach.

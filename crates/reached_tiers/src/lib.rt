@@ -4,12 +4,11 @@ use withdrawal::Incentive;
 use withdrawal::ReachedTier;
 use withdrawal::WithdrawalTiers;
 ghost use mathlib.Core.Path.{_≡_};
-ghost use Prim.Native.Nat.{ℕ, _≤_};
-ghost use lib.ListN.{getD};
-ghost use Rattle.schedule.specs.Limits.{tierLimit, edgeLimit};
+ghost use Prim.Native.Nat.{_≤_};
+ghost use Rattle.schedule.specs.Limits.{edgeLimit};
 ghost use Rattle.withdrawal.specs.Tiers.{reached};
 ghost use Rattle.withdrawal.specs.Reached.{reachedTier};
-ghost use Rattle.withdrawal.specs.Inner.TierArrays.{tierTable, Usable};
+ghost use Rattle.withdrawal.specs.Inner.TierArrays.{tierTable, EdgesFit, Usable};
 ghost use Rattle.withdrawal.specs.Inner.Levels.{Unreached, FirstLevel};
 ghost use Rattle.withdrawal.specs.Inner.Incentives.{gainOf, Small};
 
@@ -40,7 +39,7 @@ pub fn level_from(
     edges: &[u64; TIER_LIMIT],
     incentive: Incentive,
 ) -> usize
-    requires { ⌜ (count ≤ tierLimit) × ((i : ℕ) → getD (now edges) i 0 ≤ edgeLimit) × Small incentive ⌝ }
+    requires { ⌜ EdgesFit count (now edges) × Small incentive ⌝ }
     requires { ⌜ (from ≤ count) × Unreached (now edges) (gainOf incentive) (incentive .cost) from ⌝ }
     ensures { λ r. ⌜ FirstLevel count (now (edges .entry)) (gainOf incentive) (incentive .cost) r ⌝ }
 {

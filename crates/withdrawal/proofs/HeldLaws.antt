@@ -117,8 +117,7 @@ pub tiers-fit-of-tests :
     → TiersFit count edges withdrawals otherwise
 tiers-fit-of-tests count edges withdrawals otherwise n e w o =
     record {
-      count-le = leb→le count tierLimit n;
-      edge-le = entries-le edges edgeLimit e;
+      edges-fit = record { count-le = leb→le count tierLimit n; edge-le = entries-le edges edgeLimit e };
       withdrawal-le = entries-le withdrawals withdrawalLimit w;
       otherwise-le = leb→le otherwise withdrawalLimit o;
     }
@@ -129,7 +128,7 @@ pub fit-usable : (count : ℕ) (edges withdrawals : List ℕ) (otherwise : ℕ) 
     → Falling (tierTableOf count edges withdrawals otherwise .tiers)
     → Usable (withSurvivals count edges withdrawals otherwise)
 unfolding tierTable withSurvivals
-fit-usable count edges withdrawals otherwise fit e f = record { count-le = fit .count-le; edge-le = fit .edge-le; held-is = e; falling = f }
+fit-usable count edges withdrawals otherwise fit e f = record { edges-fit = fit .edges-fit; held-is = e; falling = f }
 
 -- a function over a table is the table of what it makes
 map-table : {A B : Type 0} (f : A → B) (s n : ℕ) (g : ℕ → A) → map f (tableFrom s n g) ≡ tableFrom s n (λ (i : ℕ). f (g i))

@@ -43,8 +43,7 @@ fit : (filed : FiledTiers) → FiledLimits filed → (edges withdrawals : List �
     → TiersFit (filed .count) edges withdrawals lowest
 fit filed limits edges withdrawals lowest e w l =
     record {
-      count-le = limits .count-le;
-      edge-le = e;
+      edges-fit = record { count-le = limits .count-le; edge-le = e };
       withdrawal-le = λ i. rw w (padded-le (filed .count) _ withdrawalLimit (λ j. limits .withdrawal-le (filed .count - 1 - j)) i);
       otherwise-le = rw l (limits .withdrawal-le 0);
     }

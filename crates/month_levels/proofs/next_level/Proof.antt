@@ -15,8 +15,7 @@ returns-2 c = rw (c .before .before .if1 .taken, ← (c .before .gain-above-cost
 
 level-from-requires : tie.Need-level-from-requires
 level-from-requires c κs =
-    let fit = c .before .pre .0 in
-    ((fit .count-le, fit .edge-le, c .before .pre .1), (rw (c .if1 .left) at (c .before .pre .2)))
+    ((c .before .pre .0, c .before .pre .1), (rw (c .if1 .left) at (c .before .pre .2)))
 
 returns-3 : tie.Need-returns-3
 returns-3 c = rw (c .before .if1 .left) (c .level-from .ensures)

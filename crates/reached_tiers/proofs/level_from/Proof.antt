@@ -19,13 +19,13 @@ loop-holds : tie.Need-loop-holds Inv-loop μ-loop
 loop-holds c = c .pre .1
 
 mul-reaches : tie.Need-mul-reaches Inv-loop μ-loop
-mul-reaches c = omega (arith, c .before .before .pre .0 .0)
+mul-reaches c = omega (arith, c .before .before .pre .0 .0 .count-le)
 
 element-copy-out-reaches : tie.Need-element-copy-out-reaches Inv-loop μ-loop
-element-copy-out-reaches c = omega (arith, c .before .before .pre .0 .0)
+element-copy-out-reaches c = omega (arith, c .before .before .pre .0 .0 .count-le)
 
 reaches-requires : tie.Need-reaches-requires Inv-loop μ-loop
-reaches-requires c κs = let at = c .before .before in (at .before .pre .0 .2, at .before .pre .0 .1 (at .loop .level))
+reaches-requires c κs = let at = c .before .before in (at .before .pre .0 .1, at .before .pre .0 .0 .edge-le (at .loop .level))
 
 returns : tie.Need-returns Inv-loop μ-loop
 returns c =
@@ -33,7 +33,7 @@ returns c =
     record { within = at .loop .inv .0; before = at .loop .inv .1; here = λ l. sym (c .before .reaches .ensures) ∙ c .if1 .taken }
 
 add-level : tie.Need-add-level Inv-loop μ-loop
-add-level c = omega (arith, c .before .before .before .before .before .pre .0 .0)
+add-level c = omega (arith, c .before .before .before .before .before .pre .0 .0 .count-le)
 
 loop-less : tie.Need-loop-less Inv-loop μ-loop
 loop-less c = omega arith

@@ -10,7 +10,7 @@ use Rattle.reached_tiers.proofs.reached_tier.Tie as tie
 level-from-requires : tie.Need-level-from-requires
 level-from-requires c κs =
     let start = c .before .before in
-    ((start .pre .0 .count-le, start .pre .0 .edge-le, start .pre .1), (omega arith, λ i l. absurd (not-suc-le-zero l)))
+    ((start .pre .0 .edges-fit, start .pre .1), (omega arith, λ i l. absurd (not-suc-le-zero l)))
 
 mul-t8 : tie.Need-mul-t8
 mul-t8 c = search needs

@@ -46,16 +46,19 @@ held x =
       retained = survival (x .otherwise);
     }
 
--- arrays that hold tiers within the limits of count, edge and withdrawal
-pub record TiersFit (count : ℕ) (edges withdrawals : List ℕ) (otherwise : ℕ) : Type 0 where
+-- edges in an array, within the limits of count and edge
+pub record EdgesFit (count : ℕ) (edges : List ℕ) : Type 0 where
   pub count-le : count ≤ tierLimit
   pub edge-le : (i : ℕ) → getD edges i 0 ≤ edgeLimit
+
+-- arrays that hold tiers within the limits of count, edge and withdrawal
+pub record TiersFit (count : ℕ) (edges withdrawals : List ℕ) (otherwise : ℕ) : Type 0 where
+  pub edges-fit : EdgesFit count edges
   pub withdrawal-le : (i : ℕ) → getD withdrawals i 0 ≤ withdrawalLimit
   pub otherwise-le : otherwise ≤ withdrawalLimit
 
 -- tiers that can be searched: the arrays hold them and nothing else, and their edges fall
 pub record Usable (t : WithdrawalTiers) : Type 0 where
-  pub count-le : t .count ≤ tierLimit
-  pub edge-le : (i : ℕ) → getD (t .edges) i 0 ≤ edgeLimit
+  pub edges-fit : EdgesFit (t .count) (t .edges)
   pub held-is : t ≡ held (tierTable t)
   pub falling : Falling (tierTable t .tiers)

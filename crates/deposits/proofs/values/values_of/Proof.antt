@@ -61,7 +61,7 @@ multipliers-of-requires c κs =
 early-levels-requires : tie.Need-early-levels-requires Inv-loop μ-loop
 early-levels-requires c κs =
     let limits = c .before .before .before .before .before .pre .0 in (
-      (limits .1 .coupon-le, limits .1 .penalty-le, limits .1 .months-le, record { count-le = limits .3 .count-le; edge-le = limits .3 .edge-le }),
+      (limits .1 .coupon-le, limits .1 .penalty-le, limits .1 .months-le, limits .3 .edges-fit),
       (limits .2 .within, limits .2 .first-le, limits .2 .last-le),
     )
 
@@ -74,7 +74,7 @@ level-multipliers-requires c κs =
       (
         rw (growth .coupon-growth .ensures) (mul-le-mul-left _ (limits .1 .coupon-le)),
         rw (servicing .servicing-cost .ensures) (servicing-le (accountOf (start .args .d .brokered))),
-        limits .3 .count-le,
+        limits .3 .edges-fit .count-le,
         λ i. level-survival-le (start .args .d .brokered) (lent start) i (limits .3),
       ),
       (refl, refl, refl, refl),
