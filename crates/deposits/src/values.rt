@@ -20,13 +20,13 @@ ghost use Rattle.withdrawal.specs.Inner.TierArrays.{tierTable, Usable};
 ghost use Rattle.pricing.specs.Rounding.{down, up};
 ghost use Rattle.discounts.specs.Inner.Tables.{factorsOf, Discounting};
 ghost use Rattle.deposits.specs.DepositTerms.{servicingCost};
-ghost use Rattle.deposits.specs.Inner.Levels.{lentTiers};
+ghost use Rattle.deposits.specs.Inner.Levels.{lentTiers, LevelsLeft};
 ghost use Rattle.deposits.specs.Inner.Prices.{ColumnRates, DepositLimits};
 ghost use Rattle.deposits.specs.Inner.Values.{tabledValues};
 
 // Values in dollars of a balance in thousands of dollars: lower, upper, lower, upper and so on by scenario, at the retail rates of a column, 1 to 3, which
 // are not shifted. The tiers are lent, with the withdrawals and `otherwise` that their survivals are of. The tables hold the multipliers of the discount factors. In the last month nothing is withdrawn early. A zero balance walks no month.
-// `levels` is room for the levels of its months.
+// `levels` is room for the levels of its months: for a zero balance, and from the last month on, it is left as it was.
 pub fn values_of<'a>(
     balance: u64,
     d: Deposit,
@@ -45,6 +45,7 @@ pub fn values_of<'a>(
     requires { ⌜ (balance ≤ balanceLimit) × DepositLimits d × ColumnRates (now rates) column × Usable (lentTiers count (now edges) (now withdrawals) (now survivals) otherwise retained) ⌝ }
     requires { ⌜ (0 < balance → Discounting down (d .months) (now lower) × Discounting up (d .months) (now upper)) ⌝ }
     ensures { λ r. ⌜ r ≡ tabledValues (tierTable (lentTiers count (now (edges .entry)) (now (withdrawals .entry)) (now (survivals .entry)) otherwise retained)) balance d (now (rates .entry)) column (factorsOf down (d .months) (now (lower .entry))) (factorsOf up (d .months) (now (upper .entry))) ⌝ }
+    ensures { λ r. ⌜ LevelsLeft (lentTiers count (now (edges .entry)) (now (withdrawals .entry)) (now (survivals .entry)) otherwise retained) balance d (now (rates .entry)) column (now (levels .entry)) (now (levels .exit)) ⌝ }
 {
     let mut values = [0u64; 14];
     if balance == 0 {

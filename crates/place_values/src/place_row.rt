@@ -11,18 +11,18 @@ use sub_balances::SubBalance;
 ghost use mathlib.Core.Path.{_≡_};
 ghost use Prim.Native.Nat.{_≤_, _<_};
 ghost use Rattle.schedule.specs.Limits.{balanceLimit};
-ghost use Rattle.sub_balances.specs.PlaceOrder.{subBalanceCount};
+ghost use Rattle.sub_balances.specs.PlaceOrder.{subBalanceCount, positionOf};
 ghost use Rattle.withdrawal.specs.Inner.TierArrays.{tierTable, Usable};
 ghost use Rattle.pricing.specs.Rounding.{down, up};
 ghost use Rattle.discount_factors.specs.Inner.Factors.{WithinRates};
-ghost use Rattle.deposits.specs.Inner.Levels.{lentTiers};
+ghost use Rattle.deposits.specs.Inner.Levels.{lentTiers, LevelsLeft};
 ghost use Rattle.deposits.specs.Inner.Prices.{DepositLimits};
 ghost use Rattle.discounts.specs.Inner.Tables.{factorsOf, Discounting};
 ghost use Rattle.place_values.specs.PlaceTerms.{depositAt};
 ghost use Rattle.place_values.specs.Inner.PlaceRows.{tabledHeld, rowOf};
 
 // The row of what place 0 to 35 holds, at the retail rates and the tiers of a filing, which are lent. The tables hold the multipliers of the discount factors.
-// `months` is room for the levels of its months.
+// `months` is room for the levels of its months: for a zero balance, and from the last month on, it is left as it was.
 pub fn row_of<'a>(
     held: SubBalance,
     place: usize,
@@ -41,6 +41,7 @@ pub fn row_of<'a>(
     requires { ⌜ WithinRates (now rates) × Usable (lentTiers count (now edges) (now withdrawals) (now survivals) otherwise retained) ⌝ }
     requires { ⌜ (0 < held .balance → Discounting down (depositAt place held .months) (now lower) × Discounting up (depositAt place held .months) (now upper)) ⌝ }
     ensures { λ r. ⌜ r ≡ rowOf held place (now (rates .entry)) (tierTable (lentTiers count (now (edges .entry)) (now (withdrawals .entry)) (now (survivals .entry)) otherwise retained)) (factorsOf down (depositAt place held .months) (now (lower .entry))) (factorsOf up (depositAt place held .months) (now (upper .entry))) ⌝ }
+    ensures { λ r. ⌜ LevelsLeft (lentTiers count (now (edges .entry)) (now (withdrawals .entry)) (now (survivals .entry)) otherwise retained) (held .balance) (depositAt place held) (now (rates .entry)) (positionOf place .column) (now (months .entry)) (now (months .exit)) ⌝ }
 {
     if held.balance == 0 {
         return [0; 15];
@@ -64,7 +65,7 @@ pub fn row_of<'a>(
     row
 }
 
-// Lower and upper value in each scenario of what place 0 to 35 holds, in dollars.
+// Lower and upper value in each scenario of what place 0 to 35 holds, in dollars. `months` is used as by `row_of`.
 pub fn held_values<'a>(
     held: SubBalance,
     place: usize,
@@ -83,6 +84,7 @@ pub fn held_values<'a>(
     requires { ⌜ WithinRates (now rates) × Usable (lentTiers count (now edges) (now withdrawals) (now survivals) otherwise retained) ⌝ }
     requires { ⌜ (0 < held .balance → Discounting down (depositAt place held .months) (now lower) × Discounting up (depositAt place held .months) (now upper)) ⌝ }
     ensures { λ r. ⌜ r ≡ tabledHeld held place (now (rates .entry)) (tierTable (lentTiers count (now (edges .entry)) (now (withdrawals .entry)) (now (survivals .entry)) otherwise retained)) (factorsOf down (depositAt place held .months) (now (lower .entry))) (factorsOf up (depositAt place held .months) (now (upper .entry))) ⌝ }
+    ensures { λ r. ⌜ LevelsLeft (lentTiers count (now (edges .entry)) (now (withdrawals .entry)) (now (survivals .entry)) otherwise retained) (held .balance) (depositAt place held) (now (rates .entry)) (positionOf place .column) (now (months .entry)) (now (months .exit)) ⌝ }
 {
     let d = deposit_at(place, held);
     let column = position(place / 4).column;

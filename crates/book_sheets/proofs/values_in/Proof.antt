@@ -64,7 +64,7 @@ returns-2 c =
     let tiers = below .before .before .before .before in
     let test = tiers .before in
     let a = test .before .before .args in
-    c .held-values .ensures
+    c .held-values .ensures .0
     ∙ held-by (a .place) (a .held) (a .rates .now) _ (a .lower .now) (a .upper .now) _ _ (λ pos. (below .to-multipliers .ensures .0, above .to-multipliers2 .ensures .0))
     ∙ rw (tiers .tiers-of .ensures .0, ← test .before .usable .ensures, not-false (test .before .usable .result) (test .if1 .left))
 

@@ -1,5 +1,6 @@
 -- The months of a deposit by levels of tiers, and the multipliers of each level. Definitions only.
-use Prim.Native.Nat.{ℕ, _*_}
+use Prim.Native.Nat.{ℕ, _*_, _<_}
+use mathlib.Core.Path.{_≡_}
 use mathlib.Core.Bool.{Bool}
 use mathlib.Core.List.{List}
 use Rattle.withdrawal.specs.declared.WithdrawalTiers.{WithdrawalTiers}
@@ -18,6 +19,11 @@ lentTiers count edges withdrawals survivals otherwise retained =
 abbrev pub Levelled : WithdrawalTiers → Deposit → List ℕ → ℕ → List (List ℕ) → Type 0
 Levelled t d rates column levels =
     months.Levelled (d .brokered) (d .coupon) (d .penalty) (d .months) (t .count) (t .edges) rates column levels
+
+-- the room for levels once a balance is valued: as it was for no balance; else the levels of the months before the last, and from the last on as it was
+abbrev pub LevelsLeft : WithdrawalTiers → ℕ → Deposit → List ℕ → ℕ → List (List ℕ) → List (List ℕ) → Type 0
+LevelsLeft t balance d rates column before after =
+    (balance ≡ 0 → after ≡ before) × (0 < balance → Levelled t d rates column after × months.LeftBehind (d .months) before after)
 
 -- multipliers of all levels that the account may have
 abbrev pub Multiplied : WithdrawalTiers → Deposit → List ℕ → List ℕ → List ℕ → List Bool → Type 0

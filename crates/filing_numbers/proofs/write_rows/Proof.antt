@@ -120,7 +120,7 @@ loop-again c =
       state .inv .1,
       λ filed p. rw (c .before .before .write .ensures) (overwritten-row [] (placeNumbers _) 15 (row-length _) (state .place) (15 * state .place) (15 * (state .place + 1))
           _ (state .list) (row .row-of .result) (state .inv .2 filed p)
-          (row .row-of .ensures ∙ row-is _ _ _ _ _ p (state .place) more) (omega (arith, more)) (omega (arith, more, state .inv .1))),
+          (row .row-of .ensures .0 ∙ row-is _ _ _ _ _ p (state .place) more) (omega (arith, more)) (omega (arith, more, state .inv .1))),
     )
 
 same-length : tie.Need-same-length Inv-loop μ-loop

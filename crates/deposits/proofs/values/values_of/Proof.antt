@@ -2,7 +2,7 @@
 use Prim.Native.Nat.{ℕ, _+_, _*_, _-_, _≤_, _<_}
 use mathlib.Core.List.{[]}
 use mathlib.Core.Path.{_≡_, refl, ap, _∙_}
-use native.Mathlib.Nat.{le-refl, mul-le-mul-left, pos-of-ne-zero}
+use native.Mathlib.Nat.{le-refl, mul-le-mul-left, ne-of-gt, pos-of-ne-zero}
 use native.Mathlib.Omega.{arith}
 use lib.ListN.{replicate}
 use Rattle.lists.specs.Tables.{tableFrom, table, joined}
@@ -42,7 +42,7 @@ abbrev lent : tie.Start Inv-loop μ-loop → WithdrawalTiers
 lent s = lentTiers (s .args .count) (s .args .edges .now) (s .args .withdrawals .now) (s .args .survivals .now) (s .args .otherwise) (s .args .retained)
 
 returns : tie.Need-returns Inv-loop μ-loop
-returns c = rw (c .if1 .taken) (no-values _ _ _ _ _ _)
+returns c = (rw (c .if1 .taken) (no-values _ _ _ _ _ _), ((λ e. refl), λ some. absurd (ne-of-gt some (c .if1 .taken))))
 
 coupon-growth-requires : tie.Need-coupon-growth-requires Inv-loop μ-loop
 coupon-growth-requires c κs = c .before .pre .0 .1 .coupon-le
@@ -159,13 +159,15 @@ returns-2 c =
     let a = start .args in
     let limits = start .pre .0 in
     let known = last-known last in
-    let e : c .before .loop .scenario ≡ 7 = omega arith in
-    overwritten-all _ _ _ _ (c .before .loop .inv .1) (omega arith)
-    ∙ rw e
-    (ap joined (table-ext 7 _ _
-    (λ s h. bounds-are (lent start) (a .d) (a .rates .now) (a .column) _ _ _ _ _ (a .lower .now) (a .upper .now) s (limits .1) (limits .3) (early .early-levels .ensures .0)
-    (rw (← (last .before .before .coupon-growth .ensures), ← (last .before .servicing-cost .ensures)) (m .level-multipliers .ensures .0)) h
-    (known .1) (known .2) (known .0) (a .balance))))
+    let e : c .before .loop .scenario ≡ 7 = omega arith in (
+      overwritten-all _ _ _ _ (c .before .loop .inv .1) (omega arith)
+          ∙ rw e
+          (ap joined (table-ext 7 _ _
+          (λ s h. bounds-are (lent start) (a .d) (a .rates .now) (a .column) _ _ _ _ _ (a .lower .now) (a .upper .now) s (limits .1) (limits .3) (early .early-levels .ensures .0)
+          (rw (← (last .before .before .coupon-growth .ensures), ← (last .before .servicing-cost .ensures)) (m .level-multipliers .ensures .0)) h
+          (known .1) (known .2) (known .0) (a .balance)))),
+      ((λ none. absurd (last .before .before .before .if1 .left none)), λ some. early .early-levels .ensures),
+    )
 
 pub values-of-spec : {M : Type 1} → statement M
 values-of-spec =

@@ -30,7 +30,11 @@ values-of-requires c κs =
 
 returns : tie.Need-returns
 unfolding tabledHeld positionOf
-returns c = let column = c .before .before in rw (c .values-of .ensures, column .position .ensures, column .before .deposit-at .ensures)
+returns c =
+    let column = c .before .before in (
+      rw (c .values-of .ensures .0, column .position .ensures, column .before .deposit-at .ensures),
+      rw (column .position .ensures, column .before .deposit-at .ensures) at (c .values-of .ensures .1),
+    )
 
 pub held-values-spec : {M : Type 1} → statement M
 held-values-spec = tie.close (tie.spec deposit-at-requires position-requires values-of-requires returns)
