@@ -11,12 +11,12 @@ use Rattle.lists.specs.Sums.{sum}
 use Rattle.apportion.specs.Apportion.{cumulativeShare, shareBehind, sharesFrom, apportion}
 
 -- the share of more parts is not smaller
-pub cumulative-mono : (amount total : ℕ) {first more : ℕ} → first ≤ more → cumulativeShare amount total first ≤ cumulativeShare amount total more
+pub cumulative-mono : (amount total : ℕ) {running more : ℕ} → running ≤ more → cumulativeShare amount total running ≤ cumulativeShare amount total more
 unfolding cumulativeShare
-cumulative-mono amount zero {first} {more} h = omega (arith, div-zero (amount * first), div-zero (amount * more))
-cumulative-mono amount (suc n) {first} {more} h =
+cumulative-mono amount zero {running} {more} h = omega (arith, div-zero (amount * running), div-zero (amount * more))
+cumulative-mono amount (suc n) {running} {more} h =
     le-div-iff-mul-le {y = amount * more} (zero-lt-suc n) .1
-    (omega (arith, div-mul-le-self (amount * first) (suc n), mul-le-mul-left amount h))
+    (omega (arith, div-mul-le-self (amount * running) (suc n), mul-le-mul-left amount h))
 
 -- no parts have no share
 cumulative-none : (amount total : ℕ) → cumulativeShare amount total 0 ≡ 0
@@ -42,7 +42,7 @@ sharesFrom-sum amount total before (x ∷ xs) =
       cumulative-mono amount total (le-add-right before x),
     )
 
--- a part x has a share of at most x: amount × (first + x) ≤ amount × first + total × x < (the share + 1 + x) × total
+-- a part x has a share of at most x: amount × (running + x) ≤ amount × running + total × x < (the share + 1 + x) × total
 pub share-le : (amount total before x : ℕ) → amount ≤ total → shareBehind amount total before x ≤ x
 unfolding cumulativeShare
 share-le amount zero before x h = omega (arith, div-zero (amount * (before + x)))

@@ -3,9 +3,9 @@ use Prim.Native.Nat.{ℕ, _+_, _*_, _-_, _/_}
 use mathlib.Core.List.{List, [], _∷_}
 use Rattle.lists.specs.Sums.{sum}
 
--- floor(amount × first / total): the share of all parts up to and with `first`. It is 0 where the total is 0, as a quotient by 0 is
+-- floor(amount × running / total): the share of the parts so far, whose sum is `running` (S_i of 01:44). It is 0 where the total is 0, as a quotient by 0 is
 unfoldable pub cumulativeShare : ℕ → ℕ → ℕ → ℕ
-cumulativeShare amount total first = amount * first / total
+cumulativeShare amount total running = amount * running / total
 
 -- the share of a part that stands behind a sum of `before`
 abbrev pub shareBehind : ℕ → ℕ → ℕ → ℕ → ℕ

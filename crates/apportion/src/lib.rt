@@ -43,13 +43,13 @@ fn share_behind(amount: u64, total: u64, before: u64, part: u64) -> u64
     cumulative_share(amount, total, before + part) - cumulative_share(amount, total, before)
 }
 
-// The share of the first parts, whose sum is `first`.
-fn cumulative_share(amount: u64, total: u64, first: u64) -> u64
-    requires { ⌜ (amount ≤ columnLimit) × (first ≤ columnLimit) ⌝ }
-    ensures { λ r. ⌜ r ≡ cumulativeShare amount total first ⌝ }
+// The share of the parts so far, whose sum is `running`.
+fn cumulative_share(amount: u64, total: u64, running: u64) -> u64
+    requires { ⌜ (amount ≤ columnLimit) × (running ≤ columnLimit) ⌝ }
+    ensures { λ r. ⌜ r ≡ cumulativeShare amount total running ⌝ }
 {
     if total == 0 {
         return 0;
     }
-    amount * first / total
+    amount * running / total
 }

@@ -28,7 +28,7 @@ pub fn print_book(s: &[u8], survivals: &[u64]) {
 // The answer of the opening under a filing, and what each call answers.
 fn print_opened(filing: &[u8], calls: &[u8], survivals: &[u64]) {
     let refusal = refusal_of(filing, 0, 0);
-    print_answer(refusal.number, refusal.place);
+    print_answer(refusal.number, refusal.location);
     let count = chosen(refusal.number == 0, calls.len() as u64 / 48, 0);
     for k in 0..count {
         print_call(filing, calls, survivals, k);

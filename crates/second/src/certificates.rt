@@ -9,7 +9,7 @@ use crate::sums::sums_of;
 // The answer, and the cells with their values; none on a refusal.
 pub fn print_certificates(s: &[u8]) {
     let sums = sums_of(s);
-    print_answer(sums.number, sums.place);
+    print_answer(sums.number, sums.location);
     if sums.number == 0 {
         let list = sums.list;
         print_cells(&list);

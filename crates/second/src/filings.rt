@@ -21,7 +21,7 @@ pub const PLACES: u64 = 36;
 // are past the written ones, and how many of these are as they were.
 pub fn print_list(s: &[u8], survivals: &[u64], length: u64, needed: u64) {
     let refusal = refusal_of(s, length, needed);
-    print_answer(refusal.number, refusal.place);
+    print_answer(refusal.number, refusal.location);
     let written = chosen(refusal.number == 0, needed, 0);
     match written {
         NUMBERS => print_values(s, survivals),
@@ -40,7 +40,7 @@ pub fn print_listing(s: &[u8], survivals: &[u64]) {
     } else if refusal.number == 0 {
         print_totals(s, survivals, b"", s, 0);
     } else {
-        print_line(b"refused", &[refusal.number, refusal.place]);
+        print_line(b"refused", &[refusal.number, refusal.location]);
     }
 }
 

@@ -2,9 +2,9 @@
 use crate::cells::entry;
 use libc::STDOUT_FILENO;
 
-// An answer: a refusal's number and its place, both 0 on acceptance.
-pub fn print_answer(number: u64, place: u64) {
-    print_line(b"answer", &[number, place]);
+// An answer: a refusal's number and its location, both 0 on acceptance.
+pub fn print_answer(number: u64, location: u64) {
+    print_line(b"answer", &[number, location]);
 }
 
 // A line of a name and numbers.

@@ -103,7 +103,7 @@ pub fn sheet(s: &[u8], kind: u64) -> u64 {
 
 // The offset of the first record before `until` that has the key in the `size` bytes after its
 // length: its kind, 2 bytes, that and its cell, 4, or these and an amendment's number, 6; `until`, or
-// a place past it in a filing that is broken, where there is none.
+// an offset past it in a filing that is broken, where there is none.
 pub fn found(s: &[u8], until: u64, size: u64, key: u64) -> u64 {
     let mut at = 0;
     for _ in 0..s.len() {

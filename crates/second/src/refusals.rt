@@ -1,4 +1,4 @@
-// Why a filing is refused: the number of the refusal and its place. Number 0 is none.
+// Why a filing is refused: the number of the refusal and its location. Number 0 is none.
 use crate::arith::add;
 use crate::arith::chosen;
 use crate::bytes::number;
@@ -24,10 +24,10 @@ use crate::tiers::are_disordered;
 
 pub struct Refusal {
     pub number: u64,
-    pub place: u64,
+    pub location: u64,
 }
 
-// The refusal of a filing whose results go to a list of `length` places, of which `needed` are needed.
+// The refusal of a filing whose results go to a list of `length` entries, of which `needed` are needed.
 pub fn refusal_of(s: &[u8], length: u64, needed: u64) -> Refusal {
     let at = first_faulty(s);
     let fault = record_fault(s, at);
@@ -37,14 +37,14 @@ pub fn refusal_of(s: &[u8], length: u64, needed: u64) -> Refusal {
 }
 
 // A refusal where something holds, else one that is tested later.
-fn refused_if(holds: bool, number: u64, place: u64, later: Refusal) -> Refusal {
+fn refused_if(holds: bool, number: u64, location: u64, later: Refusal) -> Refusal {
     Refusal {
         number: chosen(holds, number, later.number),
-        place: chosen(holds, place, later.place),
+        location: chosen(holds, location, later.location),
     }
 }
 
-// The offset of the first record that has a fault; the end or a place past it where none has.
+// The offset of the first record that has a fault; the end or an offset past it where none has.
 fn first_faulty(s: &[u8]) -> u64 {
     let mut at = 0;
     for _ in 0..s.len() {
@@ -130,7 +130,7 @@ fn is_rate_over(s: &[u8], at: u64, count: u64) -> bool {
 fn whole_refusal(s: &[u8]) -> Refusal {
     let none = Refusal {
         number: 0,
-        place: 0,
+        location: 0,
     };
     let is_unequal = value(s, TOTAL) != column_sum(s, 0, 9);
     let mut refusal = refused_if(is_unequal, 9, TOTAL, none);

@@ -31,7 +31,7 @@ pub fn print_search(s: &[u8], survivals: &[u64]) {
 fn print_found(s: &[u8], survivals: &[u64], earned: u64, lost: u64, cost: u64) {
     let refusal = refusal_of(s, 0, 0);
     if refusal.number != 0 {
-        print_answer(refusal.number, refusal.place);
+        print_answer(refusal.number, refusal.location);
     } else if (MOST_GAIN < earned) | (MOST_GAIN < lost) | (MOST_COST < cost) {
         print(b"too large\n");
     } else {

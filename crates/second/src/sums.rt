@@ -14,12 +14,12 @@ use crate::cells::known;
 use crate::dates::date;
 use crate::dates::months_between;
 
-// The refusal's number and place, number 0 where there is none; and the sums of the certificates:
-// four places for each of the nine cells, of which three are used, the balance and the sums of
+// The refusal's number and location, number 0 where there is none; and the sums of the certificates:
+// four numbers for each of the nine cells, of which three are used, the balance and the sums of
 // balance × coupon and of balance × remaining months, and at last the balance of all.
 pub struct Sums {
     pub number: u64,
-    pub place: u64,
+    pub location: u64,
     pub list: [u64; 37],
 }
 
@@ -34,7 +34,7 @@ pub fn sums_of(s: &[u8]) -> Sums {
     let count = sub(s.len() as u64, 24) / 64;
     let mut sums = Sums {
         number: chosen((count == 0) | (1000 < count), 5, 0),
-        place: 0,
+        location: 0,
         list: [0; 37],
     };
     for k in 0..count {
@@ -64,7 +64,7 @@ fn taken(s: &[u8], k: u64, sums: Sums) -> Sums {
     let fault = chosen(is_over, 5, dated);
     Sums {
         number: fault,
-        place: chosen(fault == 0, 0, k),
+        location: chosen(fault == 0, 0, k),
         list: list,
     }
 }
@@ -87,7 +87,7 @@ fn position(original: u64, remaining: u64) -> u64 {
     add(row, column)
 }
 
-// The list with a certificate added to the sums of the cell that stand from place i on.
+// The list with a certificate added to the sums of the cell that stand from index i on.
 fn added(list: [u64; 37], i: u64, balance: u64, coupon: u64, months: u64) -> [u64; 37] {
     let in_all = raised(list, ALL, balance);
     let in_cell = raised(in_all, i, balance);

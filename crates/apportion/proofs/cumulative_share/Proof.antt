@@ -10,7 +10,7 @@ use Rattle.apportion.proofs.cumulative_share.Tie as tie
 
 returns : tie.Need-returns
 unfolding cumulativeShare
-returns c = cc (div-zero (c .before .args .amount * c .before .args .first), c .if1 .taken)
+returns c = cc (div-zero (c .before .args .amount * c .before .args .running), c .if1 .taken)
 
 mul-result : tie.Need-mul-result
 mul-result c = record { fits = lt-of-le-of-lt (mul-le-mul (c .before .pre .0) (c .before .pre .1)) (lit< tt) }
