@@ -21,9 +21,7 @@ use Rattle.certificate_sums.specs.Sums.{standsAt, positionSum, totalsOf}
 use Rattle.certificate_sums.specs.EachVerdict.{sumOverLimit, certificateVerdict, eachVerdict}
 use Rattle.certificates.specs.Verdict.{countVerdict, certificatesVerdict}
 use Rattle.certificates.specs.Filled.{filledCells}
-
-abbrev date : ℕ → ℕ → ℕ → Date
-date y m d = record { year = y; month = m; day = d }
+use Rattle.certified.proofs.DateCases.{date}
 
 -- the eight numbers of a certificate: issue and maturity as dates, balance, coupon
 abbrev certificate : Date → Date → ℕ → ℕ → List ℕ

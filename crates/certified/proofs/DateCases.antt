@@ -8,7 +8,7 @@ use Rattle.calendar.specs.declared.Date.{Date}
 use Rattle.calendar.specs.Dates.{isLeap, lastDay, isDate, onOrAfter, dayIn, movedOn, monthsBetween}
 use Rattle.filled_cells.specs.Means.{mean}
 
-abbrev date : ℕ → ℕ → ℕ → Date
+abbrev pub date : ℕ → ℕ → ℕ → Date
 date y m d = record { year = y; month = m; day = d }
 
 -- 29 February: not in 1900 and 2100, in 2000 and 2024, not in 2023; the ends of the years, of a year and of a month

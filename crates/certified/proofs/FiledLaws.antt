@@ -21,14 +21,12 @@ use Rattle.records.specs.Items.{sameItem, recordItem, firstWith}
 use Rattle.faults.specs.Faults.{standsBefore, sheetBefore, pathBesideFlat}
 use Rattle.record_verdicts.specs.RecordVerdicts.{recordVerdict, firstRefused, verdictBy, recordsVerdict}
 use Rattle.filled_cells.specs.declared.CellValue.{CellValue}
+use Rattle.filled_cells.specs.Cells.{noCell}
 use Rattle.certified.specs.Filed.{run, cellBody, sheetBody, filedBodies}
 use Rattle.certified.proofs.RecordRunLaws.{offset, offset-last, offset-lt, record-field, record-length, record-next, search-none}
 use Rattle.certified.proofs.BodyLaws.{cell-body-length, cell-body-kind, cell-body-cell, cell-body-value, sheet-body-length, sheet-body-kind, sheet-body-number, bodies-cell, bodies-yields, bodies-rates, bodies-length}
 use Rattle.certified.proofs.PassLaws.{CellRecord, SheetRecord, cell-item, cell-passes, sheet-item, sheet-passes, yields-sheet, rates-sheet}
 use Rattle.certified.proofs.ListedLaws.{Entry, Listed, listed-at, listed-rising}
-
-abbrev pub noCell : CellValue
-noCell = record { cell = 0; value = 0 }
 
 -- every limit fits eight bytes
 class-limit-le : (k : ℕ) → classLimit k ≤ 18446744073709551615

@@ -27,12 +27,13 @@ use Rattle.cell_amounts.specs.Amounts.{filedValue, amountAt}
 use Rattle.decode.specs.Contents.{cellOffset, cellValue, sheetOffset}
 use Rattle.required_sheets.specs.RequiredSheets.{sheetMissing}
 use Rattle.filled_cells.specs.declared.CellValue.{CellValue}
+use Rattle.filled_cells.specs.Cells.{noCell}
 use Rattle.certified.specs.Fit.{valueIn}
 use Rattle.certified.specs.Filed.{run, filedBodies}
 use Rattle.certified.proofs.RecordRunLaws.{offset, offset-last, offset-lt, search-hit}
 use Rattle.certified.proofs.CountLaws.{counting-none, counting-hit}
 use Rattle.certified.proofs.ListedLaws.{Listed, listed-rising}
-use Rattle.certified.proofs.FiledLaws.{noCell, filed-length, sized, cell-record, item-cell, item-yields, item-rates, cell-no-sheet, before-rates}
+use Rattle.certified.proofs.FiledLaws.{filed-length, sized, cell-record, item-cell, item-yields, item-rates, cell-no-sheet, before-rates}
 
 -- what a list says of a cell that stands first at index i, and of one that does not stand there
 value-found : (cells : List CellValue) (n i : ℕ) → i < length cells → eqb (getD cells i noCell .cell) n ≡ true

@@ -16,7 +16,7 @@ use Rattle.filled_cells.specs.declared.Totals.{Totals}
 use Rattle.filled_cells.specs.declared.FormCell.{FormCell}
 use Rattle.filled_cells.specs.declared.CellValue.{CellValue}
 use Rattle.filled_cells.specs.Means.{balanceAt, couponAt, monthsAt}
-use Rattle.filled_cells.specs.Cells.{isFilled, positionWith, formCell, formCells, isPresent, valueOf, cellValue, cellsOf, cellArray}
+use Rattle.filled_cells.specs.Cells.{isFilled, positionWith, formCell, formCells, isPresent, valueOf, cellValue, cellsOf, cellArray, noCell}
 use Rattle.filled_cells.specs.Inner.Listing.{formCellAt}
 use Rattle.lists.specs.Ranges.{within, firstFrom}
 
@@ -43,9 +43,6 @@ form-length : length formCells ≡ 28
 unfolding cellClass contains firstFrom position positions positionAt those tableFrom brokeredCell penaltyBalanceCell penaltyMonthsCell unusedCells within isFilled positionWith formCell formCells
 form-length = refl
 
-abbrev no-cell : CellValue
-no-cell = record { cell = 0; value = 0 }
-
 module _ (t : Totals) where
   -- the cells from an index of the table on
   unfoldable pub cellsFrom : ℕ → List CellValue
@@ -70,11 +67,11 @@ module _ (t : Totals) where
     pub long : length sofar ≡ count
     pub within : count ≤ index
     pub most : index ≤ 28
-    pub stored : cells ≡ sofar ++ replicate (28 - count) no-cell
+    pub stored : cells ≡ sofar ++ replicate (28 - count) noCell
     pub rest : sofar ++ cellsFrom index ≡ cellsOf t
 
   -- before the first
-  pub listing-start : Listing (replicate 28 no-cell) 0 0
+  pub listing-start : Listing (replicate 28 noCell) 0 0
   unfolding cellsFrom cellsOf
   listing-start = record { sofar = []; long = refl; within = omega arith; most = omega arith; stored = refl; rest = refl }
 
@@ -85,14 +82,14 @@ module _ (t : Totals) where
     listing-present x e p =
         let more : 28 - count ≡ suc (28 - (count + 1)) = omega (arith, at .within) in
         let next : cellsFrom index ≡ x ∷ cellsFrom (index + 1) = from-suc index h ∙ rw (p, e) in
-        let empty : List CellValue = replicate (28 - (count + 1)) no-cell in
+        let empty : List CellValue = replicate (28 - (count + 1)) noCell in
         record {
           sofar = at .sofar ++ (x ∷ []);
           long = length-append (at .sofar) (x ∷ []) ∙ ap (λ (n : ℕ). n + 1) (at .long);
           within = omega (arith, at .within);
           most = omega arith;
           stored =
-              rw (at .stored, more) (set-at (at .sofar) no-cell empty x count (at .long) ∙ sym (append-snoc (at .sofar) x empty));
+              rw (at .stored, more) (set-at (at .sofar) noCell empty x count (at .long) ∙ sym (append-snoc (at .sofar) x empty));
           rest = append-snoc (at .sofar) x (cellsFrom (index + 1)) ∙ rw (sym next) (at .rest);
         }
 

@@ -50,6 +50,10 @@ cellValue t e = record { cell = e .cell; value = valueOf t e }
 unfoldable pub cellsOf : Totals → List CellValue
 cellsOf t = map (cellValue t) (those (isPresent t) formCells)
 
--- cells in an array of 28, which is as many as there can be: 0 past the last
+-- no cell
+abbrev pub noCell : CellValue
+noCell = record { cell = 0; value = 0 }
+
+-- cells in an array of 28, which is as many as there can be: no cell past the last
 abbrev pub cellArray : List CellValue → List CellValue
-cellArray l = padded 28 (record { cell = 0; value = 0 }) l
+cellArray l = padded 28 noCell l

@@ -4,10 +4,7 @@ use mathlib.Core.List.{List, [], _∷_}
 use lib.ListN.{getD}
 use Rattle.lists.specs.Tables.{table, joined}
 use Rattle.filled_cells.specs.declared.CellValue.{CellValue}
-
--- no cell
-abbrev pub noCell : CellValue
-noCell = record { cell = 0; value = 0 }
+use Rattle.filled_cells.specs.Cells.{noCell}
 
 -- the cell at an index as two numbers: its number and its value
 unfoldable pub pairAt : List CellValue → ℕ → List ℕ

@@ -4,6 +4,7 @@ use native.Mathlib.Omega.{arith}
 use mathlib.Core.Path.{refl}
 use lib.ListN.{take, drop}
 use Rattle.text.proofs.AppendLaws.{Remaining, remaining-all, remaining-less, remaining-last}
+use Rattle.filled_cells.specs.Cells.{noCell}
 use Rattle.cell_lines.specs.CellLines.{cellLine, cellLines}
 use Rattle.cell_lines.proofs.CellLineLaws.{lines-next, lines-end}
 use Rattle.cell_lines.proofs.append_cells.Statement.{statement}
@@ -40,7 +41,7 @@ unfolding cellLine
 loop-again c =
     let l = c .before .before .before .before .before .before in
     let cells = l .before .before .args .t2 in
-    let inv = rw (lines-next (cells .cells) (cells .count) (l .loop .i) (l .before .before .pre .1 .1) (record { cell = 0; value = 0 }) (omega arith)) at (l .loop .inv .1 .1) in
+    let inv = rw (lines-next (cells .cells) (cells .count) (l .loop .i) (l .before .before .pre .1 .1) noCell (omega arith)) at (l .loop .inv .1 .1) in
     (omega arith, (omega (arith, c .before .before .append-cell .ensures .1), remaining-less _ _ _ _ _ _ _ _ _ inv (c .before .before .append-cell .ensures .0)))
 
 same-length : tie.Need-same-length Inv-loop μ-loop
