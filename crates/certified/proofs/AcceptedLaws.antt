@@ -35,7 +35,7 @@ use Rattle.certified.specs.Filed.{filingOf}
 use Rattle.certified.proofs.LookUpLaws.{value-past}
 use Rattle.certified.proofs.TotalLaws.{filled-total-le}
 use Rattle.certified.proofs.FitLaws.{balances-by-position, certificates-fit}
-use Rattle.certified.proofs.ListedLaws.{Listed, cells-listed}
+use Rattle.certified.proofs.FileableLaws.{Fileable, cells-fileable}
 use Rattle.certified.proofs.FiledLaws.{records-pass}
 use Rattle.certified.proofs.SaidLaws.{sheets-there, saidCells, said}
 
@@ -50,13 +50,13 @@ by-position : (f : Position → Verdict) → map f positions ≡ table 9 (λ (i 
 unfolding positions positionAt position tableFrom
 by-position f = refl
 
-module _ (cells : List CellValue) (yields rates : ℕ → ℕ) (listed : Listed 0 cells) (ys : (t : ℕ) → yields t ≤ rateLimit) (rs : (j : ℕ) → rates j ≤ rateLimit)
+module _ (cells : List CellValue) (yields rates : ℕ → ℕ) (fileable : Fileable 0 cells) (ys : (t : ℕ) → yields t ≤ rateLimit) (rs : (j : ℕ) → rates j ≤ rateLimit)
     (fit : Fit cells) (past : (n : ℕ) → 646 ≤ n → valueIn cells n ≡ 0) where
   abbrev told : List ℕ
-  told = saidCells cells yields rates listed ys rs
+  told = saidCells cells yields rates fileable ys rs
 
   says : (n class : ℕ) → CellOf n class → eqb class 2 ≡ false → cellIn told n ≡ valueIn cells n
-  says = said cells yields rates listed ys rs
+  says = said cells yields rates fileable ys rs
 
   -- 7: each WARM within its row
   row-tests : (empty inside : Bool) → (empty ≡ false → inside ≡ true) → (not empty && not inside) ≡ false
@@ -123,7 +123,7 @@ module _ (cells : List CellValue) (yields rates : ℕ → ℕ) (listed : Listed 
   -- no row of the table holds
   pub filing-accepted : filingVerdict (filingOf cells yields rates) ≡ accepted
   unfolding filingOf filingVerdict firstRefusal sheetVerdict refusedIf contentsOf accepted
-  filing-accepted = rw (records-pass cells yields rates listed ys rs, sheets-there cells yields rates listed ys rs) cells-pass
+  filing-accepted = rw (records-pass cells yields rates fileable ys rs, sheets-there cells yields rates fileable ys rs) cells-pass
 
 -- the cells that accepted certificates fill, with two sheets of rates up to their limit
 pub certificates-accepted : (v : Date) (s : List ℕ) (yields rates : ℕ → ℕ) → certificatesVerdict v s .number ≡ 0
@@ -132,5 +132,5 @@ pub certificates-accepted : (v : Date) (s : List ℕ) (yields rates : ℕ → �
 certificates-accepted v s yields rates h ys rs =
     let t : Totals = totalsOf v s (certificateCount s) in
     let filled : filledCells v s ≡ cellsOf t = filled-some v s h in
-    let listed = cells-listed t (totals-bounded v s (certificateCount s) (all-passed v s h)) (filled-total-le v s h) in
-    rw filled (filing-accepted (cellsOf t) yields rates listed ys rs (rw filled at (certificates-fit v s h)) (value-past t))
+    let fileable = cells-fileable t (totals-bounded v s (certificateCount s) (all-passed v s h)) (filled-total-le v s h) in
+    rw filled (filing-accepted (cellsOf t) yields rates fileable ys rs (rw filled at (certificates-fit v s h)) (value-past t))

@@ -26,7 +26,7 @@ use Rattle.certified.specs.Filed.{run, cellBody, sheetBody, filedBodies}
 use Rattle.certified.proofs.RecordRunLaws.{offset, offset-last, offset-lt, record-field, record-length, record-next, search-none}
 use Rattle.certified.proofs.BodyLaws.{cell-body-length, cell-body-kind, cell-body-cell, cell-body-value, sheet-body-length, sheet-body-kind, sheet-body-number, bodies-cell, bodies-yields, bodies-rates, bodies-length}
 use Rattle.certified.proofs.PassLaws.{CellRecord, SheetRecord, cell-item, cell-passes, sheet-item, sheet-passes, yields-sheet, rates-sheet}
-use Rattle.certified.proofs.ListedLaws.{Entry, Listed, listed-at, listed-rising}
+use Rattle.certified.proofs.FileableLaws.{Entry, Fileable, fileable-at, fileable-rising}
 
 -- every limit fits eight bytes
 class-limit-le : (k : ℕ) → classLimit k ≤ 18446744073709551615
@@ -78,9 +78,9 @@ module _ (cells : List CellValue) (yields rates : ℕ → ℕ) where
       → numberAt made index k ≡ numberAt (getD bodies i []) j k
   field-at i index j k h e l = ap (λ (m : ℕ). numberAt made m k) e ∙ record-field bodies i (rw filed-length h) j k l
 
-  module _ (listed : Listed 0 cells) where
+  module _ (fileable : Fileable 0 cells) where
     entry : (i : ℕ) → i < length cells → Entry 0 (cellAt i)
-    entry i h = listed-at noCell 0 cells listed i h
+    entry i h = fileable-at noCell 0 cells fileable i h
 
     -- a cell's record
     pub cell-record : (i : ℕ) → i < length cells → CellRecord made (offset bodies i) (cellAt i)
@@ -113,7 +113,7 @@ module _ (cells : List CellValue) (yields rates : ℕ → ℕ) where
             ∙ rw body (sheet-body-number f kind n j l (omega (arith, low (suc j))));
       }
 
-  module _ (listed : Listed 0 cells) (ys : (t : ℕ) → yields t ≤ rateLimit) (rs : (j : ℕ) → rates j ≤ rateLimit) where
+  module _ (fileable : Fileable 0 cells) (ys : (t : ℕ) → yields t ≤ rateLimit) (rs : (j : ℕ) → rates j ≤ rateLimit) where
     yields-record : SheetRecord made (offset bodies (length cells)) 2 120 yields
     yields-record = sheet-record (length cells) 2 120 yields (omega arith) body-yields (omega arith) (omega arith) ys
 
@@ -122,7 +122,7 @@ module _ (cells : List CellValue) (yields rates : ℕ → ℕ) where
 
     -- what each record may stand once as
     pub item-cell : (i : ℕ) → i < length cells → recordItem made (offset bodies i) ≡ Cell (cellAt i .cell)
-    item-cell i h = cell-item made (offset bodies i) (cellAt i) (cell-record listed i h) (entry listed i h .listed)
+    item-cell i h = cell-item made (offset bodies i) (cellAt i) (cell-record fileable i h) (entry fileable i h .listed)
 
     pub item-yields : recordItem made (offset bodies (length cells)) ≡ Sheet 2
     item-yields = sheet-item made (offset bodies (length cells)) 2 120 yields yields-record yields-sheet
@@ -135,7 +135,7 @@ module _ (cells : List CellValue) (yields rates : ℕ → ℕ) where
     unfolding sameItem
     same-cells i k l h =
         rw (item-cell i (omega arith), item-cell k h)
-        (ne-eqb (cellAt i .cell) (cellAt k .cell) (λ e. omega (arith, listed-rising noCell 0 cells listed i k l h)))
+        (ne-eqb (cellAt i .cell) (cellAt k .cell) (λ e. omega (arith, fileable-rising noCell 0 cells fileable i k l h)))
 
     -- a sheet is none of the cells, and none of the other sheets
     pub cell-no-sheet : (i kind : ℕ) → i < length cells → sameItem (recordItem made (offset bodies i)) (Sheet kind) ≡ false
@@ -189,7 +189,7 @@ module _ (cells : List CellValue) (yields rates : ℕ → ℕ) where
       where
         cell : i < length cells → recordVerdict made (offset bodies i) ≡ accepted
         cell l =
-            cell-passes made (offset bodies i) (cellAt i) (cell-record listed i l) (entry listed i l .listed) (entry listed i l .limit) (ends i h) (once i h)
+            cell-passes made (offset bodies i) (cellAt i) (cell-record fileable i l) (entry fileable i l .listed) (entry fileable i l .limit) (ends i h) (once i h)
 
         at-yields : i ≡ length cells → recordVerdict made (offset bodies i) ≡ accepted
         at-yields e =

@@ -9,7 +9,7 @@ pub mod RecordRunLaws
 pub mod CountLaws
 pub mod BodyLaws
 pub mod PassLaws
-pub mod ListedLaws
+pub mod FileableLaws
 pub mod FiledLaws
 pub mod SaidLaws
 pub mod AcceptedLaws

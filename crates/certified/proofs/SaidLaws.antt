@@ -32,7 +32,7 @@ use Rattle.certified.specs.Fit.{valueIn}
 use Rattle.certified.specs.Filed.{run, filedBodies}
 use Rattle.certified.proofs.RecordRunLaws.{offset, offset-last, offset-lt, search-hit}
 use Rattle.certified.proofs.CountLaws.{counting-none, counting-hit}
-use Rattle.certified.proofs.ListedLaws.{Listed, listed-rising}
+use Rattle.certified.proofs.FileableLaws.{Fileable, fileable-rising}
 use Rattle.certified.proofs.FiledLaws.{filed-length, sized, cell-record, item-cell, item-yields, item-rates, cell-no-sheet, before-rates}
 
 -- what a list says of a cell that stands first at index i, and of one that does not stand there
@@ -50,7 +50,7 @@ unfolding valueIn
 value-none [] n f = refl
 value-none (c ∷ cs) n f = rw (f 0 (omega arith)) (value-none cs n (λ j l. f (suc j) (omega arith)))
 
-module _ (cells : List CellValue) (yields rates : ℕ → ℕ) (listed : Listed 0 cells)
+module _ (cells : List CellValue) (yields rates : ℕ → ℕ) (fileable : Fileable 0 cells)
     (ys : (t : ℕ) → yields t ≤ rateLimit) (rs : (j : ℕ) → rates j ≤ rateLimit) where
   abbrev bodies : List (List ℕ)
   bodies = filedBodies cells yields rates
@@ -76,12 +76,12 @@ module _ (cells : List CellValue) (yields rates : ℕ → ℕ) (listed : Listed 
   yields-there : sheetOffset made 2 ≡ offset bodies (length cells)
   unfolding sheetOffset sameItem
   yields-there =
-      item-first (Sheet 2) (length cells) (omega arith) (rw (item-yields cells yields rates listed ys rs)) (λ m l. cell-no-sheet cells yields rates listed ys rs m 2 l)
+      item-first (Sheet 2) (length cells) (omega arith) (rw (item-yields cells yields rates fileable ys rs)) (λ m l. cell-no-sheet cells yields rates fileable ys rs m 2 l)
 
   rates-there : sheetOffset made flatRatesKind ≡ offset bodies (suc (length cells))
   unfolding sheetOffset sameItem
   rates-there =
-      item-first (Sheet 3) (suc (length cells)) (omega arith) (rw (item-rates cells yields rates listed ys rs)) (λ m l. before-rates cells yields rates listed ys rs m 3 l refl)
+      item-first (Sheet 3) (suc (length cells)) (omega arith) (rw (item-rates cells yields rates fileable ys rs)) (λ m l. before-rates cells yields rates fileable ys rs m 3 l refl)
 
   pub sheets-there : sheetMissing made ≡ false
   unfolding sheetMissing
@@ -100,14 +100,14 @@ module _ (cells : List CellValue) (yields rates : ℕ → ℕ) (listed : Listed 
   -- how a record ranks for a cell: the cell's own as number 0, a sheet not at all, and nothing at the end
   rank-cell : (n i : ℕ) (b : Bool) → i < length cells → isCell n i ≡ b → rank made n (offset bodies i) ≡ cond b 1 0
   unfolding itemRank
-  rank-cell n i b h e = rw (item-cell cells yields rates listed ys rs i h, e)
+  rank-cell n i b h e = rw (item-cell cells yields rates fileable ys rs i h, e)
 
   rank-sheet : (n i : ℕ) → length cells ≤ i → i < length cells + 2 → rank made n (offset bodies i) ≡ 0
   unfolding itemRank
   rank-sheet n i l h =
-      ⊎-elim (λ e. subst (λ (m : ℕ). rank made n (offset bodies m) ≡ 0) e (rw (item-yields cells yields rates listed ys rs)))
+      ⊎-elim (λ e. subst (λ (m : ℕ). rank made n (offset bodies m) ≡ 0) e (rw (item-yields cells yields rates fileable ys rs)))
       (λ m. let e : suc (length cells) ≡ i = omega arith in
-      subst (λ (k : ℕ). rank made n (offset bodies k) ≡ 0) e (rw (item-rates cells yields rates listed ys rs))) (eq-or-lt-of-le l)
+      subst (λ (k : ℕ). rank made n (offset bodies k) ≡ 0) e (rw (item-rates cells yields rates fileable ys rs))) (eq-or-lt-of-le l)
 
   rank-end : (n : ℕ) → rank made n (length made) ≡ 0
   unfolding itemRank recordItem givesCell dueLength sheetLength sheetKind sheetKinds sheetOf
@@ -118,8 +118,8 @@ module _ (cells : List CellValue) (yields rates : ℕ → ℕ) (listed : Listed 
   only n i h e m l other =
       let is = eqb-true (getD cells i noCell .cell) n e in
       ne-eqb (getD cells m noCell .cell) n
-      (λ q. ⊎-elim (λ a. omega (arith, listed-rising noCell 0 cells listed m i a h))
-      (λ a. ⊎-elim (λ b. other (sym b)) (λ b. omega (arith, listed-rising noCell 0 cells listed i m b l)) (eq-or-lt-of-le a)) (lt-or-le m i))
+      (λ q. ⊎-elim (λ a. omega (arith, fileable-rising noCell 0 cells fileable m i a h))
+      (λ a. ⊎-elim (λ b. other (sym b)) (λ b. omega (arith, fileable-rising noCell 0 cells fileable i m b l)) (eq-or-lt-of-le a)) (lt-or-le m i))
 
   none-else : (n i : ℕ) → i < length cells → isCell n i ≡ true → (m : ℕ) → m < length bodies → (m ≡ i → ⊥) → rank made n (offset bodies m) ≡ 0
   none-else n i h e m l other =
@@ -129,7 +129,7 @@ module _ (cells : List CellValue) (yields rates : ℕ → ℕ) (listed : Listed 
   amount-is : (n i : ℕ) → i < length cells → isCell n i ≡ true → eqb (cellClass n) couponClass ≡ false → amountAt made (offset bodies i) ≡ getD cells i noCell .value
   unfolding amountAt filedValue
   amount-is n i h e other =
-      let r = cell-record cells yields rates listed i h in
+      let r = cell-record cells yields rates fileable i h in
       rw (r .kind-is, r .cell-is, eqb-true (getD cells i noCell .cell) n e, other, r .value-is)
 
   found : (n i : ℕ) → i < length cells → isCell n i ≡ true → ((j : ℕ) → j < i → isCell n j ≡ false) → eqb (cellClass n) couponClass ≡ false

@@ -149,23 +149,23 @@ module _ {M : Type 1} (𝓤 : URA M) (H : Heap 𝓤) (A : Atoms 𝓤) (W : Given
 
   -- the result, at its machine value
   module _ (r : Answer) (u : Val) (zs : List SubBalance) (w : Val) (is : Is N.the-row r (u ∷ [])) (zs-are : Is Places zs (w ∷ [])) where
-    abbrev listed : SplitPlaces
-    listed = record { answer = r; places = zs }
+    abbrev answered : SplitPlaces
+    answered = record { answer = r; places = zs }
 
-    abbrev listed-val : Val
-    listed-val = vstruct (vcons u (vcons w vnil))
+    abbrev answered-val : Val
+    answered-val = vstruct (vcons u (vcons w vnil))
 
-    listed-is : Is L.the-row listed (listed-val ∷ [])
-    listed-is = ((u ∷ [], (w ∷ [], tt)), (refl, (is, (field-of-places 40 zs (w ∷ []) zs-are, tt))))
+    answered-is : Is L.the-row answered (answered-val ∷ [])
+    answered-is = ((u ∷ [], (w ∷ [], tt)), (refl, (is, (field-of-places 40 zs (w ∷ []) zs-are, tt))))
 
-    exits : SplitFirst (f .now) ys m r zs → ent 𝓤 (⋆ 𝓤 H A (‵ (flft κ q) ∷ ‵ Own ∷ [])) (Post listed-val)
+    exits : SplitFirst (f .now) ys m r zs → ent 𝓤 (⋆ 𝓤 H A (‵ (flft κ q) ∷ ‵ Own ∷ [])) (Post answered-val)
     exits e =
         qed W (‵ (flft κ q) ∷ ‵ Own ∷ []) ∵
-        suffices ! _ (ends-at 𝓤 H A first′.ended stayed (first′.clauses 𝓤 H A at-mem run) W (((κ, tt), (q, tt), tt, a, args), tt) listed-val listed (tt, (tt, (tt, tt))) (tt, (tt, (tt, tt)))) $ says ! e $
+        suffices ! _ (ends-at 𝓤 H A first′.ended stayed (first′.clauses 𝓤 H A at-mem run) W (((κ, tt), (q, tt), tt, a, args), tt) answered-val answered (tt, (tt, (tt, tt))) (tt, (tt, (tt, tt)))) $ says ! e $
         nothing ! $ move ! (1 ∷ 0 ∷ []) $ join ! $ frame ! $
         nothing ! $ owned ! usize (Is usize) (uint-makes 𝓤 H A W w64) m _ (refl, m-fits) $ fjoin ! $
         owned ! Places (Is Places) (places-makes 𝓤 H A W 40) ys _ are $ fjoin ! $ move ! (1 ∷ 0 ∷ []) $ fjoin ! $
-        owned ! L.the-row (Is L.the-row) (LL.makes L.the-type L′.the-plain 𝓤 H A) listed _ listed-is $ move ! (1 ∷ 0 ∷ []) $ done !
+        owned ! L.the-row (Is L.the-row) (LL.makes L.the-type L′.the-plain 𝓤 H A) answered _ answered-is $ move ! (1 ∷ 0 ∷ []) $ done !
 
   module _ (C : Calls 𝓤 H) (Λ : Loops 𝓤 H) (fm : FmC 𝓤 H (W .laws) C) (known : Triple 𝓤 (C #split-list·split) (SplitFn 𝓤 H A at-mem run)) where
     walk : ent 𝓤 (onEntry 𝓤 H A first′.signature (κ, tt) (q, tt) a args) (WpFn 𝓤 H C Λ code.function (sf ∷ arr ∷ vint w64 m ∷ []) Post)
@@ -216,7 +216,7 @@ module _ {M : Type 1} (𝓤 : URA M) (H : Heap 𝓤) (A : Atoms 𝓤) (W : Given
         -- [_4; the token; Own; _8; …; _5; …; (_4's right); _3; …; _1; …; room for _0; …]
         assigns ! (of-opd ! (load ! (from ! (stop !)) (look ! 0 refl))) (from ! (stop !)) (init ! 3 refl (places-typed 𝓤 H A W 40 (after (zs .1 .0)) _ (places-spelt 40 (after (zs .1 .0)) vs zs-are))) $
         assigns ! (agg ! (and-then ! (load ! (from ! (stop !)) (look ! 9 refl)) (and-then ! (load ! (from ! (stop !)) (look ! 3 refl)) (no-more !)))) (from ! (stop !))
-        (init ! 18 refl (LL.lawful L.the-type L′.the-laws 𝓤 H A W .typed (listed r u (after (zs .1 .0)) _ is (places-spelt 40 (after (zs .1 .0)) vs zs-are)) _ (listed-is r u (after (zs .1 .0)) _ is (places-spelt 40 (after (zs .1 .0)) vs zs-are)) .0)) $
+        (init ! 18 refl (LL.lawful L.the-type L′.the-laws 𝓤 H A W .typed (answered r u (after (zs .1 .0)) _ is (places-spelt 40 (after (zs .1 .0)) vs zs-are)) _ (answered-is r u (after (zs .1 .0)) _ is (places-spelt 40 (after (zs .1 .0)) vs zs-are)) .0)) $
         returns ! (look ! 18 refl) $ forget ! 0 refl $ forget ! 3 refl $ forget ! 5 refl $ forget ! 7 refl $ forget ! 9 refl $ forget ! 12 refl $
         forget ! 14 refl $ forget ! 16 refl $ forget ! 18 refl $
         move ! (18 ∷ 19 ∷ []) $ free1 ! $ move ! (16 ∷ 17 ∷ []) $ free1 ! $ move ! (14 ∷ 15 ∷ []) $ free1 ! $ move ! (12 ∷ 13 ∷ []) $ free1 ! $ move ! (0 ∷ 11 ∷ []) $ free1 ! $

@@ -30,25 +30,25 @@ pub record Entry (m : ℕ) (c : CellValue) : Type 0 where
   pub limit : c .value ≤ classLimit (cellClass (c .cell))
 
 -- such cells, ascending
-abbrev pub Listed : ℕ → List CellValue → Type 0
-Listed m [] = Unit {0}
-Listed m (c ∷ cs) = Entry m c × Listed (c .cell) cs
+abbrev pub Fileable : ℕ → List CellValue → Type 0
+Fileable m [] = Unit {0}
+Fileable m (c ∷ cs) = Entry m c × Fileable (c .cell) cs
 
 module _ (d : CellValue) where
   -- the cell at index i
-  pub listed-at : (m : ℕ) (cells : List CellValue) → Listed m cells → (i : ℕ) → i < length cells → Entry m (getD cells i d)
-  listed-at m [] l i h = absurd (not-suc-le-zero h)
-  listed-at m (c ∷ cs) l zero h = l .0
-  listed-at m (c ∷ cs) l (suc i) h =
-      let e = listed-at (c .cell) cs (l .1) i (le-of-suc-le-suc h) in
+  pub fileable-at : (m : ℕ) (cells : List CellValue) → Fileable m cells → (i : ℕ) → i < length cells → Entry m (getD cells i d)
+  fileable-at m [] l i h = absurd (not-suc-le-zero h)
+  fileable-at m (c ∷ cs) l zero h = l .0
+  fileable-at m (c ∷ cs) l (suc i) h =
+      let e = fileable-at (c .cell) cs (l .1) i (le-of-suc-le-suc h) in
       record { above = lt-trans (l .0 .above) (e .above); to-645 = e .to-645; listed = e .listed; limit = e .limit }
 
-  pub listed-rising : (m : ℕ) (cells : List CellValue) → Listed m cells → (i j : ℕ) → i < j → j < length cells
+  pub fileable-rising : (m : ℕ) (cells : List CellValue) → Fileable m cells → (i j : ℕ) → i < j → j < length cells
       → getD cells i d .cell < getD cells j d .cell
-  listed-rising m [] l i j a h = absurd (not-suc-le-zero h)
-  listed-rising m (c ∷ cs) l i zero a h = absurd (not-suc-le-zero a)
-  listed-rising m (c ∷ cs) l zero (suc j) a h = listed-at (c .cell) cs (l .1) j (le-of-suc-le-suc h) .above
-  listed-rising m (c ∷ cs) l (suc i) (suc j) a h = listed-rising (c .cell) cs (l .1) i j (le-of-suc-le-suc a) (le-of-suc-le-suc h)
+  fileable-rising m [] l i j a h = absurd (not-suc-le-zero h)
+  fileable-rising m (c ∷ cs) l i zero a h = absurd (not-suc-le-zero a)
+  fileable-rising m (c ∷ cs) l zero (suc j) a h = fileable-at (c .cell) cs (l .1) j (le-of-suc-le-suc h) .above
+  fileable-rising m (c ∷ cs) l (suc i) (suc j) a h = fileable-rising (c .cell) cs (l .1) i j (le-of-suc-le-suc a) (le-of-suc-le-suc h)
 
 -- one side of a disjunction that holds
 either-true : (x y : Bool) → (x || y) ≡ true → (x ≡ true) ⊎ (y ≡ true)
@@ -115,7 +115,7 @@ module _ (t : Totals) (b : Bounded t) (total : sum (t .balance) ≤ totalLimit) 
 
   -- the cells of the table from number i on
   from-listed : (i n m : ℕ) → m < i → i + n ≤ 646
-      → Listed m (map (cellValue t) (those (isPresent t) (map formCell (those isFilled (tableFrom i n (λ (k : ℕ). k))))))
+      → Fileable m (map (cellValue t) (those (isPresent t) (map formCell (those isFilled (tableFrom i n (λ (k : ℕ). k))))))
   unfolding those tableFrom cellValue formCell
   from-listed i zero m l u = tt
   from-listed i (suc n) m l u =
@@ -123,14 +123,14 @@ module _ (t : Totals) (b : Bounded t) (total : sum (t .balance) ≤ totalLimit) 
       (from-listed (suc i) n m (omega arith) (omega arith))
     where
       by : (x y : Bool) → isFilled i ≡ x → isPresent t (formCell i) ≡ y
-          → Listed i (map (cellValue t) (those (isPresent t) (map formCell (those isFilled (tableFrom (suc i) n (λ (k : ℕ). k))))))
-          → Listed m (map (cellValue t) (those (isPresent t) (map formCell (those isFilled (tableFrom (suc i) n (λ (k : ℕ). k))))))
-          → Listed m (map (cellValue t) (those (isPresent t) (map formCell (cond x (i ∷ those isFilled (tableFrom (suc i) n (λ (k : ℕ). k))) (those isFilled (tableFrom (suc i) n (λ (k : ℕ). k)))))))
+          → Fileable i (map (cellValue t) (those (isPresent t) (map formCell (those isFilled (tableFrom (suc i) n (λ (k : ℕ). k))))))
+          → Fileable m (map (cellValue t) (those (isPresent t) (map formCell (those isFilled (tableFrom (suc i) n (λ (k : ℕ). k))))))
+          → Fileable m (map (cellValue t) (those (isPresent t) (map formCell (cond x (i ∷ those isFilled (tableFrom (suc i) n (λ (k : ℕ). k))) (those isFilled (tableFrom (suc i) n (λ (k : ℕ). k)))))))
       by false y e f next same = same
       by true false e f next same = rw f same
       by true true e f next same =
           rw f (record { above = l; to-645 = omega arith; listed = filled-listed i e; limit = entry-limit i f e }, next)
 
-  pub cells-listed : Listed 0 (cellsOf t)
+  pub cells-fileable : Fileable 0 (cellsOf t)
   unfolding cellsOf formCells
-  cells-listed = from-listed 601 45 0 (omega arith) (omega arith)
+  cells-fileable = from-listed 601 45 0 (omega arith) (omega arith)
