@@ -2,4 +2,3 @@ pub mod VerdictLaws
 pub mod AcceptedLaws
 pub mod ReadLaws
 pub mod ReadingLaws
-pub mod SurvivorLaws

@@ -1,23 +1,20 @@
--- A filing with amendments says the same as one with only its surviving cells, each in a record of kind 1 or 6.
+-- In a sound filing without amendments the record that counts for a cell is the cell's own, of kind 1 or 6.
 -- Assumes nothing.
-use Prim.Native.Nat.{ℕ, _+_, _*_, _/_, _≤_, _<_}
+use Prim.Native.Nat.{ℕ, _≤_, _<_}
 use native.Mathlib.Nat.{le-refl, le-antisymm}
 use native.Mathlib.Omega.{arith}
 use mathlib.Core.Path.{_≡_, refl, sym, ap, _∙_}
-use mathlib.Core.Bool.{Bool, true, false, cond, not, _&&_, true≢false}
+use mathlib.Core.Bool.{Bool, true, false, not, true≢false}
 use mathlib.Core.List.{List}
-use borrow.Author.Tests.{ltb-true, ltb-false, lt-ltb, le-ltb, eqb-true, eq-eqb, ne-eqb, not-false, not-true}
+use borrow.Author.Tests.{ltb-true, ltb-false, lt-ltb, eqb-true, eq-eqb, not-false}
 use lib.Dec.{ltb, eqb}
 use lib.ListN.{length}
-use Rattle.lists.proofs.TestLaws.{and-true}
-use Rattle.schedule.specs.Limits.{couponClass, cellClass, monthsLimit, tierLimit}
 use Rattle.records.specs.declared.Item.{Item}
 use Rattle.records.specs.declared.Item.the-variants.{Cell, Sheet, Amendment, Nothing}
-use Rattle.fields.specs.Records.{recordKind, recordCell, amendmentState, sheetNumber, tierCount, firstRecord}
-use Rattle.record_kinds.specs.Kinds.{fineCouponKind, amendmentKind, tiersKind, ratePathKind, flatRatesKind}
+use Rattle.fields.specs.Records.{recordKind, firstRecord}
+use Rattle.record_kinds.specs.Kinds.{amendmentKind}
 use Rattle.records.specs.Items.{sameItem, recordItem, firstWith}
 use Rattle.notes.specs.Counting.{itemRank, rank, countingBefore}
-use Rattle.lists.proofs.TableLaws.{tableFrom-ext}
 use Rattle.fields.proofs.RecordLaws.{first-le, first-passes}
 use Rattle.records.proofs.ItemLaws.{same-item, item-past, record-of-amendment}
 use Rattle.faults.specs.Faults.{standsBefore}
@@ -27,10 +24,6 @@ use Rattle.faults.proofs.RepetitionLaws.{single-stands}
 use Rattle.fields.proofs.SearchLaws.{Reached}
 use Rattle.fields.proofs.FirstLaws.{first-found, first-earlier, first-reached}
 use Rattle.notes.proofs.CountingLaws.{ranked-cell, counting-most, counting-holds}
-use Rattle.cell_amounts.specs.Amounts.{filedValue, amountAt}
-use Rattle.sheet_numbers.specs.Sheets.{rateCount, tierNumber, tiersAt}
-use Rattle.decode.specs.Contents.{cellOffset, cellValue, sheetOffset, rateNumber, contentsOf}
-use Rattle.filing.specs.Survivors.{withdraws, survives, Surviving}
 
 module _ (t : List ℕ) (sound : firstRefused t (recordVerdict t) ≡ length t)
     (unamended : firstRecord t (λ (at : ℕ). eqb (recordKind t at) amendmentKind) (length t) ≡ length t) (n : ℕ) where
@@ -110,7 +103,7 @@ module _ (t : List ℕ) (sound : firstRefused t (recordVerdict t) ≡ length t)
           absurd (omega (arith, ranked l, none, counting-most t n (length t) first (first-reached t ofCell (length t) l) l))
 
   -- without amendments the record that counts for a cell is the cell's own
-  own-counts : counted ≡ first
+  pub own-counts : counted ≡ first
   unfolding firstWith
   own-counts = by (ltb counted (length t)) refl
     where
@@ -131,73 +124,3 @@ module _ (t : List ℕ) (sound : firstRefused t (recordVerdict t) ≡ length t)
           none : (b : Bool) → ltb first (length t) ≡ b → length t ≤ first
           none true c = absurd (omega (arith, first-counted (ltb-true first (length t) c), ltb-false counted (length t) e))
           none false c = ltb-false first (length t) c
-
--- a record that withdraws its cell gives 0
-withdrawn-amount : (s : List ℕ) (at : ℕ) → withdraws s at ≡ true → amountAt s at ≡ 0
-unfolding withdraws amountAt filedValue
-withdrawn-amount s at h =
-    let parts = and-true (eqb (recordKind s at) amendmentKind) (not (eqb (amendmentState s at) 0)) h in
-    let kind = eqb-true (recordKind s at) amendmentKind (parts .0) in
-    simp (
-      ne-eqb (recordKind s at) fineCouponKind (λ e. omega arith),
-      parts .0,
-      not-true (eqb (amendmentState s at) 0) (parts .1),
-    )
-    (either-way (eqb (cellClass (recordCell s at)) couponClass))
-  where
-    either-way : (b : Bool) → cond b (10 * 0) 0 ≡ 0
-    either-way true = refl
-    either-way false = refl
-
-module _ (s t : List ℕ) (u : Surviving s t) where
-  -- the offset of a cell in t
-  own : (n : ℕ) → cellOffset t n ≡ firstWith t (Cell n) (length t)
-  unfolding cellOffset
-  own n = own-counts t (u .sound) (u .unamended) n
-
-  -- a cell that does not survive says 0 in s
-  lost : (n : ℕ) → survives s n ≡ false → cellValue s n ≡ 0
-  unfolding survives cellValue
-  lost n h = by (ltb (cellOffset s n) (length s)) (withdraws s (cellOffset s n)) refl refl h
-    where
-      by : (present gone : Bool) → ltb (cellOffset s n) (length s) ≡ present → withdraws s (cellOffset s n) ≡ gone → (present && not gone) ≡ false
-          → cond present (amountAt s (cellOffset s n)) 0 ≡ 0
-      by true true p g h = withdrawn-amount s (cellOffset s n) g
-      by true false p g h = absurd (true≢false h)
-      by false gone p g h = refl
-
-  kept : (n : ℕ) → survives s n ≡ true → cellValue s n ≡ amountAt s (cellOffset s n)
-  unfolding survives cellValue
-  kept n h = simp (and-true (ltb (cellOffset s n) (length s)) (not (withdraws s (cellOffset s n))) h .0)
-
-  cell-same : (n : ℕ) → cellValue t n ≡ cellValue s n
-  unfolding cellValue
-  cell-same n = by (survives s n) refl
-    where
-      by : (b : Bool) → survives s n ≡ b → cellValue t n ≡ cellValue s n
-      by true h = rw (own n, lt-ltb (firstWith t (Cell n) (length t)) (length t) (u .stands n h)) (u .gives n h ∙ sym (kept n h))
-      by false h =
-          rw (own n, u .absent n h, le-ltb (length t) (length t) (le-refl (length t))) (sym (lost n h))
-
-  rate-same : (i : ℕ) → rateNumber t i ≡ rateNumber s i
-  unfolding rateNumber
-  rate-same i =
-      rw (u .same-sheets ratePathKind, u .same-numbers ratePathKind (i + 1), u .same-numbers flatRatesKind (i / monthsLimit + 1))
-
-  tier-same : (first i : ℕ) → tierNumber t (sheetOffset t tiersKind) (tierCount t (sheetOffset t tiersKind)) first i
-      ≡ tierNumber s (sheetOffset s tiersKind) (tierCount s (sheetOffset s tiersKind)) first i
-  unfolding tierNumber
-  tier-same first i = rw (u .same-numbers tiersKind 1, u .same-numbers tiersKind (first + 2 * i))
-
-  -- what the two say is the same
-  pub survivors-say : contentsOf t ≡ contentsOf s
-  unfolding contentsOf tiersAt
-  survivors-say =
-      rw (
-        tableFrom-ext 601 61 (cellValue t) (cellValue s) (λ n l m. cell-same n),
-        tableFrom-ext 1 120 (sheetNumber t (sheetOffset t 2)) (sheetNumber s (sheetOffset s 2)) (λ i l m. u .same-numbers 2 i),
-        tableFrom-ext 0 rateCount (rateNumber t) (rateNumber s) (λ i l m. rate-same i),
-        tableFrom-ext 0 tierLimit _ _ (λ i l m. tier-same 2 i),
-        tableFrom-ext 0 tierLimit _ _ (λ i l m. tier-same 3 i),
-        u .same-numbers tiersKind 1,
-      )

@@ -1,0 +1,32 @@
+-- "The valuation is that of the filing with only the surviving cells" (02:CR 6): what it says of each call that reads a filing. Definitions only.
+use Prim.Native.Nat.{ℕ}
+use mathlib.Core.Path.{_≡_}
+use mathlib.Core.List.{List}
+use Rattle.filing.specs.Verdict.{Accepted}
+use Rattle.decode.specs.Contents.{contentsOf}
+use Rattle.sub_balances.specs.declared.SubBalance.{SubBalance}
+use Rattle.split_outcomes.specs.Outcomes.{splitVerdict}
+use Rattle.split_list.specs.Split.{placesAfter}
+use Rattle.valuation.specs.Promise.{verdictOn, listAfter}
+use Rattle.books.specs.Books.{openedBook}
+use Rattle.books.specs.Changes.{Change, bookAfterAll}
+use Rattle.survivors.specs.Survivors.{Surviving}
+
+-- t is accepted, and each call that reads a filing does with t what it does with s
+pub record Alike (s t : List ℕ) : Type 0 where
+  pub accepted-too : Accepted t
+  -- they say the same: cells, yields, rates and tiers, and so every exact value and exact total, which are made of these
+  pub same-contents : contentsOf t ≡ contentsOf s
+  -- valuing: the verdict, and the list after the call, for any list that is lent
+  pub same-verdict : (before : List ℕ) → verdictOn t before ≡ verdictOn s before
+  pub same-list : (before : List ℕ) → listAfter t before ≡ listAfter s before
+  -- splitting: the verdict, by the size of the list, and the places after the call, for any list that is lent
+  pub same-split : (size : ℕ) → splitVerdict t size ≡ splitVerdict s size
+  pub same-places : (before : List SubBalance) → placesAfter t before ≡ placesAfter s before
+  -- the book that is opened, and the book after any sequence of changes
+  pub same-opened : openedBook t ≡ openedBook s
+  pub same-book : (changes : List Change) → bookAfterAll (openedBook t) changes ≡ bookAfterAll (openedBook s) changes
+
+-- an accepted filing and a filing with only its surviving cells are treated alike
+unfoldable pub SurvivorsAlike : Type 0
+SurvivorsAlike = (s t : List ℕ) → Accepted s → Surviving s t → Alike s t
