@@ -31,7 +31,7 @@ pub record RateSheet (kind n : ℕ) : Type 0 where
 
 module _ (s : List ℕ) (at : ℕ) where
   -- no row of the table holds
-  passes : incomplete s at ≡ false → misshapen s at ≡ false → unlisted s at ≡ false → standsBefore s at ≡ false → pathBesideFlat s at ≡ false
+  pub passes : incomplete s at ≡ false → misshapen s at ≡ false → unlisted s at ≡ false → standsBefore s at ≡ false → pathBesideFlat s at ≡ false
       → overLimit s at ≡ false → unsoundTiers s at ≡ false → recordVerdict s at ≡ accepted
   unfolding recordVerdict shapeVerdict bodyVerdict firstOf firstRefusal refusedIf accepted
   passes a b c d e f g =
@@ -40,7 +40,7 @@ module _ (s : List ℕ) (at : ℕ) where
       rw (a, b, c, once, e, single, f, g)
 
   -- it ends within the filing
-  complete : (n : ℕ) → recordLength s at ≡ n → 2 ≤ n → nextRecord s at ≤ length s → incomplete s at ≡ false
+  pub complete : (n : ℕ) → recordLength s at ≡ n → 2 ≤ n → nextRecord s at ≤ length s → incomplete s at ≡ false
   unfolding incomplete nextRecord
   complete n e l h =
       rw (le-ltb (length s) (at + 2) (omega arith), le-ltb (recordLength s at) 2 (omega (arith, e)), le-ltb (length s) (at + 2 + recordLength s at) h)

@@ -1,5 +1,5 @@
 -- An accepted filing and a filing with only its surviving cells are treated alike by every call that reads a filing. Assumes nothing.
-use Prim.Native.Nat.{ℕ}
+use Prim.Native.Nat.{ℕ, _≤_}
 use native.Mathlib.Nat.{le-refl}
 use mathlib.Core.Path.{_≡_, sym, ap, _∙_}
 use mathlib.Core.Bool.{false}
@@ -23,6 +23,12 @@ use Rattle.valuation.specs.Promise.{verdictOn, listAfter}
 use Rattle.book_places.specs.declared.Book.{Book}
 use Rattle.books.specs.Books.{openedBook}
 use Rattle.books.specs.Changes.{bookAfterAll}
+use Rattle.withdrawal.specs.declared.Incentive.{Incentive}
+use Rattle.tier_search.specs.declared.TierAnswer.{TierAnswer}
+use Rattle.tier_search.specs.declared.TierAnswer.the-variants.{Reached, Refused, TooLarge}
+use Rattle.tier_search.specs.TierAnswers.{TierAnswered}
+use Rattle.text.specs.Lines.{filingLimit}
+use Rattle.listing_text.specs.Listing.{verdictText, listingText}
 use Rattle.survivors.specs.Survivors.{Surviving}
 use Rattle.survivors.specs.Alike.{Alike, SurvivorsAlike}
 use Rattle.survivors.proofs.SurvivorLaws.{survivors-say}
@@ -67,6 +73,18 @@ module _ (s t : List ℕ) (a : Accepted s) (u : Surviving s t) where
   unfolding openedBook readContents
   opened-same = rw (verdict-same, says)
 
+  tier-same : (x : Incentive) (answer : TierAnswer) → TierAnswered s x answer → TierAnswered t x answer
+  unfolding TierAnswered
+  tier-same x (Reached tier) h = rw (verdict-same, says) h
+  tier-same x (Refused answer) h = rw verdict-same h
+  tier-same x TooLarge h = rw verdict-same h
+
+  -- neither is too long, and so each has the text of its verdict and of what it says
+  text-same : length s ≤ filingLimit → length t ≤ filingLimit → listingText t ≡ listingText s
+  unfolding listingText verdictText
+  text-same l m = rw (le-ltb filingLimit (length t) m, le-ltb filingLimit (length s) l, verdict-same, says)
+
+  -- Each call sees only the verdict on the filing and what the filing says, and these are the same
   alike : Alike s t
   unfolding verdictOn listAfter splitVerdict splitAccepts placesAfter
   alike =
@@ -79,9 +97,10 @@ module _ (s t : List ℕ) (a : Accepted s) (u : Surviving s t) where
         same-places = λ before. rw (verdict-same, says);
         same-opened = opened-same;
         same-book = λ changes. ap (λ (b : Book). bookAfterAll b changes) opened-same;
+        same-tier = tier-same;
+        same-text = text-same;
       }
 
--- each call sees only the verdict on the filing and what the filing says
 pub survivors-alike : SurvivorsAlike
 unfolding SurvivorsAlike
 survivors-alike = alike

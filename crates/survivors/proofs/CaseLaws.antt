@@ -24,7 +24,8 @@ use Rattle.decode.specs.Contents.{cellOffset, cellValue, sheetOffset, rateNumbe
 use Rattle.required_sheets.specs.RequiredSheets.{sheetMissing, sheetVerdict}
 use Rattle.filing.specs.Verdict.{filingVerdict}
 use Rattle.survivors.specs.Survivors.{withdraws, survives, numbersOf}
-use Rattle.survivors.specs.Cases.{aroundSheets, noneLeft, couponFine, couponFiled, PairsSurvive, OthersFail}
+use Rattle.survivors.specs.Cases.{aroundSheets, noneLeft, couponFine, couponFiled, PairsSurvive, OthersFail, ComposedCase}
+use Rattle.survivors.specs.Composed.{recordBytes, amendedCell, keeps, keptAs, keptAt, offsetOf, keptBefore, onlySurvivors}
 use Rattle.survivors.proofs.TestedLaws.{cellKept, sheetKept, allKept, tested, number-differs, cell-differs}
 
 -- each filing is accepted, and the finite test passes
@@ -50,3 +51,7 @@ others-fail =
       withdrawn-cell = cell-differs _ _ 645 tt;
       amended-coupon = cell-differs _ _ 605 tt;
     }
+
+pub composed-case : ComposedCase
+unfolding numberAt nextRecord givesCell sheetOf sheetKinds sheetKind sheetLength dueLength recordClass recordItem itemRank counting countsFrom countingBefore cellClass contains position positions brokeredCell penaltyBalanceCell penaltyMonthsCell unusedCells cellOffset tableFrom joined withdraws recordBytes amendedCell keeps keptAs keptAt offsetOf keptBefore onlySurvivors ComposedCase
+composed-case = refl

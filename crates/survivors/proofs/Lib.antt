@@ -3,3 +3,11 @@ pub mod SurvivorLaws
 pub mod AlikeLaws
 pub mod TestedLaws
 pub mod CaseLaws
+pub mod CopyLaws
+pub mod PieceLaws
+pub mod WalkLaws
+pub mod KeptLaws
+pub mod StandLaws
+pub mod PassedLaws
+pub mod SizeLaws
+pub mod ComposedLaws

@@ -18,14 +18,24 @@ use Rattle.notes.specs.Counting.{itemRank, rank, countingBefore}
 use Rattle.fields.proofs.RecordLaws.{first-le, first-passes}
 use Rattle.records.proofs.ItemLaws.{same-item, item-past, record-of-amendment}
 use Rattle.faults.specs.Faults.{standsBefore}
-use Rattle.record_verdicts.specs.RecordVerdicts.{firstRefused, recordVerdict}
-use Rattle.record_verdicts.proofs.FaultLaws.{record-plain, faultless}
+use Rattle.record_verdicts.specs.RecordVerdicts.{firstRefused, firstFaulty, recordVerdict}
+use Rattle.record_verdicts.proofs.FaultLaws.{Faultless, record-plain, faultless}
 use Rattle.faults.proofs.RepetitionLaws.{single-stands}
 use Rattle.fields.proofs.SearchLaws.{Reached}
 use Rattle.fields.proofs.FirstLaws.{first-found, first-earlier, first-reached}
 use Rattle.notes.proofs.CountingLaws.{ranked-cell, counting-most, counting-holds}
 
-module _ (t : List ℕ) (sound : firstRefused t (recordVerdict t) ≡ length t)
+-- where no record is faulty, each that is reached is without a fault
+pub faultless-at : (t : List ℕ) → firstFaulty t ≡ length t → (at : ℕ) → Reached t 0 at → at < length t → Faultless t at
+unfolding firstRefused
+faultless-at t sound at r l =
+    faultless t at
+    (record-plain t at
+    (eqb-true (recordVerdict t at .number) 0
+    (not-false (eqb (recordVerdict t at .number) 0)
+    (first-earlier t (λ (i : ℕ). not (eqb (recordVerdict t i .number) 0)) (length t) at r (omega (arith, sound))))))
+
+module _ (t : List ℕ) (sound : firstFaulty t ≡ length t)
     (unamended : firstRecord t (λ (at : ℕ). eqb (recordKind t at) amendmentKind) (length t) ≡ length t) (n : ℕ) where
   abbrev first : ℕ
   first = firstWith t (Cell n) (length t)
@@ -63,17 +73,14 @@ module _ (t : List ℕ) (sound : firstRefused t (recordVerdict t) ≡ length t)
   unfolding sameItem
   same-cell at e = rw e (eq-eqb n n refl)
 
-  -- no record of the cell stands before another: a second one would be a 4
+  -- No record of the cell stands before another: were the first one before `at`, the search that ends at `at` would find it, and the record at `at` would
+  -- be a 4
   single : (at : ℕ) → Reached t 0 at → at < length t → recordItem t at ≡ Cell n → at ≤ first
-  unfolding firstRefused firstWith standsBefore
+  unfolding firstWith standsBefore
   single at r l e = by (ltb first at) refl
     where
       fine : ltb (firstRecord t ofCell at) at ≡ false
-      fine =
-          rw e at
-          (single-stands t at (Cell n) e refl
-          (faultless t at (record-plain t at (eqb-true (recordVerdict t at .number) 0 (not-false (eqb (recordVerdict t at .number) 0)
-          (first-earlier t (λ (i : ℕ). not (eqb (recordVerdict t i .number) 0)) (length t) at r (omega (arith, sound)))))) .single))
+      fine = rw e at (single-stands t at (Cell n) e refl (faultless-at t sound at r l .single))
 
       by : (b : Bool) → ltb first at ≡ b → at ≤ first
       by true b =
@@ -102,7 +109,8 @@ module _ (t : List ℕ) (sound : firstRefused t (recordVerdict t) ≡ length t)
           let none : rank t n counted ≡ 0 = ap (itemRank n) (item-past t counted (ltb-false counted (length t) e)) in
           absurd (omega (arith, ranked l, none, counting-most t n (length t) first (first-reached t ofCell (length t) l) l))
 
-  -- without amendments the record that counts for a cell is the cell's own
+  -- Without amendments the record that counts for a cell is the cell's own. Where one counts it is of the cell, so neither before the first one, by the
+  -- search, nor behind it, by 4; where none counts none stands, since one that stands ranks above nothing
   pub own-counts : counted ≡ first
   unfolding firstWith
   own-counts = by (ltb counted (length t)) refl

@@ -97,6 +97,7 @@ module _ (s t : List ℕ) where
       by false true p q h = absurd h
       by false false p q h = record { present = q ∙ sym p; numbers = λ f. absurd (true≢false (sym f ∙ p)) }
 
+  -- the test passes at each cell of the form and at each kind, and so gives each field
   pub tested : T allKept → Surviving s t
   unfolding allKept
   tested h =
@@ -127,7 +128,7 @@ module _ (s t : List ℕ) where
       (u .same-numbers kind i (ltb-true kind kindCount (passed _ (known .0))) (passed _ (there .0)) (leb-true 1 i (passed _ (from .0)))
       (leb-true i (numbersOf s kind) (passed _ (to .0))))
 
-  -- and so is one cell
+  -- and so is one cell: the fields of that cell would make its test pass
   pub cell-differs : (n : ℕ) → T (leb firstCell n && (leb n lastCell && not (cellKept n))) → Surviving s t → ⊥
   unfolding cellKept
   cell-differs n h u =

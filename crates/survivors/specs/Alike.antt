@@ -1,7 +1,8 @@
 -- "The valuation is that of the filing with only the surviving cells" (02:CR 6): what it says of each call that reads a filing. Definitions only.
-use Prim.Native.Nat.{ℕ}
+use Prim.Native.Nat.{ℕ, _≤_}
 use mathlib.Core.Path.{_≡_}
 use mathlib.Core.List.{List}
+use lib.ListN.{length, getD}
 use Rattle.filing.specs.Verdict.{Accepted}
 use Rattle.decode.specs.Contents.{contentsOf}
 use Rattle.sub_balances.specs.declared.SubBalance.{SubBalance}
@@ -10,7 +11,13 @@ use Rattle.split_list.specs.Split.{placesAfter}
 use Rattle.valuation.specs.Promise.{verdictOn, listAfter}
 use Rattle.books.specs.Books.{openedBook}
 use Rattle.books.specs.Changes.{Change, bookAfterAll}
+use Rattle.withdrawal.specs.declared.Incentive.{Incentive}
+use Rattle.tier_search.specs.declared.TierAnswer.{TierAnswer}
+use Rattle.tier_search.specs.TierAnswers.{TierAnswered}
+use Rattle.text.specs.Lines.{filingLimit}
+use Rattle.listing_text.specs.Listing.{listingText}
 use Rattle.survivors.specs.Survivors.{Surviving}
+use Rattle.survivors.specs.Composed.{onlySurvivors}
 
 -- t is accepted, and each call that reads a filing does with t what it does with s
 pub record Alike (s t : List ℕ) : Type 0 where
@@ -26,7 +33,23 @@ pub record Alike (s t : List ℕ) : Type 0 where
   -- the book that is opened, and the book after any sequence of changes
   pub same-opened : openedBook t ≡ openedBook s
   pub same-book : (changes : List Change) → bookAfterAll (openedBook t) changes ≡ bookAfterAll (openedBook s) changes
+  -- the answer on an incentive, which is a tier of the filing (02:CR 2)
+  pub same-tier : (x : Incentive) (answer : TierAnswer) → TierAnswered s x answer → TierAnswered t x answer
+  -- the text that the listing prints, where neither is too long for it
+  pub same-text : length s ≤ filingLimit → length t ≤ filingLimit → listingText t ≡ listingText s
 
 -- an accepted filing and a filing with only its surviving cells are treated alike
 unfoldable pub SurvivorsAlike : Type 0
 SurvivorsAlike = (s t : List ℕ) → Accepted s → Surviving s t → Alike s t
+
+-- the filing that is composed of the surviving records of s is such a filing; it is no longer than s, and of bytes where s is, so that it can be handed to
+-- any call that takes s
+pub record ComposedAlike (s : List ℕ) : Type 0 where
+  pub surviving : Surviving s (onlySurvivors s)
+  pub alike : Alike s (onlySurvivors s)
+  pub not-longer : length (onlySurvivors s) ≤ length s
+  pub of-bytes : ((i : ℕ) → getD s i 0 ≤ 255) → (i : ℕ) → getD (onlySurvivors s) i 0 ≤ 255
+
+-- for every accepted filing
+unfoldable pub OnlySurvivorsAlike : Type 0
+OnlySurvivorsAlike = (s : List ℕ) → Accepted s → ComposedAlike s

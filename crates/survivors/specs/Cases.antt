@@ -1,10 +1,12 @@
 -- Closed pairs of a filing with amendments and a filing with only its surviving cells (02:CR 6), and filings that are no such, byte by byte.
 -- Definitions only.
 use Prim.Native.Nat.{ℕ, _+_, _*_, _/_}
+use mathlib.Core.Path.{_≡_}
 use mathlib.Core.List.{List, [], _∷_, _++_}
 use Rattle.filing.specs.Verdict.{Accepted}
 use Rattle.case_filings.specs.Filings.{filed, fined, amendment, yieldSheet, rateSheet, pathSheet, tierSheet}
 use Rattle.survivors.specs.Survivors.{Surviving}
+use Rattle.survivors.specs.Composed.{onlySurvivors}
 
 -- a filing, and one with only its surviving cells
 pub record Pair : Type 0 where
@@ -69,3 +71,10 @@ pub record OthersFail : Type 0 where
   pub other-tier : Surviving couponAmended (filed ((605, 125) ∷ []) ++ yields ++ rates ++ tierSheet ((0, 40) ∷ (100, 131) ∷ [])) → ⊥
   pub withdrawn-cell : Surviving (noneLeft .filing) (path ++ yields ++ filed ((645, 0) ∷ [])) → ⊥
   pub amended-coupon : Surviving couponAmended (fined ((605, 1234) ∷ []) ++ yields ++ rates ++ tiers) → ⊥
+
+-- the surviving records of a filing in their order, the amendments among them as records of kind 1
+unfoldable pub ComposedCase : Type 0
+ComposedCase =
+    onlySurvivors
+    (amendment 601 2 0 30 ++ filed ((601, 10) ∷ (602, 5) ∷ []) ++ rates ++ amendment 602 1 1 0 ++ fined ((605, 1234) ∷ (606, 77) ∷ []) ++ amendment 605 1 0 125)
+    ≡ filed ((601, 30) ∷ []) ++ rates ++ fined ((606, 77) ∷ []) ++ filed ((605, 125) ∷ [])

@@ -1,3 +1,4 @@
 pub mod Survivors
+pub mod Composed
 pub mod Alike
 pub mod Cases

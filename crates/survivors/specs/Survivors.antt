@@ -34,8 +34,8 @@ hasSheet s kind = ltb (sheetOffset s kind) (length s)
 unfoldable pub numbersOf : List ℕ → ℕ → ℕ
 numbersOf s kind = cond (eqb kind tiersKind) (1 + 2 * tierCount s (sheetOffset s kind)) (sheetKind kind .numbers)
 
--- t is the filing with only the surviving cells of s (02:CR 6). What stands before, between or behind the records of either is left open, and so is the
--- kind, 1 or 6, by which t gives a coupon
+-- t is the filing with only the surviving cells of s (02:CR 6). The order of its records is left open, and so is the kind, 1 or 6, by which it gives a
+-- coupon
 pub record Surviving (s t : List ℕ) : Type 0 where
   -- the records of t pass 1 to 5, 11, 12 and 16, and none is an amendment
   pub sound : firstFaulty t ≡ length t
