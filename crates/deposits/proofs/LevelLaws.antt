@@ -3,7 +3,6 @@ use Prim.Native.Nat.{ℕ, suc, _*_, _-_, _≤_, _<_}
 use mathlib.Core.Path.{_≡_, refl, ap}
 use mathlib.Core.List.{List}
 use native.Mathlib.Nat.{le-trans}
-use native.Mathlib.Omega.{arith}
 use Rattle.schedule.specs.Limits.{tierLimit}
 use Rattle.withdrawal.specs.declared.WithdrawalTiers.{WithdrawalTiers}
 use Rattle.withdrawal.specs.MonthSurvival.{accountOf, monthSurvival}
@@ -27,7 +26,7 @@ module _ (t : WithdrawalTiers) (d : Deposit) (rates : List ℕ) (column : ℕ) (
   level-here : LevelFor (d .brokered) (t .count) (t .edges)
       (incentiveFrom (partsOf (d .coupon) (d .penalty)) (shiftedPath scenario rates column (suc month)) (d .months - suc month)) (levelAt levels month scenario)
   unfolding levelAt shiftedPath
-  level-here = let e : 6 - (6 - scenario) ≡ scenario = omega arith in rw e at (levelled month hm (6 - scenario) (omega arith))
+  level-here = levelled month hm scenario hs
 
   -- is one that the account may have
   pub level-within : levelAt levels month scenario ≤ lastLevel (d .brokered) (t .count)

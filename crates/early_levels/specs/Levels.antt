@@ -10,16 +10,16 @@ use Rattle.month_levels.specs.Levels.{LevelFor, lastLevel, levelSurvival}
 use Rattle.month_multipliers.specs.declared.MonthMultipliers.{MonthMultipliers}
 use Rattle.month_multipliers.specs.Multipliers.{multipliersOf}
 
--- the level of a month, counted from 0, in a scenario: the highest scenario's stands first
+-- the level of a month, counted from 0, in a scenario
 unfoldable pub levelAt : List (List ℕ) → ℕ → ℕ → ℕ
-levelAt levels month scenario = getD (getD levels month []) (scenarioCount - 1 - scenario) 0
+levelAt levels month scenario = getD (getD levels month []) scenario 0
 
 -- the levels of a month before the last, at the retail rates of a column's months, which are shifted for each scenario
 abbrev pub MonthLevelled : Bool → ℕ → ℕ → ℕ → ℕ → List ℕ → List ℕ → ℕ → ℕ → List ℕ → Type 0
 MonthLevelled brokered coupon penalty months count edges rates column month levels =
     (i : ℕ) → i < scenarioCount
     → LevelFor brokered count edges
-    (incentiveFrom (partsOf coupon penalty) (shiftedRate (scenarioCount - 1 - i) (pathRate rates column (suc month))) (months - suc month))
+    (incentiveFrom (partsOf coupon penalty) (shiftedRate i (pathRate rates column (suc month))) (months - suc month))
     (getD levels i 0)
 
 -- levels of all months before the last

@@ -17,7 +17,7 @@ ghost use Rattle.pricing.specs.Scales.{par, growthLimit, servicingLimit};
 ghost use Rattle.month_levels.specs.Levels.{lastLevel, levelSurvival};
 ghost use Rattle.early_levels.specs.Levels.{Levelled, LeftBehind, Multiplied, NothingPast};
 
-// Seven levels for each month: the highest scenario's first.
+// Seven levels for each month, one for each scenario.
 pub type Levels = [[u8; 7]; MONTHS];
 
 // Writes the levels of all months but the last, at the retail rates of a column, 1 to 3, which are not shifted. As a slice the room is known to have 120

@@ -80,7 +80,7 @@ fn level_at(levels: &Levels, month: usize, scenario: usize) -> usize
     requires { ⌜ (month < monthsLimit) × (scenario < scenarioCount) ⌝ }
     ensures { λ r. ⌜ r ≡ levelAt (now (levels .entry)) month scenario ⌝ }
 {
-    wide(levels[month][6 - scenario])
+    wide(levels[month][scenario])
 }
 
 fn wide(level: u8) -> usize

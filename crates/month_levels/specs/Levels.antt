@@ -1,6 +1,6 @@
 -- What survives a month by the level of a tier: of retail money the first that is reached, or the count of the tiers; of brokered money 0 where it is withdrawn
 -- whole, else 1. Definitions only.
-use Prim.Native.Nat.{ℕ, suc, _≤_}
+use Prim.Native.Nat.{ℕ, suc}
 use mathlib.Core.Path.{_≡_}
 use mathlib.Core.Bool.{Bool, true, false, cond}
 use mathlib.Core.List.{List}
@@ -10,17 +10,12 @@ use Rattle.withdrawal.specs.declared.Incentive.{Incentive}
 use Rattle.withdrawal.specs.Gain.{atMost}
 use Rattle.withdrawal.specs.Survival.{fullSurvival}
 use Rattle.withdrawal.specs.Inner.Incentives.{gainOf}
-use Rattle.withdrawal.specs.Inner.Levels.{Unreached, FirstLevel}
+use Rattle.withdrawal.specs.Inner.Levels.{FirstLevel}
 
 -- the level of an incentive, of brokered money or not
 abbrev pub LevelFor : Bool → ℕ → List ℕ → Incentive → ℕ → Type 0
 LevelFor true count edges x level = level ≡ cond (atMost (suc (x .cost)) (gainOf x)) 0 1
 LevelFor false count edges x level = FirstLevel count edges (gainOf x) (x .cost) level
-
--- a level from which the search may start: no edge before it is reached
-abbrev pub StartFor : Bool → ℕ → List ℕ → Incentive → ℕ → Type 0
-StartFor true count edges x level = Unit {0}
-StartFor false count edges x level = (level ≤ count) × Unreached edges (gainOf x) (x .cost) level
 
 -- the last level of an account
 unfoldable pub lastLevel : Bool → ℕ → ℕ

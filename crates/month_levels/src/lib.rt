@@ -1,23 +1,22 @@
 // The withdrawal of a deposit in a month before its term's end, in the seven scenarios, as the levels of the tiers that are reached.
 use incentives::gain_above_cost;
 use incentives::gain_and_cost;
-use reached_tiers::level_from;
+use reached_tiers::reached_level;
 use scenarios::Scenario;
 use schedule::limits::TIER_LIMIT;
 use withdrawal::CouponParts;
 use withdrawal::FULL_SURVIVAL;
 use withdrawal::Incentive;
 ghost use mathlib.Core.Path.{_≡_};
-ghost use Prim.Native.Nat.{ℕ, _-_, _<_, _≤_};
+ghost use Prim.Native.Nat.{ℕ, _<_, _≤_};
 ghost use lib.ListN.{getD};
 ghost use Rattle.schedule.specs.Limits.{rateLimit, monthsLimit, tierLimit};
 ghost use Rattle.schedule.specs.Shift.{scenarioCount, shiftedRate};
 ghost use Rattle.withdrawal.specs.Inner.TierArrays.{EdgesFit};
 ghost use Rattle.withdrawal.specs.Inner.Incentives.{incentiveFrom, PartsWithin, Small};
-ghost use Rattle.month_levels.specs.Levels.{LevelFor, StartFor, lastLevel, levelSurvival};
+ghost use Rattle.month_levels.specs.Levels.{LevelFor, lastLevel, levelSurvival};
 
-// Levels of a month with `left` months to go, at a retail rate that is not shifted: the highest scenario's first. Rates fall from one to the next, so that
-// no edge is reached again that the one before did not reach.
+// Levels of a month with `left` months to go, at a retail rate that is not shifted: one for each scenario. In each of them the highest edge is tried first.
 pub fn month_levels(
     brokered: bool,
     count: usize,
@@ -27,21 +26,14 @@ pub fn month_levels(
     left: u64,
 ) -> [u8; 7]
     requires { ⌜ EdgesFit count (now edges) × PartsWithin parts × (rate ≤ rateLimit) × (left ≤ monthsLimit) ⌝ }
-    ensures { λ r. ⌜ ((i : ℕ) → i < scenarioCount → LevelFor brokered count (now (edges .entry)) (incentiveFrom parts (shiftedRate (scenarioCount - 1 - i) rate) left) (getD r i 0)) ⌝ }
+    ensures { λ r. ⌜ ((i : ℕ) → i < scenarioCount → LevelFor brokered count (now (edges .entry)) (incentiveFrom parts (shiftedRate i rate) left) (getD r i 0)) ⌝ }
 {
     let mut levels = [0u8; 7];
-    let mut level: usize = 0;
     let mut i: u8 = 0;
     while (i as u64) < Scenario::COUNT {
-        let shifted = Scenario::new(6 - i).shifted(rate);
-        level = next_level(
-            brokered,
-            level,
-            count,
-            edges,
-            gain_and_cost(parts, shifted, left),
-        );
-        levels[i as usize] = level as u8;
+        let shifted = Scenario::new(i).shifted(rate);
+        let incentive = gain_and_cost(parts, shifted, left);
+        levels[i as usize] = level_for(brokered, count, edges, incentive) as u8;
         i += 1;
     }
     levels
@@ -75,19 +67,13 @@ pub fn level_survival(
     }
 }
 
-// The level of an incentive. Of retail money no edge before level `from` is reached; brokered money is withdrawn whole, at level 0, or not, at level 1.
-fn next_level(
-    brokered: bool,
-    from: usize,
-    count: usize,
-    edges: &[u64; TIER_LIMIT],
-    incentive: Incentive,
-) -> usize
-    requires { ⌜ EdgesFit count (now edges) × Small incentive × StartFor brokered count (now edges) incentive from ⌝ }
+// The level of an incentive. Brokered money is withdrawn whole, at level 0, or not, at level 1.
+fn level_for(brokered: bool, count: usize, edges: &[u64; TIER_LIMIT], incentive: Incentive) -> usize
+    requires { ⌜ EdgesFit count (now edges) × Small incentive ⌝ }
     ensures { λ r. ⌜ LevelFor brokered count (now (edges .entry)) incentive r ⌝ }
 {
     if brokered {
         return if gain_above_cost(incentive) { 0 } else { 1 };
     }
-    level_from(from, count, edges, incentive)
+    reached_level(count, edges, incentive).level
 }

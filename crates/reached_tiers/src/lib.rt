@@ -1,4 +1,4 @@
-// The tier that an incentive reaches: edges are tried from the highest on.
+// The search in the edges of tiers (02:CR 2): the highest edge is tried first, and the search ends at the first that is reached.
 use schedule::limits::TIER_LIMIT;
 use withdrawal::Incentive;
 use withdrawal::ReachedTier;
@@ -9,48 +9,55 @@ ghost use Rattle.schedule.specs.Limits.{edgeLimit};
 ghost use Rattle.withdrawal.specs.Tiers.{reached};
 ghost use Rattle.withdrawal.specs.Reached.{reachedTier};
 ghost use Rattle.withdrawal.specs.Inner.TierArrays.{tierTable, EdgesFit, Usable};
-ghost use Rattle.withdrawal.specs.Inner.Levels.{Unreached, FirstLevel};
 ghost use Rattle.withdrawal.specs.Inner.Incentives.{gainOf, Small};
+ghost use Rattle.reached_tiers.specs.Search.{Searched};
 
-// The tier that an incentive reaches among given tiers: the highest edge is tried first, and the search ends at the first that is reached.
+// The level of the first tier that an incentive reaches, counted from 0, or the tiers' count where it reaches none, and how many edges were tried.
+pub struct ReachedLevel {
+    pub level: usize,
+    pub edges_tried: usize,
+}
+
+// The tier that an incentive reaches among given tiers.
 pub fn reached_tier(tiers: WithdrawalTiers, incentive: Incentive) -> ReachedTier
     requires { ⌜ Usable tiers × Small incentive ⌝ }
     ensures { λ r. ⌜ r ≡ reachedTier (tierTable tiers) (gainOf incentive) (incentive .cost) ⌝ }
 {
-    let level = level_from(0, tiers.count, &tiers.edges, incentive);
+    let found = reached_level(tiers.count, &tiers.edges, incentive);
+    let level = found.level;
     if level < tiers.count {
         return ReachedTier {
             withdrawal: tiers.withdrawals[level],
             survival: tiers.survivals[level],
-            edges_tried: level + 1,
+            edges_tried: found.edges_tried,
         };
     }
     ReachedTier {
         withdrawal: tiers.otherwise,
         survival: tiers.retained,
-        edges_tried: tiers.count,
+        edges_tried: found.edges_tried,
     }
 }
 
-// The level of the first tier that is reached, counted from 0, or the tiers' count. No edge before level `from` is reached: the search goes on from there.
-pub fn level_from(
-    from: usize,
-    count: usize,
-    edges: &[u64; TIER_LIMIT],
-    incentive: Incentive,
-) -> usize
+// The search, from the highest edge on.
+pub fn reached_level(count: usize, edges: &[u64; TIER_LIMIT], incentive: Incentive) -> ReachedLevel
     requires { ⌜ EdgesFit count (now edges) × Small incentive ⌝ }
-    requires { ⌜ (from ≤ count) × Unreached (now edges) (gainOf incentive) (incentive .cost) from ⌝ }
-    ensures { λ r. ⌜ FirstLevel count (now (edges .entry)) (gainOf incentive) (incentive .cost) r ⌝ }
+    ensures { λ r. ⌜ Searched count (now (edges .entry)) (gainOf incentive) (incentive .cost) r ⌝ }
 {
-    let mut level = from;
+    let mut level: usize = 0;
     while level < count {
         if reaches(incentive, edges[level]) {
-            return level;
+            return ReachedLevel {
+                level,
+                edges_tried: level + 1,
+            };
         }
         level += 1;
     }
-    level
+    ReachedLevel {
+        level,
+        edges_tried: level,
+    }
 }
 
 // An edge in hundredths is reached: 100 times the gain is at least the edge times the cost.

@@ -21,7 +21,8 @@ use Rattle.withdrawal.specs.declared.ReachedTier.{ReachedTier}
 use Rattle.withdrawal.specs.Tiers.{WithdrawalTier, TierTable, Falling, tier, annualWithdrawal}
 use Rattle.withdrawal.specs.Reached.{reachedTier}
 use Rattle.withdrawal.specs.Inner.TierArrays.{tierTable, tierTableOf, withSurvivals, tierArray, held, TiersFit, Usable}
-use Rattle.withdrawal.proofs.TierLaws.{levelReached, level-withdrawal}
+use Rattle.withdrawal.specs.Inner.Levels.{FirstLevel}
+use Rattle.withdrawal.proofs.TierLaws.{levelReached, level-withdrawal, first-level}
 use Rattle.withdrawal.proofs.HighestLaws.{edges-tried}
 use Rattle.withdrawal.proofs.SurvivalLaws.{survival-le}
 
@@ -88,8 +89,13 @@ held-answer : (x : TierTable) (gain : ℤ) (cost : ℕ) → Falling (x .tiers) �
 unfolding answerAt held reachedTier
 held-answer x gain cost f = rw (held-at gain cost (λ (w : ℕ). w) x, held-at gain cost survival x, edges-tried x gain cost f)
 
--- the search ends at level i, of a tier or past the last
-module _ (t : WithdrawalTiers) (gain : ℤ) (cost i : ℕ) (u : Usable t) (ends : levelReached gain cost (tierTable t .tiers) ≡ i) where
+-- the search ends at level i, of a tier or past the last, with as many edges tried
+module _ (t : WithdrawalTiers) (gain : ℤ) (cost i tried : ℕ) (u : Usable t) (first : FirstLevel (t .count) (t .edges) gain cost i)
+    (as-many : tried ≡ cond (ltb i (t .count)) (suc i) (t .count)) where
+  ends : levelReached gain cost (tierTable t .tiers) ≡ i
+  unfolding tierTable
+  ends = first-level (t .count) (t .edges) (t .withdrawals) gain cost (t .otherwise) i first
+
   -- what stands there is the answer of the definitions
   answer-is : answerAt t i ≡ reachedTier (tierTable t) gain cost
   answer-is =
@@ -98,14 +104,14 @@ module _ (t : WithdrawalTiers) (gain : ℤ) (cost i : ℕ) (u : Usable t) (ends 
       ∙ held-answer (tierTable t) gain cost (u .falling))
 
   pub reached-answer : i < t .count
-      → record { withdrawal = getD (t .withdrawals) i 0; survival = getD (t .survivals) i 0; «edges_tried» = i + 1 } ≡ reachedTier (tierTable t) gain cost
+      → record { withdrawal = getD (t .withdrawals) i 0; survival = getD (t .survivals) i 0; «edges_tried» = tried } ≡ reachedTier (tierTable t) gain cost
   unfolding answerAt
-  reached-answer h = rw (lt-ltb i (t .count) h, ← (add-one i)) at answer-is
+  reached-answer h = rw (as-many, lt-ltb i (t .count) h) (rw (lt-ltb i (t .count) h) at answer-is)
 
   pub unreached-answer : t .count ≤ i
-      → record { withdrawal = t .otherwise; survival = t .retained; «edges_tried» = t .count } ≡ reachedTier (tierTable t) gain cost
+      → record { withdrawal = t .otherwise; survival = t .retained; «edges_tried» = tried } ≡ reachedTier (tierTable t) gain cost
   unfolding answerAt
-  unreached-answer h = rw (le-ltb i (t .count) h) at answer-is
+  unreached-answer h = rw (as-many, le-ltb i (t .count) h) (rw (le-ltb i (t .count) h) at answer-is)
 
 -- tiers that pass the tests of their count, edges and withdrawals fit
 pub tiers-fit-of-tests :

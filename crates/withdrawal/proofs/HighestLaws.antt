@@ -10,8 +10,11 @@ use borrow.Author.Tests.{lt-ltb, le-ltb}
 use lib.Dec.{ltb, leb·zero, leb·suc-suc}
 use lib.ListN.{length, getD}
 use lib.IntN.{ℤ}
+use Rattle.lists.proofs.TableLaws.{table-length}
 use Rattle.withdrawal.specs.Tiers.{WithdrawalTier, TierTable, Below, Falling, Highest, edgeAt, tier, reached, firstReached, annualWithdrawal, someReached, highestReached, edgesAbove, edgesTried}
-use Rattle.withdrawal.proofs.TierLaws.{levelReached}
+use Rattle.withdrawal.specs.Inner.TierArrays.{tierTableOf}
+use Rattle.withdrawal.specs.Inner.Levels.{FirstLevel}
+use Rattle.withdrawal.proofs.TierLaws.{levelReached, first-level}
 
 cond-suc : (b : Bool) (p q : ℕ) → cond b (suc p) (suc q) ≡ suc (cond b p q)
 cond-suc true p q = refl
@@ -132,3 +135,15 @@ module _ (table : TierTable) (gain : ℤ) (cost : ℕ) where
       ≡ cond (ltb (levelReached gain cost (table .tiers)) (length (table .tiers))) (suc (levelReached gain cost (table .tiers))) (length (table .tiers))
   unfolding edgesTried
   edges-tried f = tried-level gain cost (table .tiers) f
+
+tiers-count : (count : ℕ) (edges withdrawals : List ℕ) (otherwise : ℕ) → length (tierTableOf count edges withdrawals otherwise .tiers) ≡ count
+unfolding tierTableOf
+tiers-count count edges withdrawals otherwise = table-length 0 count _
+
+-- and by the first level that is reached of edges in an array, whatever the withdrawals
+pub level-tried : (count : ℕ) (edges : List ℕ) (gain : ℤ) (cost i : ℕ) → FirstLevel count edges gain cost i → (withdrawals : List ℕ) (otherwise : ℕ)
+    → Falling (tierTableOf count edges withdrawals otherwise .tiers)
+    → edgesTried (tierTableOf count edges withdrawals otherwise) gain cost ≡ cond (ltb i count) (suc i) count
+level-tried count edges gain cost i f withdrawals otherwise falls =
+    edges-tried (tierTableOf count edges withdrawals otherwise) gain cost falls
+    ∙ rw (first-level count edges withdrawals gain cost otherwise i f, tiers-count count edges withdrawals otherwise)

@@ -11,9 +11,8 @@ use lib.Dec.{ltb, leb·zero, leb·suc-suc}
 use lib.ListN.{length, getD}
 use lib.IntN.{ℤ}
 use Rattle.lists.specs.Tables.{tableFrom}
-use Rattle.withdrawal.specs.declared.WithdrawalTiers.{WithdrawalTiers}
 use Rattle.withdrawal.specs.Tiers.{WithdrawalTier, tier, reached, firstReached}
-use Rattle.withdrawal.specs.Inner.TierArrays.{tierTable, tierTableOf}
+use Rattle.withdrawal.specs.Inner.TierArrays.{tierTableOf}
 use Rattle.withdrawal.specs.Inner.Levels.{Unreached, FirstLevel}
 
 module _ (gain : ℤ) (cost : ℕ) where
@@ -46,50 +45,48 @@ pub unreached-more : (edges : List ℕ) (gain : ℤ) (cost level : ℕ) → Unre
 unreached-more edges gain cost level u e i h =
     ⊎-elim (λ q. rw q e) (u i) (eq-or-lt-of-le (le-of-suc-le-suc (rw add-one at h)))
 
-module _ (t : WithdrawalTiers) (gain : ℤ) (cost : ℕ) where
-  -- the tier at a level of the code's arrays
-  abbrev pub tierAt : ℕ → WithdrawalTier
-  tierAt i = tier (getD (t .edges) i 0) (getD (t .withdrawals) i 0)
-
-  -- where the search ends that goes on from level i
-  unfoldable pub levelFrom : ℕ → ℕ
-  levelFrom i = i + levelReached gain cost (tableFrom i (t .count - i) tierAt)
-
-  -- from the first tier
-  pub level-from-start : levelFrom 0 ≡ levelReached gain cost (tierTable t .tiers)
-  unfolding levelFrom tierTable tierTableOf
-  level-from-start = let m : t .count - 0 ≡ t .count = omega arith in rw (m, zero-add)
+-- edges and withdrawals in arrays, highest edge first
+module _ (count : ℕ) (edges withdrawals : List ℕ) (gain : ℤ) (cost : ℕ) where
+  -- the level that is reached by a search which goes on from level i
+  unfoldable levelFrom : ℕ → ℕ
+  levelFrom i = i + levelReached gain cost (tableFrom i (count - i) (λ (j : ℕ). tier (getD edges j 0) (getD withdrawals j 0)))
 
   -- an edge that is reached ends it
-  pub level-from-reached : (i : ℕ) → i < t .count → reached gain cost (getD (t .edges) i 0) ≡ true → levelFrom i ≡ i
+  level-from-reached : (i : ℕ) → i < count → reached gain cost (getD edges i 0) ≡ true → levelFrom i ≡ i
   unfolding levelFrom tableFrom levelReached tier
   level-from-reached i h e =
-      let m : t .count - i ≡ suc (t .count - suc i) = omega arith in
+      let m : count - i ≡ suc (count - suc i) = omega arith in
       rw (m, e, add-zero)
 
   -- an edge that is not reached leaves it to the next tiers
-  pub level-from-suc : (i : ℕ) → i < t .count → reached gain cost (getD (t .edges) i 0) ≡ false → levelFrom i ≡ levelFrom (i + 1)
+  level-from-suc : (i : ℕ) → i < count → reached gain cost (getD edges i 0) ≡ false → levelFrom i ≡ levelFrom (i + 1)
   unfolding levelFrom tableFrom levelReached tier
   level-from-suc i h e =
-      let m : t .count - i ≡ suc (t .count - suc i) = omega arith in
+      let m : count - i ≡ suc (count - suc i) = omega arith in
       rw (add-one, m, e) (omega arith)
 
   -- past the last tier: none is reached
-  pub level-from-end : (i : ℕ) → t .count ≤ i → levelFrom i ≡ i
+  level-from-end : (i : ℕ) → count ≤ i → levelFrom i ≡ i
   unfolding levelFrom tableFrom levelReached
   level-from-end i h =
-      let m : t .count - i ≡ 0 = omega arith in
+      let m : count - i ≡ 0 = omega arith in
       rw (m, add-zero)
 
-  -- where no edge before a level is reached, the search from there ends where it would from the first
-  unreached-from : (i : ℕ) → i ≤ t .count → Unreached (t .edges) gain cost i → levelFrom i ≡ levelReached gain cost (tierTable t .tiers)
-  unreached-from zero h u = level-from-start
+  -- from the first tier on it is all of them that are tried
+  level-from-start : (otherwise : ℕ) → levelFrom 0 ≡ levelReached gain cost (tierTableOf count edges withdrawals otherwise .tiers)
+  unfolding levelFrom tierTableOf
+  level-from-start otherwise = let m : count - 0 ≡ count = omega arith in rw (m, zero-add)
+
+  -- where no edge before a level is reached, the tiers from there on decide
+  unreached-from : (i : ℕ) → i ≤ count → Unreached edges gain cost i → levelFrom 0 ≡ levelFrom i
+  unreached-from zero h u = refl
   unreached-from (suc i) h u =
       let e : suc i ≡ i + 1 = omega arith in
-      rw e (sym (level-from-suc i h (u i (lt-suc-self i)))) ∙ unreached-from i (omega arith) (λ j l. u j (omega arith))
+      unreached-from i (omega arith) (λ j l. u j (omega arith)) ∙ rw e (level-from-suc i h (u i (lt-suc-self i)))
 
   -- the first level whose edge is reached
-  pub first-level : (i : ℕ) → FirstLevel (t .count) (t .edges) gain cost i → levelReached gain cost (tierTable t .tiers) ≡ i
-  first-level i f =
-      sym (unreached-from i (f .within) (f .before))
+  pub first-level : (otherwise i : ℕ) → FirstLevel count edges gain cost i → levelReached gain cost (tierTableOf count edges withdrawals otherwise .tiers) ≡ i
+  first-level otherwise i f =
+      sym (level-from-start otherwise)
+      ∙ unreached-from i (f .within) (f .before)
       ∙ ⊎-elim (λ e. level-from-end i (omega arith)) (λ l. level-from-reached i l (f .here l)) (eq-or-lt-of-le (f .within))

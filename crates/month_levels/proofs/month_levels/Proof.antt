@@ -1,4 +1,4 @@
--- `month_levels::month_levels` meets its contract: the levels before i are filled, and the next search may start at the last. Assumes nothing.
+-- `month_levels::month_levels` meets its contract: the levels of the scenarios before i are filled. Assumes nothing.
 use Prim.Native.Nat.{ℕ, _-_, _≤_}
 use mathlib.Core.Path.{_≡_, ap, _∙_}
 use native.Mathlib.Omega.{arith}
@@ -6,30 +6,24 @@ use Rattle.schedule.specs.Shift.{shiftedRate, shiftedLimit}
 use Rattle.schedule.proofs.ShiftLaws.{shifted-rate-le}
 use Rattle.withdrawal.specs.Inner.Incentives.{incentiveFrom}
 use Rattle.withdrawal.proofs.IncentiveLaws.{incentive-small}
-use Rattle.month_levels.specs.Levels.{LevelFor, StartFor}
+use Rattle.month_levels.specs.Levels.{LevelFor}
 use Rattle.lists.proofs.FillLaws.{FilledBy, filled-none, filled-more}
-use Rattle.month_levels.proofs.LevelLaws.{start-first, start-lower, level-last, last-le, lower-scenario}
+use Rattle.month_levels.proofs.LevelLaws.{level-last, last-le}
 use Rattle.month_levels.proofs.month_levels.Statement.{statement}
 use Rattle.month_levels.proofs.month_levels.Tie as tie
 
 abbrev Inv-loop : tie.InvT-loop
-Inv-loop brokered count edges parts rate left levels₀ level₀ i₀ levels level i =
-    (i ≤ 7) × StartFor brokered count edges (incentiveFrom parts (shiftedRate (6 - i) rate) left) level
-    × FilledBy (λ (j : ℕ) (p : ℕ). LevelFor brokered count edges (incentiveFrom parts (shiftedRate (6 - j) rate) left) p) 0 7 i levels
+Inv-loop brokered count edges parts rate left levels₀ i₀ levels i =
+    (i ≤ 7) × FilledBy (λ (j : ℕ) (p : ℕ). LevelFor brokered count edges (incentiveFrom parts (shiftedRate j rate) left) p) 0 7 i levels
 
 abbrev μ-loop : tie.MeasureT-loop
-μ-loop brokered count edges parts rate left levels₀ level₀ i₀ levels level i = 7 - i
+μ-loop brokered count edges parts rate left levels₀ i₀ levels i = 7 - i
 
 loop-holds : tie.Need-loop-holds Inv-loop μ-loop
-loop-holds c =
-    let a = c .args in
-    (omega arith, start-first (a .brokered) (a .count) (a .edges .now) (incentiveFrom (a .parts) (shiftedRate 6 (a .rate)) (a .left)), filled-none _ 0 0 7)
+loop-holds c = (omega arith, filled-none _ 0 0 7)
 
 cast-loop : tie.Need-cast-loop Inv-loop μ-loop
 cast-loop c = omega arith
-
-sub-new : tie.Need-sub-new Inv-loop μ-loop
-sub-new c = omega arith
 
 new-requires : tie.Need-new-requires Inv-loop μ-loop
 new-requires c κs = tt
@@ -46,28 +40,24 @@ rate-le c =
 gain-and-cost-requires : tie.Need-gain-and-cost-requires Inv-loop μ-loop
 gain-and-cost-requires c κs = let start = c .before .before .before .before in (start .pre .1, rate-le c, start .pre .3)
 
--- the incentive of the scenario
-incentive-is : (c : tie.After-gain-and-cost Inv-loop μ-loop)
-    → let at = c .before .before .before .before in
-    c .gain-and-cost .result ≡ incentiveFrom (at .before .args .parts) (shiftedRate (6 - at .loop .i) (at .before .args .rate)) (at .before .args .left)
-incentive-is c =
+level-for-requires : tie.Need-level-for-requires Inv-loop μ-loop
+level-for-requires c κs =
     let start = c .before .before .before .before .before in
-    c .gain-and-cost .ensures
-    ∙ ap (λ (r : ℕ). incentiveFrom (start .args .parts) r (start .args .left))
-    (c .before .shifted .ensures ∙ ap (λ (s : ℕ). shiftedRate s (start .args .rate)) (c .before .before .new .ensures))
-
-next-level-requires : tie.Need-next-level-requires Inv-loop μ-loop
-next-level-requires c κs =
-    let at = c .before .before .before .before in
-    let start = at .before in
-    (start .pre .0, rw (c .gain-and-cost .ensures) (incentive-small (start .pre .1) (rate-le (c .before)) (start .pre .3)), rw (incentive-is c) (at .loop .inv .1))
+    (start .pre .0, rw (c .gain-and-cost .ensures) (incentive-small (start .pre .1) (rate-le (c .before)) (start .pre .3)))
 
 -- the level of the scenario
-levelled : (c : tie.After-next-level Inv-loop μ-loop)
+levelled : (c : tie.After-level-for Inv-loop μ-loop)
     → let at = c .before .before .before .before .before in
     let a = at .before .args in
-    LevelFor (a .brokered) (a .count) (a .edges .now) (incentiveFrom (a .parts) (shiftedRate (6 - at .loop .i) (a .rate)) (a .left)) (c .next-level .result)
-levelled c = rw (← (incentive-is (c .before))) (c .next-level .ensures)
+    LevelFor (a .brokered) (a .count) (a .edges .now) (incentiveFrom (a .parts) (shiftedRate (at .loop .i) (a .rate)) (a .left)) (c .level-for .result)
+levelled c =
+    let incentive = c .before in
+    let shifted = incentive .before in
+    let a = shifted .before .before .before .before .args in
+    let same : incentive .gain-and-cost .result ≡ incentiveFrom (a .parts) (shiftedRate (shifted .before .before .before .loop .i) (a .rate)) (a .left) =
+    incentive .gain-and-cost .ensures
+    ∙ ap (λ (r : ℕ). incentiveFrom (a .parts) r (a .left)) (shifted .shifted .ensures ∙ ap (λ (s : ℕ). shiftedRate s (a .rate)) (shifted .before .new .ensures)) in
+    rw (← same) (c .level-for .ensures)
 
 cast-levels : tie.Need-cast-levels Inv-loop μ-loop
 cast-levels c =
@@ -75,7 +65,7 @@ cast-levels c =
     let a = start .args in
     omega (
       arith,
-      level-last (a .brokered) (a .count) (a .edges .now) (c .before .gain-and-cost .result) (c .next-level .result) (c .next-level .ensures),
+      level-last (a .brokered) (a .count) (a .edges .now) (c .before .gain-and-cost .result) (c .level-for .result) (c .level-for .ensures),
       last-le (a .brokered) (a .count) (start .pre .0 .count-le),
     )
 
@@ -94,16 +84,10 @@ loop-less c = omega arith
 loop-again : tie.Need-loop-again Inv-loop μ-loop
 loop-again c =
     let at = c .before .before .before .before .before in
-    let a = at .before .args in (
-      omega arith,
-      start-lower (a .brokered) (a .count) (a .edges .now) (a .parts) (a .left) (c .next-level .result) (lower-scenario (a .rate) (at .loop .i)) (levelled c),
-      filled-more _ 0 7 (at .loop .i) (at .loop .levels) (c .next-level .result) (omega arith) (levelled c) (at .loop .inv .2),
-    )
+    (omega arith, filled-more _ 0 7 (at .loop .i) (at .loop .levels) (c .level-for .result) (omega arith) (levelled c) (at .loop .inv .1))
 
 returns : tie.Need-returns Inv-loop μ-loop
-returns c i h =
-    let at = c .before in
-    at .loop .inv .2 .holds i (omega arith)
+returns c i h = c .before .loop .inv .1 .holds i (omega arith)
 
 pub month-levels-spec : {M : Type 1} → statement M
 month-levels-spec =
@@ -113,11 +97,10 @@ month-levels-spec =
     μ-loop
     loop-holds
     cast-loop
-    sub-new
     new-requires
     shifted-requires
     gain-and-cost-requires
-    next-level-requires
+    level-for-requires
     cast-levels
     cast-levels-2
     array-write-levels

@@ -4,9 +4,6 @@ use Rattle.early_levels.specs.Levels.{levelAt}
 use Rattle.early_months.proofs.walk.level_at.Statement.{statement}
 use Rattle.early_months.proofs.walk.level_at.Tie as tie
 
-sub-wide : tie.Need-sub-wide
-sub-wide c = search needs
-
 mul-wide : tie.Need-mul-wide
 mul-wide c = search needs
 
@@ -25,4 +22,4 @@ returns c = c .wide .ensures
 
 pub level-at-spec : {M : Type 1} → statement M
 level-at-spec =
-    tie.close (tie.spec sub-wide mul-wide index-1-wide index-2-wide wide-requires returns)
+    tie.close (tie.spec mul-wide index-1-wide index-2-wide wide-requires returns)
