@@ -16,8 +16,12 @@ use Rattle.pricing.specs.Scales.{couponGrowth}
 use Rattle.deposits.specs.declared.Deposit.{Deposit}
 use Rattle.deposits.specs.DepositTerms.{servicingCost}
 use Rattle.deposits.specs.Inner.Prices.{shiftedPath, DepositLimits}
-use Rattle.deposits.specs.Inner.Levels.{Levelled}
+use Rattle.deposits.specs.Inner.Levels.{TiersLent, Levelled}
 use Rattle.early_levels.specs.Levels.{levelAt, multipliersAt}
+
+-- what is lent of usable tiers
+abbrev pub lent : (t : WithdrawalTiers) → Usable t → TiersLent (t .count) (t .edges) (t .survivals) (t .retained)
+lent t u = record { withdrawals = t .withdrawals; otherwise = t .otherwise; usable = u }
 
 -- a month before the last, counted from 0, in a scenario
 module _ (t : WithdrawalTiers) (d : Deposit) (rates : List ℕ) (column : ℕ) (levels : List (List ℕ)) (scenario month : ℕ) (u : Usable t)

@@ -16,16 +16,17 @@ ghost use mathlib.Core.Path.{_≡_};
 ghost use Prim.Native.Nat.{_<_, _≤_};
 ghost use Rattle.schedule.specs.Limits.{balanceLimit};
 ghost use Rattle.withdrawal.specs.MonthSurvival.{accountOf};
-ghost use Rattle.withdrawal.specs.Inner.TierArrays.{tierTable, Usable};
+ghost use Rattle.withdrawal.specs.Inner.TierArrays.{tierTable};
 ghost use Rattle.pricing.specs.Rounding.{down, up};
 ghost use Rattle.discounts.specs.Inner.Tables.{factorsOf, Discounting};
 ghost use Rattle.deposits.specs.DepositTerms.{servicingCost};
-ghost use Rattle.deposits.specs.Inner.Levels.{lentTiers, LevelsLeft};
+ghost use Rattle.deposits.specs.Inner.Levels.{TiersLent, lentTiers, LevelsLeft};
 ghost use Rattle.deposits.specs.Inner.Prices.{ColumnRates, DepositLimits};
 ghost use Rattle.deposits.specs.Inner.Values.{tabledValues};
 
 // Values in dollars of a balance in thousands of dollars: lower, upper, lower, upper and so on by scenario, at the retail rates of a column, 1 to 3, which
-// are not shifted. The tiers are lent, with the withdrawals and `otherwise` that their survivals are of. The tables hold the multipliers of the discount factors. In the last month nothing is withdrawn early. A zero balance walks no month.
+// are not shifted. Of the tiers the edges are lent and what survives at each. The tables hold the multipliers of the discount factors. In the last month
+// nothing is withdrawn early. A zero balance walks no month.
 // `levels` is room for the levels of its months: for a zero balance, and from the last month on, it is left as it was.
 pub fn values_of<'a>(
     balance: u64,
@@ -34,18 +35,16 @@ pub fn values_of<'a>(
     column: usize,
     count: usize,
     edges: &'a [u64; TIER_LIMIT],
-    withdrawals: &'a [u64; TIER_LIMIT],
     survivals: &'a [u64; TIER_LIMIT],
-    otherwise: u64,
     retained: u64,
     lower: &MultiplierTable,
     upper: &MultiplierTable,
     levels: &mut Levels,
 ) -> [u64; 14]
-    requires { ⌜ (balance ≤ balanceLimit) × DepositLimits d × ColumnRates (now rates) column × Usable (lentTiers count (now edges) (now withdrawals) (now survivals) otherwise retained) ⌝ }
+    requires { ⌜ (balance ≤ balanceLimit) × DepositLimits d × ColumnRates (now rates) column × TiersLent count (now edges) (now survivals) retained ⌝ }
     requires { ⌜ (0 < balance → Discounting down (d .months) (now lower) × Discounting up (d .months) (now upper)) ⌝ }
-    ensures { λ r. ⌜ r ≡ tabledValues (tierTable (lentTiers count (now (edges .entry)) (now (withdrawals .entry)) (now (survivals .entry)) otherwise retained)) balance d (now (rates .entry)) column (factorsOf down (d .months) (now (lower .entry))) (factorsOf up (d .months) (now (upper .entry))) ⌝ }
-    ensures { λ r. ⌜ LevelsLeft (lentTiers count (now (edges .entry)) (now (withdrawals .entry)) (now (survivals .entry)) otherwise retained) balance d (now (rates .entry)) column (now (levels .entry)) (now (levels .exit)) ⌝ }
+    ensures { λ r. ⌜ ((t : TiersLent count (now (edges .entry)) (now (survivals .entry)) retained) → r ≡ tabledValues (tierTable (lentTiers t)) balance d (now (rates .entry)) column (factorsOf down (d .months) (now (lower .entry))) (factorsOf up (d .months) (now (upper .entry)))) ⌝ }
+    ensures { λ r. ⌜ LevelsLeft count (now (edges .entry)) balance d (now (rates .entry)) column (now (levels .entry)) (now (levels .exit)) ⌝ }
 {
     let mut values = [0u64; 14];
     if balance == 0 {

@@ -12,10 +12,10 @@ ghost use mathlib.Core.Path.{_≡_};
 ghost use Prim.Native.Nat.{_≤_, _<_};
 ghost use Rattle.schedule.specs.Limits.{balanceLimit};
 ghost use Rattle.sub_balances.specs.PlaceOrder.{subBalanceCount, positionOf};
-ghost use Rattle.withdrawal.specs.Inner.TierArrays.{tierTable, Usable};
+ghost use Rattle.withdrawal.specs.Inner.TierArrays.{tierTable};
 ghost use Rattle.pricing.specs.Rounding.{down, up};
 ghost use Rattle.discount_factors.specs.Inner.Factors.{WithinRates};
-ghost use Rattle.deposits.specs.Inner.Levels.{lentTiers, LevelsLeft};
+ghost use Rattle.deposits.specs.Inner.Levels.{TiersLent, lentTiers, LevelsLeft};
 ghost use Rattle.deposits.specs.Inner.Prices.{DepositLimits};
 ghost use Rattle.discounts.specs.Inner.Tables.{factorsOf, Discounting};
 ghost use Rattle.place_values.specs.PlaceTerms.{depositAt};
@@ -29,19 +29,17 @@ pub fn row_of<'a>(
     rates: &RatePaths,
     count: usize,
     edges: &'a [u64; TIER_LIMIT],
-    withdrawals: &'a [u64; TIER_LIMIT],
     survivals: &'a [u64; TIER_LIMIT],
-    otherwise: u64,
     retained: u64,
     lower: &MultiplierTable,
     upper: &MultiplierTable,
     months: &mut MonthLevels,
 ) -> [u64; 15]
     requires { ⌜ (place < subBalanceCount) × (held .balance ≤ balanceLimit) × DepositLimits (depositAt place held) ⌝ }
-    requires { ⌜ WithinRates (now rates) × Usable (lentTiers count (now edges) (now withdrawals) (now survivals) otherwise retained) ⌝ }
+    requires { ⌜ WithinRates (now rates) × TiersLent count (now edges) (now survivals) retained ⌝ }
     requires { ⌜ (0 < held .balance → Discounting down (depositAt place held .months) (now lower) × Discounting up (depositAt place held .months) (now upper)) ⌝ }
-    ensures { λ r. ⌜ r ≡ rowOf held place (now (rates .entry)) (tierTable (lentTiers count (now (edges .entry)) (now (withdrawals .entry)) (now (survivals .entry)) otherwise retained)) (factorsOf down (depositAt place held .months) (now (lower .entry))) (factorsOf up (depositAt place held .months) (now (upper .entry))) ⌝ }
-    ensures { λ r. ⌜ LevelsLeft (lentTiers count (now (edges .entry)) (now (withdrawals .entry)) (now (survivals .entry)) otherwise retained) (held .balance) (depositAt place held) (now (rates .entry)) (positionOf place .column) (now (months .entry)) (now (months .exit)) ⌝ }
+    ensures { λ r. ⌜ ((t : TiersLent count (now (edges .entry)) (now (survivals .entry)) retained) → r ≡ rowOf held place (now (rates .entry)) (tierTable (lentTiers t)) (factorsOf down (depositAt place held .months) (now (lower .entry))) (factorsOf up (depositAt place held .months) (now (upper .entry)))) ⌝ }
+    ensures { λ r. ⌜ LevelsLeft count (now (edges .entry)) (held .balance) (depositAt place held) (now (rates .entry)) (positionOf place .column) (now (months .entry)) (now (months .exit)) ⌝ }
 {
     if held.balance == 0 {
         return [0; 15];
@@ -52,9 +50,7 @@ pub fn row_of<'a>(
         rates,
         count,
         edges,
-        withdrawals,
         survivals,
-        otherwise,
         retained,
         lower,
         upper,
@@ -72,19 +68,17 @@ pub fn held_values<'a>(
     rates: &RatePaths,
     count: usize,
     edges: &'a [u64; TIER_LIMIT],
-    withdrawals: &'a [u64; TIER_LIMIT],
     survivals: &'a [u64; TIER_LIMIT],
-    otherwise: u64,
     retained: u64,
     lower: &MultiplierTable,
     upper: &MultiplierTable,
     months: &mut MonthLevels,
 ) -> [u64; 14]
     requires { ⌜ (place < subBalanceCount) × (held .balance ≤ balanceLimit) × DepositLimits (depositAt place held) ⌝ }
-    requires { ⌜ WithinRates (now rates) × Usable (lentTiers count (now edges) (now withdrawals) (now survivals) otherwise retained) ⌝ }
+    requires { ⌜ WithinRates (now rates) × TiersLent count (now edges) (now survivals) retained ⌝ }
     requires { ⌜ (0 < held .balance → Discounting down (depositAt place held .months) (now lower) × Discounting up (depositAt place held .months) (now upper)) ⌝ }
-    ensures { λ r. ⌜ r ≡ tabledHeld held place (now (rates .entry)) (tierTable (lentTiers count (now (edges .entry)) (now (withdrawals .entry)) (now (survivals .entry)) otherwise retained)) (factorsOf down (depositAt place held .months) (now (lower .entry))) (factorsOf up (depositAt place held .months) (now (upper .entry))) ⌝ }
-    ensures { λ r. ⌜ LevelsLeft (lentTiers count (now (edges .entry)) (now (withdrawals .entry)) (now (survivals .entry)) otherwise retained) (held .balance) (depositAt place held) (now (rates .entry)) (positionOf place .column) (now (months .entry)) (now (months .exit)) ⌝ }
+    ensures { λ r. ⌜ ((t : TiersLent count (now (edges .entry)) (now (survivals .entry)) retained) → r ≡ tabledHeld held place (now (rates .entry)) (tierTable (lentTiers t)) (factorsOf down (depositAt place held .months) (now (lower .entry))) (factorsOf up (depositAt place held .months) (now (upper .entry)))) ⌝ }
+    ensures { λ r. ⌜ LevelsLeft count (now (edges .entry)) (held .balance) (depositAt place held) (now (rates .entry)) (positionOf place .column) (now (months .entry)) (now (months .exit)) ⌝ }
 {
     let d = deposit_at(place, held);
     let column = position(place / 4).column;
@@ -95,9 +89,7 @@ pub fn held_values<'a>(
         column,
         count,
         edges,
-        withdrawals,
         survivals,
-        otherwise,
         retained,
         lower,
         upper,

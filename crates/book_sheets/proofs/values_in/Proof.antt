@@ -5,6 +5,7 @@ use borrow.Author.Tests.{not-true, not-false}
 use mathlib.Core.Path.{sym, _∙_}
 use Rattle.schedule.specs.Limits.{monthsLimit}
 use Rattle.pricing.specs.Rounding.{roundingOf}
+use Rattle.deposits.proofs.LevelLaws.{lent}
 use Rattle.discounts.proofs.TableLaws.{lower-discounting, upper-discounting}
 use Rattle.place_values.specs.PlaceTerms.{depositAt}
 use Rattle.place_values.proofs.HeldLaws.{held-by}
@@ -39,7 +40,7 @@ to-multipliers-requires-2 c κs = let test = c .before .before .before .before .
 held-values-requires : tie.Need-held-values-requires
 unfolding depositAt roundingOf
 held-values-requires c κs =
-    let above = c .before .before .before .before .before .before .before in
+    let above = c .before .before .before .before .before .before in
     let below = above .before .before in
     let tiers = below .before .before .before .before in
     let start = tiers .before .before .before in
@@ -48,7 +49,7 @@ held-values-requires c κs =
     let months : a .held .«remaining_months» ≤ monthsLimit = start .pre .2 .months-le in (
       start .pre,
       (
-        (l .rates-le, tiers .tiers-of .ensures .1),
+        (l .rates-le, lent _ (tiers .tiers-of .ensures .1)),
         λ pos. (
           lower-discounting (a .lower .now) _ (a .held .«remaining_months») (below .to-multipliers .ensures .0) (l .lower-le),
           upper-discounting (a .upper .now) _ (a .held .«remaining_months») (above .to-multipliers2 .ensures .0) (l .upper-le) (λ i h. l .upper-pos i (omega (arith, h, months))),
@@ -59,12 +60,12 @@ held-values-requires c κs =
 returns-2 : tie.Need-returns-2
 unfolding valuesUnder depositAt roundingOf
 returns-2 c =
-    let above = c .before .before .before .before .before .before .before .before in
+    let above = c .before .before .before .before .before .before .before in
     let below = above .before .before in
     let tiers = below .before .before .before .before in
     let test = tiers .before in
     let a = test .before .before .args in
-    c .held-values .ensures .0
+    c .held-values .ensures .0 (lent _ (tiers .tiers-of .ensures .1))
     ∙ held-by (a .place) (a .held) (a .rates .now) _ (a .lower .now) (a .upper .now) _ _ (λ pos. (below .to-multipliers .ensures .0, above .to-multipliers2 .ensures .0))
     ∙ rw (tiers .tiers-of .ensures .0, ← test .before .usable .ensures, not-false (test .before .usable .result) (test .if1 .left))
 

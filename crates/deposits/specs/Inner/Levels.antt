@@ -5,15 +5,23 @@ use mathlib.Core.Bool.{Bool}
 use mathlib.Core.List.{List}
 use Rattle.withdrawal.specs.declared.WithdrawalTiers.{WithdrawalTiers}
 use Rattle.withdrawal.specs.MonthSurvival.{accountOf}
+use Rattle.withdrawal.specs.Inner.TierArrays.{Usable}
 use Rattle.pricing.specs.Scales.{couponGrowth}
 use Rattle.early_levels.specs.Levels as months
 use Rattle.deposits.specs.declared.Deposit.{Deposit}
 use Rattle.deposits.specs.DepositTerms.{servicingCost}
 
--- tiers whose arrays are lent
-abbrev pub lentTiers : ℕ → List ℕ → List ℕ → List ℕ → ℕ → ℕ → WithdrawalTiers
-lentTiers count edges withdrawals survivals otherwise retained =
-    record { count = count; edges = edges; withdrawals = withdrawals; survivals = survivals; otherwise = otherwise; retained = retained }
+-- what is lent of tiers: their count, their edges in hundredths, and of their withdrawals, which are not lent, the survivals in billionths
+pub record TiersLent (count : ℕ) (edges survivals : List ℕ) (retained : ℕ) : Type 0 where
+  pub withdrawals : List ℕ
+  pub otherwise : ℕ
+  pub usable : Usable
+      (record { count = count; edges = edges; withdrawals = withdrawals; survivals = survivals; otherwise = otherwise; retained = retained })
+
+-- the tiers that it is lent of
+abbrev pub lentTiers : {count : ℕ} {edges survivals : List ℕ} {retained : ℕ} → TiersLent count edges survivals retained → WithdrawalTiers
+lentTiers {count} {edges} {survivals} {retained} t =
+    record { count = count; edges = edges; withdrawals = t .withdrawals; survivals = survivals; otherwise = t .otherwise; retained = retained }
 
 -- levels of all months before the last
 abbrev pub Levelled : WithdrawalTiers → Deposit → List ℕ → ℕ → List (List ℕ) → Type 0
@@ -21,9 +29,11 @@ Levelled t d rates column levels =
     months.Levelled (d .brokered) (d .coupon) (d .penalty) (d .months) (t .count) (t .edges) rates column levels
 
 -- the room for levels once a balance is valued: as it was for no balance; else the levels of the months before the last, and from the last on as it was
-abbrev pub LevelsLeft : WithdrawalTiers → ℕ → Deposit → List ℕ → ℕ → List (List ℕ) → List (List ℕ) → Type 0
-LevelsLeft t balance d rates column before after =
-    (balance ≡ 0 → after ≡ before) × (0 < balance → Levelled t d rates column after × months.LeftBehind (d .months) before after)
+abbrev pub LevelsLeft : ℕ → List ℕ → ℕ → Deposit → List ℕ → ℕ → List (List ℕ) → List (List ℕ) → Type 0
+LevelsLeft count edges balance d rates column before after =
+    (balance ≡ 0 → after ≡ before)
+    × (0 < balance
+    → months.Levelled (d .brokered) (d .coupon) (d .penalty) (d .months) count edges rates column after × months.LeftBehind (d .months) before after)
 
 -- multipliers of all levels that the account may have
 abbrev pub Multiplied : WithdrawalTiers → Deposit → List ℕ → List ℕ → List ℕ → List Bool → Type 0

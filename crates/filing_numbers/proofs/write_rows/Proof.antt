@@ -12,6 +12,7 @@ use Rattle.filing_numbers.specs.Numbers.{placeNumbers}
 use Rattle.shares.specs.Places.{placesOf}
 use Rattle.place_values.specs.Inner.LongestTerm.{longestTerm}
 use Rattle.filing_tiers.proofs.FilingTierLaws.{filed-limits}
+use Rattle.deposits.proofs.LevelLaws.{lent}
 use Rattle.filing_numbers.proofs.NumberLaws.{row-length}
 use Rattle.place_values.proofs.HeldLaws.{yields-within, rates-within}
 use Rattle.filing_numbers.proofs.RowLaws.{Prepared, longest-limit, held-limits, tables, row-is}
@@ -81,7 +82,7 @@ written c = c .loop .inv .2 _ (prepared (c .before))
 
 -- the loop's head, from the row of a place
 abbrev head : tie.After-row-of Inv-loop μ-loop → tie.At-loop Inv-loop μ-loop
-head r = r .before .before .before .before .before .before .before .before .before .before
+head r = r .before .before .before .before .before .before .before .before .before
 
 mul-row-of : tie.Need-mul-row-of Inv-loop μ-loop
 mul-row-of c = omega arith
@@ -91,10 +92,10 @@ array-copy-out-row-of c = omega arith
 
 row-of-requires : tie.Need-row-of-requires Inv-loop μ-loop
 row-of-requires c κs =
-    let loop = c .before .before .before .before .before .before .before .before .before in
+    let loop = c .before .before .before .before .before .before .before .before in
     let p = prepared (loop .before) in
     let held = held-limits _ _ _ _ _ p (loop .loop .place) (omega arith) in
-    ((omega arith, held .0, held .1), ((rates-within _ (p .valid), p .usable), tables _ _ _ _ _ p (loop .loop .place) (omega arith)))
+    ((omega arith, held .0, held .1), ((rates-within _ (p .valid), lent _ (p .usable)), tables _ _ _ _ _ p (loop .loop .place) (omega arith)))
 
 mul-write : tie.Need-mul-write Inv-loop μ-loop
 mul-write c = omega arith
@@ -120,7 +121,7 @@ loop-again c =
       state .inv .1,
       λ filed p. rw (c .before .before .write .ensures) (overwritten-row [] (placeNumbers _) 15 (row-length _) (state .place) (15 * state .place) (15 * (state .place + 1))
           _ (state .list) (row .row-of .result) (state .inv .2 filed p)
-          (row .row-of .ensures .0 ∙ row-is _ _ _ _ _ p (state .place) more) (omega (arith, more)) (omega (arith, more, state .inv .1))),
+          (row .row-of .ensures .0 (lent _ (p .usable)) ∙ row-is _ _ _ _ _ p (state .place) more) (omega (arith, more)) (omega (arith, more, state .inv .1))),
     )
 
 same-length : tie.Need-same-length Inv-loop μ-loop

@@ -8,7 +8,6 @@ use lib.ListN.{replicate}
 use Rattle.lists.specs.Tables.{tableFrom, table, joined}
 use Rattle.lists.proofs.TableLaws.{table-ext}
 use Rattle.lists.proofs.RunLaws.{Overwritten, overwritten-none, overwritten-row, overwritten-all}
-use Rattle.withdrawal.specs.declared.WithdrawalTiers.{WithdrawalTiers}
 use Rattle.withdrawal.specs.MonthSurvival.{accountOf}
 use Rattle.pricing.specs.Scales.{par, couponGrowth}
 use Rattle.pricing.specs.Rounding.{down, up}
@@ -26,7 +25,7 @@ use Rattle.deposits.proofs.values.values_of.Statement.{statement}
 use Rattle.deposits.proofs.values.values_of.Tie as tie
 
 abbrev Inv-loop : tie.InvT-loop
-Inv-loop balance d rates column count edges withdrawals survivals otherwise retained lower upper levels values₀ growth servicing last paid left carried whole scenario₀ values scenario =
+Inv-loop balance d rates column count edges survivals retained lower upper levels values₀ growth servicing last paid left carried whole scenario₀ values scenario =
     (scenario ≤ 7)
     × Overwritten
     (joined (table scenario (λ (s : ℕ). valuesAt balance
@@ -34,15 +33,11 @@ Inv-loop balance d rates column count edges withdrawals survivals otherwise reta
     (2 * scenario) (replicate 14 0) values
 
 abbrev μ-loop : tie.MeasureT-loop
-μ-loop balance d rates column count edges withdrawals survivals otherwise retained lower upper levels values₀ growth servicing last paid left carried whole scenario₀ values scenario =
+μ-loop balance d rates column count edges survivals retained lower upper levels values₀ growth servicing last paid left carried whole scenario₀ values scenario =
     7 - scenario
 
--- the tiers that are lent
-abbrev lent : tie.Start Inv-loop μ-loop → WithdrawalTiers
-lent s = lentTiers (s .args .count) (s .args .edges .now) (s .args .withdrawals .now) (s .args .survivals .now) (s .args .otherwise) (s .args .retained)
-
 returns : tie.Need-returns Inv-loop μ-loop
-returns c = (rw (c .if1 .taken) (no-values _ _ _ _ _ _), ((λ e. refl), λ some. absurd (ne-of-gt some (c .if1 .taken))))
+returns c = ((λ t. rw (c .if1 .taken) (no-values _ _ _ _ _ _)), ((λ e. refl), λ some. absurd (ne-of-gt some (c .if1 .taken))))
 
 coupon-growth-requires : tie.Need-coupon-growth-requires Inv-loop μ-loop
 coupon-growth-requires c κs = c .before .pre .0 .1 .coupon-le
@@ -61,7 +56,7 @@ multipliers-of-requires c κs =
 early-levels-requires : tie.Need-early-levels-requires Inv-loop μ-loop
 early-levels-requires c κs =
     let limits = c .before .before .before .before .before .pre .0 in (
-      (limits .1 .coupon-le, limits .1 .penalty-le, limits .1 .months-le, limits .3 .edges-fit),
+      (limits .1 .coupon-le, limits .1 .penalty-le, limits .1 .months-le, limits .3 .usable .edges-fit),
       (limits .2 .within, limits .2 .first-le, limits .2 .last-le),
     )
 
@@ -74,8 +69,8 @@ level-multipliers-requires c κs =
       (
         rw (growth .coupon-growth .ensures) (mul-le-mul-left _ (limits .1 .coupon-le)),
         rw (servicing .servicing-cost .ensures) (servicing-le (accountOf (start .args .d .brokered))),
-        limits .3 .edges-fit .count-le,
-        λ i. level-survival-le (start .args .d .brokered) (lent start) i (limits .3),
+        limits .3 .usable .edges-fit .count-le,
+        λ i. level-survival-le (start .args .d .brokered) (lentTiers (limits .3)) i (limits .3 .usable),
       ),
       (refl, refl, refl, refl),
     )
@@ -110,10 +105,10 @@ value-bounds-requires c κs =
     let lt : test .before .loop .scenario < 7 = omega (arith, test .loop-test .taken) in (
       (limits .0, limits .1 .months-le, lt),
       (
-        priceable (lent start) (a .d) (a .rates .now) (a .column) _ _ _ _ _ (a .lower .now) (a .upper .now) _ (limits .1) (limits .3) (early .early-levels .ensures .0)
+        priceable (lentTiers (limits .3)) (a .d) (a .rates .now) (a .column) _ _ _ _ _ (a .lower .now) (a .upper .now) _ (limits .1) (limits .3 .usable) (early .early-levels .ensures .0)
             (rw (← (last .before .before .coupon-growth .ensures), ← (last .before .servicing-cost .ensures)) (m .level-multipliers .ensures .0)) lt
             (known .1) (known .2) (known .0),
-        prices-le (lent start) (a .d) (a .rates .now) (a .column) _ _ _ _ _ (a .lower .now) (a .upper .now) _ (limits .1) (limits .3) (early .early-levels .ensures .0)
+        prices-le (lentTiers (limits .3)) (a .d) (a .rates .now) (a .column) _ _ _ _ _ (a .lower .now) (a .upper .now) _ (limits .1) (limits .3 .usable) (early .early-levels .ensures .0)
             (rw (← (last .before .before .coupon-growth .ensures), ← (last .before .servicing-cost .ensures)) (m .level-multipliers .ensures .0)) lt
             (known .1) (known .2) (known .0),
       ),
@@ -160,10 +155,10 @@ returns-2 c =
     let limits = start .pre .0 in
     let known = last-known last in
     let e : c .before .loop .scenario ≡ 7 = omega arith in (
-      overwritten-all _ _ _ _ (c .before .loop .inv .1) (omega arith)
+      λ t. overwritten-all _ _ _ _ (c .before .loop .inv .1) (omega arith)
           ∙ rw e
           (ap joined (table-ext 7 _ _
-          (λ s h. bounds-are (lent start) (a .d) (a .rates .now) (a .column) _ _ _ _ _ (a .lower .now) (a .upper .now) s (limits .1) (limits .3) (early .early-levels .ensures .0)
+          (λ s h. bounds-are (lentTiers t) (a .d) (a .rates .now) (a .column) _ _ _ _ _ (a .lower .now) (a .upper .now) s (limits .1) (t .usable) (early .early-levels .ensures .0)
           (rw (← (last .before .before .coupon-growth .ensures), ← (last .before .servicing-cost .ensures)) (m .level-multipliers .ensures .0)) h
           (known .1) (known .2) (known .0) (a .balance)))),
       ((λ none. absurd (last .before .before .before .if1 .left none)), λ some. early .early-levels .ensures),

@@ -32,7 +32,7 @@ returns : tie.Need-returns
 unfolding tabledHeld positionOf
 returns c =
     let column = c .before .before in (
-      rw (c .values-of .ensures .0, column .position .ensures, column .before .deposit-at .ensures),
+      λ t. rw (c .values-of .ensures .0 t, column .position .ensures, column .before .deposit-at .ensures),
       rw (column .position .ensures, column .before .deposit-at .ensures) at (c .values-of .ensures .1),
     )
 

@@ -8,7 +8,7 @@ use Rattle.place_values.proofs.place_row.row_of.Statement.{statement}
 use Rattle.place_values.proofs.place_row.row_of.Tie as tie
 
 returns : tie.Need-returns
-returns c = (no-row _ _ _ _ _ _ (c .if1 .taken), ((λ e. refl), λ some. absurd (ne-of-gt some (c .if1 .taken))))
+returns c = ((λ t. no-row _ _ _ _ _ _ (c .if1 .taken)), ((λ e. refl), λ some. absurd (ne-of-gt some (c .if1 .taken))))
 
 held-values-requires : tie.Need-held-values-requires
 held-values-requires c κs = search needs
@@ -26,7 +26,7 @@ returns-2 : tie.Need-returns-2
 unfolding rowOf
 returns-2 c =
     let values = c .before .before .before .before in
-    (rw (c .before .write .ensures, values .held-values .ensures .0) (row-written _ _ (tabled-length _ _ _ _ _ _)), values .held-values .ensures .1)
+    ((λ t. rw (c .before .write .ensures, values .held-values .ensures .0 t) (row-written _ _ (tabled-length _ _ _ _ _ _))), values .held-values .ensures .1)
 
 pub row-of-spec : {M : Type 1} → statement M
 row-of-spec =
