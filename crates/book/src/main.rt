@@ -58,7 +58,7 @@ struct Turn {
 fn obey_next(book: Book) -> Turn {
     let mut line = [0u8; 1025];
     let read = next_line(&mut line);
-    if read.is_end {
+    if read.unread {
         return Turn { book, is_end: true };
     }
     Turn {

@@ -1,62 +1,97 @@
-// The lines of standard input.
+// The lines of standard input. `step` says what the next byte makes of a line; `next_line` only reads the bytes and hands each on to it.
 use libc::STDIN_FILENO;
-ghost use Prim.Native.Nat.{_+_, _%_, _≤_};
 ghost use mathlib.Core.Path.{_≡_};
-ghost use mathlib.Core.Bool.{cond};
-ghost use lib.Dec.{ltb};
-ghost use lib.ListN.{length, set, take};
+ghost use mathlib.Core.Bool.{true, false};
+ghost use Rattle.input_lines.specs.Lines.{withByte, stepOf, LineRead};
 
-// How many bytes of a line were read, without its line feed, and whether there was none before the input's end.
-pub struct Read {
+// What comes next of the input: a byte, or its end.
+pub enum Input {
+    Byte(u8),
+    End,
+}
+
+// What is read of a line so far: how many of its bytes are kept, whether it is complete, and whether nothing was read, not even its line feed.
+pub struct Reading {
     pub size: usize,
-    pub is_end: bool,
+    pub complete: bool,
+    pub unread: bool,
 }
 
-// Reads the next line; of a longer one than the lent bytes only those are kept.
-pub fn next_line(line: &mut [u8]) -> Read
-    ensures { λ r. ⌜ (r .size ≤ length (now (line .exit))) × (r .size ≡ length (take (r .size) (now (line .exit)))) ⌝ }
+// Reads the next line without its line feed; of a longer one than the lent bytes only those are kept. Nothing is read of it where the input is at its end.
+// What is left in the lent bytes and answered is the line of some bytes: no contract can say which were read.
+pub fn next_line(line: &mut [u8]) -> Reading
+    ensures { λ r. ⌜ LineRead (now (line .entry)) r (now (line .exit)) ⌝ }
 {
-    let mut size: usize = 0;
-    let mut is_end = true;
+    let mut reading = Reading {
+        size: 0,
+        complete: false,
+        unread: true,
+    };
     for _ in 0..18446744073709551615u64 {
-        let byte = next_byte();
-        if 255 < byte {
+        if reading.complete {
             break;
         }
-        is_end = false;
-        if byte == 10 {
-            break;
-        }
-        size = with_byte(line, size, byte);
+        let next = next_input();
+        reading = step(line, reading, next);
     }
-    Read { size, is_end }
+    reading
 }
 
-// Stores a byte behind the others, where there is room, and counts them.
-fn with_byte(line: &mut [u8], size: usize, byte: u64) -> usize
-    requires { ⌜ size ≤ length (now line) ⌝ }
-    ensures { λ r. ⌜ now (line .exit) ≡ cond (ltb size (length (now (line .entry)))) (set (now (line .entry)) size (byte % 256)) (now (line .entry)) ⌝ }
-    ensures { λ r. ⌜ (r ≡ cond (ltb size (length (now (line .entry)))) (size + 1) size) × (r ≤ length (now (line .exit))) ⌝ }
+// A line after what comes next of the input. One that is complete stays as it is.
+fn step(line: &mut [u8], reading: Reading, next: Input) -> Reading
+    ensures { λ r. ⌜ record { line = now (line .exit); reading = r } ≡ stepOf (record { line = now (line .entry); reading = reading }) next ⌝ }
 {
-    if line.len() <= size {
-        return size;
+    if reading.complete {
+        return reading;
     }
-    line[size] = (byte % 256) as u8;
-    size + 1
+    match next {
+        Input::Byte(byte) => with_byte(line, reading.size, byte),
+        Input::End => complete(reading.size, reading.unread),
+    }
 }
 
-// The next byte, 256 at the input's end.
-fn next_byte() -> u64 {
+// A line after a byte: a line feed completes it, another byte is kept behind the others, where there is room.
+fn with_byte(line: &mut [u8], size: usize, byte: u8) -> Reading
+    ensures { λ r. ⌜ record { line = now (line .exit); reading = r } ≡ withByte (now (line .entry)) size byte ⌝ }
+{
+    if byte == 10 {
+        return complete(size, false);
+    }
+    if line.len() <= size {
+        return incomplete(size);
+    }
+    line[size] = byte;
+    incomplete(size + 1)
+}
+
+// A line of which nothing more is read.
+fn complete(size: usize, unread: bool) -> Reading
+    ensures { λ r. ⌜ r ≡ record { size = size; complete = true; unread = unread } ⌝ }
+{
+    Reading {
+        size,
+        complete: true,
+        unread,
+    }
+}
+
+// A line of which more is to be read.
+fn incomplete(size: usize) -> Reading
+    ensures { λ r. ⌜ r ≡ record { size = size; complete = false; unread = false } ⌝ }
+{
+    Reading {
+        size,
+        complete: false,
+        unread: false,
+    }
+}
+
+// What comes next of standard input.
+fn next_input() -> Input {
     let mut byte = [0u8; 1];
     let n = io::read_full(STDIN_FILENO, &mut byte);
     if n == 0 {
-        return 256;
+        return Input::End;
     }
-    wide(byte[0])
-}
-
-fn wide(byte: u8) -> u64
-    ensures { λ r. ⌜ r ≡ byte ⌝ }
-{
-    byte as u64
+    Input::Byte(byte[0])
 }

@@ -1,26 +1,26 @@
--- `next_line` meets its contract: the loop counts its turns, and no more bytes are stored than there is room for. Assumes nothing.
-use Prim.Native.Nat.{_-_, _≤_}
+-- `next_line` meets its contract: before each byte it holds the line of the bytes read, and its turns are counted. Assumes nothing.
+use Prim.Native.Nat.{_-_}
 use native.Mathlib.Omega.{arith}
-use mathlib.Core.Path.{_≡_, refl, sym}
-use lib.ListN.{length}
-use lib.Seq.{length-take-le}
+use Rattle.input_lines.specs.Lines.{LineRead, started}
+use Rattle.input_lines.proofs.LineLaws.{read-none, read-next, read-length}
 use Rattle.input_lines.proofs.next_line.Statement.{statement}
 use Rattle.input_lines.proofs.next_line.Tie as tie
 
 abbrev Inv-loop : tie.InvT-loop
-Inv-loop line₀ size₀ is-end₀ counter₀ line size is-end counter = (size ≤ length line) × (length line ≡ length line₀)
+Inv-loop line₀ reading₀ counter₀ line reading counter = LineRead line₀ reading line
 
 abbrev μ-loop : tie.MeasureT-loop
-μ-loop line₀ size₀ is-end₀ counter₀ line size is-end counter = 18446744073709551615 - counter
+μ-loop line₀ reading₀ counter₀ line reading counter = 18446744073709551615 - counter
 
 loop-holds : tie.Need-loop-holds Inv-loop μ-loop
-loop-holds c = (omega arith, refl)
+unfolding started
+loop-holds c = read-none _
 
-next-byte-requires : tie.Need-next-byte-requires Inv-loop μ-loop
-next-byte-requires c κs = tt
+next-input-requires : tie.Need-next-input-requires Inv-loop μ-loop
+next-input-requires c κs = tt
 
-with-byte-requires : tie.Need-with-byte-requires Inv-loop μ-loop
-with-byte-requires c κs = c .before .before .before .before .before .loop .inv .0
+step-requires : tie.Need-step-requires Inv-loop μ-loop
+step-requires c κs = tt
 
 add-counter : tie.Need-add-counter Inv-loop μ-loop
 add-counter c = omega arith
@@ -31,31 +31,20 @@ loop-less c = omega arith
 loop-again : tie.Need-loop-again Inv-loop μ-loop
 loop-again c =
     let w = c .before .before in
-    (w .with-byte .ensures .1 .1, omega (arith, w .with-byte .kept .0, w .before .before .before .before .before .before .loop .inv .1))
+    let t = w .before .before .before in
+    read-next _ _ _ _ _ _ (t .before .before .loop .inv) (t .if1 .left) (w .step .ensures)
 
 same-length : tie.Need-same-length Inv-loop μ-loop
-same-length c = c .before .loop .inv .1
+same-length c = read-length _ _ _ (c .before .loop .inv)
 
 returns : tie.Need-returns Inv-loop μ-loop
-returns c =
-    let size = c .before .loop .inv .0 in
-    (size, sym (length-take-le _ _ size))
+returns c = c .before .loop .inv
 
 same-length-2 : tie.Need-same-length-2 Inv-loop μ-loop
-same-length-2 c = c .before .before .before .loop .inv .1
+same-length-2 c = read-length _ _ _ (c .before .before .loop .inv)
 
 returns-2 : tie.Need-returns-2 Inv-loop μ-loop
-returns-2 c =
-    let size = c .before .before .before .loop .inv .0 in
-    (size, sym (length-take-le _ _ size))
-
-same-length-3 : tie.Need-same-length-3 Inv-loop μ-loop
-same-length-3 c = c .before .before .before .before .loop .inv .1
-
-returns-3 : tie.Need-returns-3 Inv-loop μ-loop
-returns-3 c =
-    let size = c .before .before .before .before .loop .inv .0 in
-    (size, sym (length-take-le _ _ size))
+returns-2 c = c .before .before .loop .inv
 
 pub next-line-spec : {M : Type 1} → statement M
 next-line-spec =
@@ -64,14 +53,12 @@ next-line-spec =
     Inv-loop
     μ-loop
     loop-holds
-    next-byte-requires
-    with-byte-requires
+    next-input-requires
+    step-requires
     add-counter
     loop-less
     loop-again
     same-length
     returns
     same-length-2
-    returns-2
-    same-length-3
-    returns-3)
+    returns-2)
