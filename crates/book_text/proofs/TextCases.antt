@@ -1,15 +1,30 @@
--- Closed cases of the lines that a book obeys, so that a wrong clause of a definition breaks a case. Each is computed. Assumes nothing.
+-- Closed cases of the lines that a book obeys, each computed, and cases of its opening at the longest filing, so that a wrong clause of a definition breaks a
+-- case. Assumes nothing.
 use Prim.Native.Nat.{ℕ}
 use mathlib.Core.Path.{_≡_, refl}
+use mathlib.Core.Bool.{false}
 use mathlib.Core.List.{List, [], _∷_, _++_}
-use lib.ListN.{replicate}
+use lib.Dec.{eqb}
+use lib.ListN.{length, replicate}
 use Rattle.lists.specs.Ranges.{firstFrom}
+use Rattle.filing.specs.Verdict.{filingVerdict}
 use Rattle.text.specs.Decimal.{digit, digitsWithin, decimal}
-use Rattle.text.specs.Lines.{spaced}
+use Rattle.text.specs.Lines.{spaced, tooLong}
+use Rattle.book_lines.specs.BookLines.{openedLine, answerLine}
 use Rattle.numerals.specs.Numerals as numerals
 use Rattle.numerals.specs.Forms.{hasForm, formNumbers, formEnd}
 use Rattle.book_commands.specs.declared.Command.the-variants.{Set, Clear, Place, Totals, Unreadable}
 use Rattle.book_commands.specs.Commands.{setWord, clearWord, placeWord, totalsWord, fiveNumbers, oneNumber, beginsWith, says, numberOf, isTotals, shortCommand, commandOf}
+use Rattle.book_text.specs.Replies.{openingText, opens}
+
+-- a filing of 65,536 bytes is read, whatever they are, and one of 65,537 is too long and opens no book
+longest-read : (s : List ℕ) → length s ≡ 65536 → (openingText s ≡ answerLine openedLine (filingVerdict s)) × (opens s ≡ eqb (filingVerdict s .number) 0)
+unfolding openingText opens
+longest-read s h = (simp h, simp h)
+
+too-long-is : (s : List ℕ) → length s ≡ 65537 → (openingText s ≡ 116 ∷ 111 ∷ 111 ∷ 32 ∷ 108 ∷ 111 ∷ 110 ∷ 103 ∷ 10 ∷ []) × (opens s ≡ false)
+unfolding openingText opens tooLong
+too-long-is s h = (simp h, simp h)
 
 -- `set`, `clear`, `place` and `totals`
 abbrev set-word : List ℕ

@@ -1,1 +1,2 @@
 pub mod PrintingLaws
+pub mod TextCases

@@ -78,6 +78,27 @@ verdicts-hold : map (λ (c : Case). certificatesVerdict (c .valuation) (joined (
 unfolding certificatesVerdict countVerdict eachVerdict certificateVerdict ownVerdict sumOverLimit certificateCount certificateAt dateAt overLimit noSuchDay notOutstanding tooManyMonths positionSum standsAt positionOf positionFor columnOf isDate within lastDay isLeap onOrAfter movedOn dayIn monthsBetween firstFrom withinRow positionAt positions position sumWhere tableFrom joined refused accepted refusedIf firstRefusal firstOf
 verdicts-hold = refl
 
+-- the column by original months: 12 and 13, 36 and 37
+columns-hold : map columnOf (1 ∷ 12 ∷ 13 ∷ 36 ∷ 37 ∷ 120 ∷ []) ≡ 1 ∷ 1 ∷ 2 ∷ 2 ∷ 3 ∷ 3 ∷ []
+unfolding columnOf
+columns-hold = refl
+
+-- the position of a certificate that matures on 28 September 2024 or a day later, at 28 June 2024: 3 and 4 months remain; 12 and 13, 36 and 37 from its issue
+abbrev position-from : Date → Date → ℕ
+position-from issue maturity = positionOf (date 2024 6 28) (record { issue = issue; maturity = maturity; balance = 1; coupon = 1 })
+
+positions-hold : position-from (date 2023 9 28) (date 2024 9 28)
+    ∷ position-from (date 2023 9 27) (date 2024 9 28)
+    ∷ position-from (date 2021 9 28) (date 2024 9 28)
+    ∷ position-from (date 2021 9 27) (date 2024 9 28)
+    ∷ position-from (date 2023 9 29) (date 2024 9 29)
+    ∷ position-from (date 2021 9 29) (date 2024 9 29)
+    ∷ position-from (date 2021 9 28) (date 2024 9 29)
+    ∷ []
+    ≡ 0 ∷ 1 ∷ 1 ∷ 2 ∷ 3 ∷ 4 ∷ 5 ∷ []
+unfolding positionOf positionFor columnOf monthsBetween firstFrom onOrAfter movedOn dayIn lastDay isLeap withinRow within positionAt positions position
+positions-hold = refl
+
 -- 1,001 certificates, and 1,000, of which the first is faulty
 counts-hold : certificatesVerdict (date 2024 6 15) (replicate 8008 0) ∷ certificatesVerdict (date 2024 6 15) (replicate 8000 0) ∷ [] ≡ refused 5 0 ∷ refused 13 0 ∷ []
 unfolding certificatesVerdict countVerdict eachVerdict certificateVerdict ownVerdict sumOverLimit certificateCount certificateAt dateAt overLimit noSuchDay notOutstanding tooManyMonths positionSum standsAt positionOf positionFor columnOf isDate within lastDay isLeap onOrAfter movedOn dayIn monthsBetween firstFrom withinRow positionAt positions position sumWhere tableFrom refused accepted refusedIf firstRefusal firstOf

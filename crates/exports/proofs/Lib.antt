@@ -1,3 +1,4 @@
 pub mod ExportedLaws
 pub mod ConvertedLaws
 pub mod ChangedLaws
+pub mod ShownCases

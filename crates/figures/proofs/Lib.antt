@@ -1,3 +1,4 @@
 pub mod StarredProved
 pub mod HundredthsLaws
 pub mod TierCases
+pub mod MonthCases

@@ -1,1 +1,2 @@
 pub mod RequestCases
+pub mod PlaceCases
