@@ -5,8 +5,8 @@ The runs of tests/runs/PROGRAM: NAME.in is standard input and NAME.out what is t
 name is the argument. A run starts in tests/runs/PROGRAM. run_filings.py makes the filings among them. Runs that are too long to be stored are made here.
 
 Where the .out files come from: refusals and replies from documents 01 and 02 and from README, the listing `sample` from document 01; every other figure worked
-apart from the programs with whole fractions, for which the filings have few months: one month is balance x (1 + coupon + servicing) x discount factor. A directory, none of whose bytes can be
-read, is a file without bytes to `book`.
+apart from the programs with whole fractions, for which the filings have few months: one month is balance x (1 + coupon + servicing) x discount factor. To `book`
+a directory, none of whose bytes can be read, is a file without bytes.
 
 The very last line is 'N passed, M failed'; the exit status is 0 where all passed."""
 import pathlib
