@@ -10,7 +10,7 @@ use Rattle.answers.specs.Verdict.{Verdict, accepted, refused, refusedIf}
 use Rattle.contents.specs.Contents.{Contents}
 use Rattle.decode.specs.Contents.{contentsOf}
 use Rattle.filing.specs.Verdict.{filingVerdict}
-use Rattle.filing.proofs.ReadLaws.{contents-accepted}
+use Rattle.filing.proofs.ReadLaws.{accepted-contents}
 use Rattle.filing.proofs.AcceptedLaws.{accepted-valid}
 use Rattle.book_places.specs.declared.Book.{Book}
 use Rattle.book_places.specs.declared.Answered.{Answered}
@@ -50,7 +50,7 @@ after-kept s b kept c = standing-kept s (bookAfter b c) (after-stands (contentsO
 pub opened-kept : (s : List ℕ) → filingVerdict s ≡ accepted → Kept s (openedBook s)
 unfolding openedBook accepted
 opened-kept s a =
-    rw (← contents-accepted s (ap (λ (v : Verdict). v .number) a)) (standing-kept s (emptyBook (contentsOf s)) (empty-stands (contentsOf s) (accepted-valid s a)))
+    rw (← accepted-contents s (ap (λ (v : Verdict). v .number) a)) (standing-kept s (emptyBook (contentsOf s)) (empty-stands (contentsOf s) (accepted-valid s a)))
 
 -- after any sequence of changes
 all-kept : (s : List ℕ) (b : Book) → Kept s b → (cs : List Change) → Kept s (bookAfterAll b cs)

@@ -15,9 +15,9 @@ use Rattle.fields.specs.Bytes.{numberAt}
 use Rattle.contents.specs.Contents.{Contents}
 use Rattle.decode.specs.Contents.{contentsOf}
 use Rattle.readings.specs.EmptyContents.{emptyContents}
-use Rattle.filing.specs.Readings.{readContents}
+use Rattle.filing.specs.Readings.{readOver, readContents}
 use Rattle.filing.specs.Verdict.{filingVerdict}
-use Rattle.filing.proofs.ReadingLaws.{reading-accepted}
+use Rattle.filing.proofs.ReadingLaws.{reading-valid}
 use Rattle.pricing.specs.Rounding.{down, up}
 use Rattle.discount_factors.specs.Inner.Factors.{factorsBy, WithinRates}
 use Rattle.place_values.proofs.HeldLaws.{yields-within}
@@ -37,11 +37,11 @@ unfolding emptyContents contentsOf
 empty-yields = table-le 1 120 _ rateLimit (λ j l u. rw (no-bytes _) zero-le)
 
 pub opened-yields : (s : List ℕ) (a : Answer) (k : Contents) → verdictOf a ≡ filingVerdict s → k ≡ readContents s → WithinRates (k .yields)
-unfolding verdictOf readContents
+unfolding verdictOf readOver readContents
 opened-yields s a k v r = by (eqb (filingVerdict s .number) 0) refl
   where
     by : (t : Bool) → eqb (filingVerdict s .number) 0 ≡ t → WithinRates (k .yields)
-    by true e = yields-within k (reading-accepted s a k v r (ap (λ (w : Verdict). w .number) v ∙ eqb-true _ 0 e) .1)
+    by true e = yields-within k (reading-valid s a k emptyContents v r (ap (λ (w : Verdict). w .number) v ∙ eqb-true _ 0 e))
     by false e = rw (r, e) empty-yields
 
 -- what was read, with its factors, is the book that the bytes open

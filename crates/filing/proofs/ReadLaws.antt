@@ -1,11 +1,10 @@
--- The verdict on a filing: which part of it answers, and what reading gives besides it.
+-- The verdict on a filing: which part of it answers, and what reading leaves besides it.
 -- Assumes nothing.
 use Prim.Native.Nat.{ℕ}
 use mathlib.Core.Path.{_≡_, sym, ap, _∙_}
 use mathlib.Core.List.{List}
 use borrow.Author.Tests.{eq-eqb, ne-eqb}
-use lib.ListN.{length}
-use Rattle.lists.proofs.TableLaws.{table-length}
+use lib.ListN.{replicate}
 use Rattle.schedule.specs.Cells.{cellCount}
 use Rattle.schedule.specs.Limits.{monthsLimit}
 use Rattle.answers.specs.declared.Answer.{Answer}
@@ -14,14 +13,15 @@ use Rattle.answers.specs.Answers.{numberOf, verdictOf}
 use Rattle.answers.proofs.VerdictLaws.{first-passed, first-refused}
 use Rattle.record_verdicts.specs.RecordVerdicts.{recordsVerdict}
 use Rattle.column_sums.specs.Inner.Sums.{columnSums}
-use Rattle.contents.specs.Contents.{contentsWith}
+use Rattle.contents.specs.Contents.{Contents, contentsWith}
 use Rattle.sheet_numbers.specs.Sheets.{rateCount}
 use Rattle.decode.specs.Contents.{contentsOf}
 use Rattle.readings.specs.declared.Reading.{Reading}
 use Rattle.required_sheets.specs.RequiredSheets.{sheetVerdict}
 use Rattle.filing.specs.Verdict.{contentsVerdict, filingVerdict}
 use Rattle.readings.specs.EmptyContents.{emptyContents}
-use Rattle.filing.specs.Readings.{readContents}
+use Rattle.readings.proofs.EmptyLaws.{zeros-said}
+use Rattle.filing.specs.Readings.{readOver, lent, readContents}
 
 module _ (s : List ℕ) where
   -- a faulty record: its verdict is the filing's
@@ -42,25 +42,41 @@ module _ (s : List ℕ) where
     pub contents-decide : sheetVerdict s .number ≡ 0 → contentsVerdict (contentsOf s) ≡ filingVerdict s
     contents-decide h = sym (filing-then ∙ first-passed (sheetVerdict s) _ h)
 
-  -- an accepted filing gives what it says
-  pub contents-accepted : filingVerdict s .number ≡ 0 → contentsOf s ≡ readContents s
-  unfolding readContents
-  contents-accepted h = sym (simp (eq-eqb (filingVerdict s .number) 0 h))
+  -- an accepted filing leaves what it says, whatever stood there, and a refused one what stood there
+  pub accepted-over : (before : Contents) → filingVerdict s .number ≡ 0 → contentsOf s ≡ readOver s before
+  unfolding readOver
+  accepted-over before h = sym (simp (eq-eqb (filingVerdict s .number) 0 h))
 
-  -- a refusal with the filing's verdict gives zeros
+  refused-over : (before : Contents) → (filingVerdict s .number ≡ 0 → ⊥) → before ≡ readOver s before
+  unfolding readOver
+  refused-over before h = sym (simp (ne-eqb (filingVerdict s .number) 0 h))
+
+  pub accepted-contents : filingVerdict s .number ≡ 0 → contentsOf s ≡ readContents s
+  unfolding readContents
+  accepted-contents h = accepted-over emptyContents h
+
+  refused-contents : (filingVerdict s .number ≡ 0 → ⊥) → emptyContents ≡ readContents s
+  unfolding readContents
+  refused-contents h = refused-over emptyContents h
+
+  -- read into zeros
+  pub over-zeros : readOver s (lent (replicate cellCount 0) (replicate monthsLimit 0) (replicate rateCount 0)) ≡ readContents s
+  unfolding readContents
+  over-zeros = ap (readOver s) zeros-said
+
+  -- a refusal with the filing's verdict leaves what is lent, with no tiers and sums of 0
   pub refused-reading : (cells yields rates : List ℕ) (r : Reading) (a : Answer)
-      → (cells ≡ emptyContents .cells) × (yields ≡ emptyContents .yields) × (rates ≡ emptyContents .rates)
       → (r .answer ≡ a) × (r .tiers ≡ emptyContents .tiers) × (r .sums ≡ columnSums (emptyContents .cells))
       → verdictOf a ≡ filingVerdict s
       → (numberOf a ≡ 0 → ⊥)
-      → (verdictOf (r .answer) ≡ filingVerdict s) × ((contentsWith cells yields rates (r .tiers) ≡ readContents s) × (r .sums ≡ columnSums cells))
-  unfolding verdictOf readContents
-  refused-reading cells yields rates r a zeros e v h =
-      let refused = ne-eqb (filingVerdict s .number) 0 (λ z. h (ap (λ (u : Verdict). u .number) v ∙ z)) in
-      (ap verdictOf (e .0) ∙ v, (rw (zeros .0, zeros .1, zeros .2, e .1, refused), e .2 ∙ ap columnSums (sym (zeros .0))))
-
--- zeros for each cell, for each month, and for each month of each column
-pub empty-lengths : (cells yields rates : List ℕ) → (cells ≡ emptyContents .cells) × (yields ≡ emptyContents .yields) × (rates ≡ emptyContents .rates)
-    → (length cells ≡ cellCount) × (length yields ≡ monthsLimit) × (length rates ≡ rateCount)
-unfolding emptyContents contentsOf
-empty-lengths cells yields rates zeros = (ap length (zeros .0) ∙ table-length _ _ _, ap length (zeros .1) ∙ table-length _ _ _, ap length (zeros .2) ∙ table-length _ _ _)
+      → (verdictOf (r .answer) ≡ filingVerdict s)
+      × ((contentsWith cells yields rates (r .tiers) ≡ readOver s (lent cells yields rates)) × (r .sums ≡ columnSums (readContents s .cells)))
+  unfolding verdictOf
+  refused-reading cells yields rates r a e v h =
+      let refused : filingVerdict s .number ≡ 0 → ⊥ = λ z. h (ap (λ (u : Verdict). u .number) v ∙ z) in (
+        ap verdictOf (e .0) ∙ v,
+        (
+          ap (contentsWith cells yields rates) (e .1) ∙ refused-over (lent cells yields rates) refused,
+          e .2 ∙ ap (λ (k : Contents). columnSums (k .cells)) (refused-contents refused),
+        ),
+      )

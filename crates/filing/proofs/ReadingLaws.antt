@@ -1,5 +1,5 @@
--- What a caller of `read` learns from an answer whose number is 0: the contents are what the filing says, and they are valid.
--- Assumes nothing.
+-- What a caller of `read` learns from an answer whose number is 0: what was lent holds what the filing says, it is valid, and the sums are those of its
+-- columns. Assumes nothing.
 use Prim.Native.Nat.{ℕ}
 use mathlib.Core.Path.{_≡_, sym, ap, subst, _∙_}
 use mathlib.Core.List.{List}
@@ -10,14 +10,22 @@ use Rattle.answers.proofs.AnswerLaws.{accepted-answer}
 use Rattle.contents.specs.Contents.{Contents}
 use Rattle.decode.specs.Contents.{contentsOf}
 use Rattle.filing.specs.Verdict.{filingVerdict}
-use Rattle.filing.specs.Readings.{readContents}
+use Rattle.filing.specs.Readings.{readOver, readContents}
 use Rattle.contents.specs.Valid.{Valid}
-use Rattle.filing.proofs.ReadLaws.{contents-accepted}
+use Rattle.filing.proofs.ReadLaws.{accepted-over, accepted-contents}
 use Rattle.filing.proofs.AcceptedLaws.{accepted-valid}
 
-pub reading-accepted : (s : List ℕ) (a : Answer) (k : Contents) → verdictOf a ≡ filingVerdict s → k ≡ readContents s → numberOf a ≡ 0
-    → (k ≡ contentsOf s) × Valid k
-unfolding verdictOf
-reading-accepted s a k v r h =
-    let is = r ∙ sym (contents-accepted s (sym (ap (λ (w : Verdict). w .number) v) ∙ h)) in
-    (is, subst Valid (sym is) (accepted-valid s (sym v ∙ accepted-answer a h)))
+module _ (s : List ℕ) (a : Answer) (k before : Contents) (v : verdictOf a ≡ filingVerdict s) (r : k ≡ readOver s before) (zero : numberOf a ≡ 0) where
+  number-zero : filingVerdict s .number ≡ 0
+  unfolding verdictOf
+  number-zero = sym (ap (λ (w : Verdict). w .number) v) ∙ zero
+
+  pub reading-says : k ≡ contentsOf s
+  reading-says = r ∙ sym (accepted-over s before number-zero)
+
+  pub reading-valid : Valid k
+  reading-valid = subst Valid (sym reading-says) (accepted-valid s (sym v ∙ accepted-answer a zero))
+
+  -- the cells that the sums are of are those that were lent
+  pub reading-cells : readContents s .cells ≡ k .cells
+  reading-cells = ap (λ (c : Contents). c .cells) (sym (reading-says ∙ accepted-contents s number-zero))

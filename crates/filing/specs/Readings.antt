@@ -1,13 +1,21 @@
--- What reading a filing gives besides its verdict: what an accepted filing says, and zeros for a refused one. Definitions only.
+-- What reading a filing leaves besides its verdict. Definitions only.
 use Prim.Native.Nat.{ℕ}
 use mathlib.Core.Bool.{cond}
 use mathlib.Core.List.{List}
 use lib.Dec.{eqb}
-use Rattle.contents.specs.Contents.{Contents}
+use Rattle.contents.specs.Contents.{Contents, contentsWith}
 use Rattle.decode.specs.Contents.{contentsOf}
 use Rattle.readings.specs.EmptyContents.{emptyContents}
 use Rattle.filing.specs.Verdict.{filingVerdict}
 
+-- what stands where something stood before: what the filing says where it is accepted; a refusal changes nothing (01:41)
+unfoldable pub readOver : List ℕ → Contents → Contents
+readOver s before = cond (eqb (filingVerdict s .number) 0) (contentsOf s) before
+
+-- what is lent for cells, yields and rates, and no tiers
+abbrev pub lent : List ℕ → List ℕ → List ℕ → Contents
+lent cells yields rates = contentsWith cells yields rates (emptyContents .tiers)
+
 -- what the filing says where it is accepted, else zeros
 unfoldable pub readContents : List ℕ → Contents
-readContents s = cond (eqb (filingVerdict s .number) 0) (contentsOf s) emptyContents
+readContents s = readOver s emptyContents

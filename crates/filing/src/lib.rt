@@ -2,10 +2,10 @@
 use amendments::check_records;
 use answers::number;
 use conditions::check_cells;
-use decode::fill_contents;
+use decode::fill_cells;
+use decode::fill_sheets;
 use notes::BLOCKS;
 use readings::Reading;
-use readings::clear;
 use readings::refusal;
 use record_kinds::KINDS;
 use required_sheets::check_sheets;
@@ -17,17 +17,14 @@ ghost use lib.ListN.{length};
 ghost use Rattle.answers.specs.Answers.{verdictOf};
 ghost use Rattle.notes.specs.Inner.Notes.{notedBefore};
 ghost use Rattle.record_verdicts.specs.RecordVerdicts.{recordsVerdict};
-ghost use Rattle.schedule.specs.Cells.{cellCount};
-ghost use Rattle.schedule.specs.Limits.{monthsLimit};
 ghost use Rattle.contents.specs.Contents.{contentsWith};
-ghost use Rattle.sheet_numbers.specs.Sheets.{rateCount};
 ghost use Rattle.column_sums.specs.Inner.Sums.{columnSums};
 ghost use Rattle.required_sheets.specs.RequiredSheets.{sheetVerdict};
 ghost use Rattle.filing.specs.Verdict.{filingVerdict};
-ghost use Rattle.filing.specs.Readings.{readContents};
+ghost use Rattle.filing.specs.Readings.{readOver, lent, readContents};
 
-// Reads a filing: its records front to back, then the sheets that must be there, then the conditions on what it says. The lent arrays hold what it says, and
-// zeros on a refusal.
+// Reads a filing: its records front to back, then the sheets that must be there, then the conditions on its cells. Only then is what it says written into the
+// lent arrays: a refusal leaves them as they were, and has no tiers and sums of 0.
 pub fn read(
     filing: &[u8],
     cells: &mut [u64; CELLS],
@@ -35,10 +32,9 @@ pub fn read(
     rates: &mut [u16; RATES],
 ) -> Reading
     ensures { λ r. ⌜ verdictOf (r .answer) ≡ filingVerdict (now (filing .entry)) ⌝ }
-    ensures { λ r. ⌜ contentsWith (now (cells .exit)) (now (yields .exit)) (now (rates .exit)) (r .tiers) ≡ readContents (now (filing .entry)) ⌝ }
-    ensures { λ r. ⌜ r .sums ≡ columnSums (now (cells .exit)) ⌝ }
+    ensures { λ r. ⌜ contentsWith (now (cells .exit)) (now (yields .exit)) (now (rates .exit)) (r .tiers) ≡ readOver (now (filing .entry)) (lent (now (cells .entry)) (now (yields .entry)) (now (rates .entry))) ⌝ }
+    ensures { λ r. ⌜ r .sums ≡ columnSums (readContents (now (filing .entry)) .cells) ⌝ }
 {
-    clear(cells, yields, rates);
     let mut sheets = [0; KINDS];
     let mut noted = [0; CELLS];
     let mut counting = [0; CELLS];
@@ -66,19 +62,20 @@ fn read_contents(
 ) -> Reading
     requires { ⌜ (recordsVerdict (now filing) .number ≡ 0) × (sheetVerdict (now filing) .number ≡ 0) ⌝ }
     requires { ⌜ (now sheets ≡ notedBefore (now filing) (length (now filing)) .sheets) × (now counting ≡ notedBefore (now filing) (length (now filing)) .counting) ⌝ }
-    requires { ⌜ (length (now cells) ≡ cellCount) × (length (now yields) ≡ monthsLimit) × (length (now rates) ≡ rateCount) ⌝ }
     ensures { λ r. ⌜ verdictOf (r .answer) ≡ filingVerdict (now (filing .entry)) ⌝ }
-    ensures { λ r. ⌜ contentsWith (now (cells .exit)) (now (yields .exit)) (now (rates .exit)) (r .tiers) ≡ readContents (now (filing .entry)) ⌝ }
-    ensures { λ r. ⌜ r .sums ≡ columnSums (now (cells .exit)) ⌝ }
+    ensures { λ r. ⌜ contentsWith (now (cells .exit)) (now (yields .exit)) (now (rates .exit)) (r .tiers) ≡ readOver (now (filing .entry)) (lent (now (cells .entry)) (now (yields .entry)) (now (rates .entry))) ⌝ }
+    ensures { λ r. ⌜ r .sums ≡ columnSums (readContents (now (filing .entry)) .cells) ⌝ }
 {
-    let tiers = fill_contents(filing, sheets, counting, cells, yields, rates);
-    let checked = check_cells(cells);
+    let mut said = [0; CELLS];
+    fill_cells(filing, counting, &mut said);
+    let checked = check_cells(&said);
     let answer = checked.answer;
     if number(answer) != 0 {
-        clear(cells, yields, rates);
         return refusal(answer);
     }
     let sums = checked.sums;
+    *cells = said;
+    let tiers = fill_sheets(filing, sheets, yields, rates);
     Reading {
         answer,
         tiers,

@@ -4,9 +4,6 @@ use column_sums::ColumnSums;
 use column_sums::NO_SUMS;
 use contents::FiledTiers;
 use contents::NO_TIERS;
-use schedule::CELLS;
-use schedule::limits::MONTHS;
-use schedule::limits::RATES;
 ghost use mathlib.Core.Path.{_≡_};
 ghost use Rattle.column_sums.specs.Inner.Sums.{columnSums};
 ghost use Rattle.readings.specs.EmptyContents.{emptyContents};
@@ -16,15 +13,6 @@ pub struct Reading {
     pub answer: Answer,
     pub tiers: FiledTiers,
     pub sums: ColumnSums,
-}
-
-// Leaves zeros, as an empty filing has.
-pub fn clear(cells: &mut [u64; CELLS], yields: &mut [u16; MONTHS], rates: &mut [u16; RATES])
-    ensures { λ _. ⌜ (now (cells .exit) ≡ emptyContents .cells) × (now (yields .exit) ≡ emptyContents .yields) × (now (rates .exit) ≡ emptyContents .rates) ⌝ }
-{
-    *cells = [0; CELLS];
-    *yields = [0; MONTHS];
-    *rates = [0; RATES];
 }
 
 // The reading of a refused filing: its tiers and sums are those of an empty one.

@@ -15,7 +15,7 @@ use Rattle.decode.specs.Contents.{sheetOffset, contentsOf}
 use Rattle.contents.specs.Contents.{Contents}
 use Rattle.required_sheets.specs.RequiredSheets.{sheetMissing, sheetVerdict}
 use Rattle.filing.specs.Verdict.{contentsVerdict, filingVerdict, Accepted}
-use Rattle.filing.specs.Readings.{readContents}
+use Rattle.filing.specs.Readings.{readOver, readContents}
 use Rattle.filing.proofs.VerdictLaws.{accepted-passed}
 use Rattle.split_outcomes.specs.Outcomes.{splitVerdict, splitAccepts}
 use Rattle.split_list.specs.Split.{placesAfter}
@@ -70,7 +70,7 @@ module _ (s t : List ℕ) (a : Accepted s) (u : Surviving s t) where
   verdict-same = also-accepted ∙ sym a
 
   opened-same : openedBook t ≡ openedBook s
-  unfolding openedBook readContents
+  unfolding openedBook readContents readOver
   opened-same = rw (verdict-same, says)
 
   tier-same : (x : Incentive) (answer : TierAnswer) → TierAnswered s x answer → TierAnswered t x answer

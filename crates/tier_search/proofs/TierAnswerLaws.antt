@@ -11,9 +11,9 @@ use Rattle.answers.specs.Verdict.{Verdict, accepted}
 use Rattle.answers.proofs.AnswerLaws.{accepted-answer}
 use Rattle.lists.proofs.TestLaws.{neither}
 use Rattle.contents.specs.Contents.{Contents}
-use Rattle.filing.specs.Readings.{readContents}
+use Rattle.filing.specs.Readings.{readOver}
 use Rattle.filing.specs.Verdict.{filingVerdict, Accepted}
-use Rattle.filing.proofs.ReadingLaws.{reading-accepted}
+use Rattle.filing.proofs.ReadingLaws.{reading-says}
 use Rattle.withdrawal.specs.declared.Incentive.{Incentive}
 use Rattle.withdrawal.specs.declared.ReachedTier.{ReachedTier}
 use Rattle.withdrawal.specs.Tiers.{TierTable}
@@ -44,8 +44,8 @@ module _ (s : List ℕ) (x : Incentive) (answer : Answer) (read : verdictOf answ
     unfolding TierAnswered
     large-tier e = (accepted-filing, e)
 
-    pub reached-tier : tooLarge x ≡ false → (k : Contents) → k ≡ readContents s → (table : TierTable) → table ≡ filingTiers k → (r : ReachedTier)
+    pub reached-tier : tooLarge x ≡ false → (k before : Contents) → k ≡ readOver s before → (table : TierTable) → table ≡ filingTiers k → (r : ReachedTier)
         → r ≡ reachedTier table (gainOf x) (x .cost) → TierAnswered s x (Reached r)
     unfolding TierAnswered
-    reached-tier small k said table is r found =
-        (accepted-filing, small, rw (is, reading-accepted s answer k read said zero .0) at found)
+    reached-tier small k before said table is r found =
+        (accepted-filing, small, rw (is, reading-says s answer k before read said zero) at found)

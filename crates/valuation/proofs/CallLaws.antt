@@ -12,9 +12,9 @@ use Rattle.answers.specs.Verdict.{Verdict, accepted, refused}
 use Rattle.answers.proofs.VerdictLaws.{list-short, list-long}
 use Rattle.contents.specs.Contents.{Contents}
 use Rattle.decode.specs.Contents.{contentsOf}
-use Rattle.filing.specs.Readings.{readContents}
+use Rattle.filing.specs.Readings.{readOver}
 use Rattle.filing.specs.Verdict.{filingVerdict}
-use Rattle.filing.proofs.ReadingLaws.{reading-accepted}
+use Rattle.filing.proofs.ReadingLaws.{reading-says, reading-valid}
 use Rattle.filing_numbers.specs.Numbers.{numbers, numberCount}
 use Rattle.valuation.specs.Promise.{verdictOn, listAfter, Valued}
 use Rattle.valuation.proofs.PromiseLaws.{enclosed}
@@ -61,14 +61,14 @@ module _ (s before : List ℕ) (long : 568 ≤ length before) (answer : Answer) 
       }
 
   -- an accepted filing: what was read is what the bytes say, and it is valid
-  pub valued-filing : numberOf answer ≡ 0 → (k : Contents) → k ≡ readContents s → (after : List ℕ)
+  pub valued-filing : numberOf answer ≡ 0 → (k start : Contents) → k ≡ readOver s start → (after : List ℕ)
       → after ≡ numbers k ++ drop numberCount before → Valued s before answer after
   unfolding listAfter
-  valued-filing zero k said after e =
-      let reading = reading-accepted s answer k read said zero in
-      let held : after ≡ numbers (contentsOf s) ++ drop numberCount before = rw (reading .0) at e in
+  valued-filing zero k start said after e =
+      let says = reading-says s answer k start read said zero in
+      let held : after ≡ numbers (contentsOf s) ++ drop numberCount before = rw says at e in
       record {
         answer-is = read ∙ verdict-is;
         list-is = held ∙ rw (eq-eqb (verdictOn s before .number) 0 (sym number-is ∙ zero));
-        enclosed = λ _. rw held (enclosed s (drop numberCount before) (rw (reading .0) at (reading .1)));
+        enclosed = λ _. rw held (enclosed s (drop numberCount before) (rw says at (reading-valid s answer k start read said zero)));
       }

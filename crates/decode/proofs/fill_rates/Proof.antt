@@ -14,9 +14,9 @@ fill-flat-requires c κs = search needs
 
 returns : tie.Need-returns
 returns c =
-    let tested = c .before .before in
+    let tested = c .before .before .before in
     let pre = tested .before .before .pre in
-    c .fill-numbers .ensures ∙ rw (pre .2) (rates-by-month _ (pre .1) (tested .if1 .taken))
+    c .fill-numbers .ensures ∙ rates-by-month _ (pre .1) (tested .if1 .taken)
 
 returns-2 : tie.Need-returns-2
 returns-2 c =

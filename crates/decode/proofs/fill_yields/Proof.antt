@@ -11,8 +11,8 @@ fill-numbers-requires c κs = search needs
 returns : tie.Need-returns
 unfolding contentsOf
 returns c =
-    let start = c .before .before .before in
-    c .fill-numbers .ensures ∙ rw (start .pre .0, start .pre .1)
+    let start = c .before .before .before .before in
+    c .fill-numbers .ensures ∙ rw (start .pre)
 
 pub fill-yields-spec : {M : Type 1} → statement M
 fill-yields-spec = tie.close (tie.spec fill-numbers-requires returns)

@@ -12,25 +12,19 @@ use Rattle.record_verdicts.specs.RecordVerdicts.{recordsVerdict}
 use Rattle.amendments.proofs.VerdictLaws.{plain-passed}
 use Rattle.record_verdicts.specs.Inner.PlainVerdicts.{firstPlain}
 use Rattle.required_sheets.specs.RequiredSheets.{sheetVerdict}
-use Rattle.filing.proofs.ReadLaws.{records-refuse, sheets-refuse, refused-reading, empty-lengths}
+use Rattle.filing.proofs.ReadLaws.{records-refuse, sheets-refuse, refused-reading}
 use Rattle.filing.proofs.read.Statement.{statement}
 use Rattle.filing.proofs.read.Tie as tie
 
--- the cleared arrays, the filing's bytes where the records and where the sheets are tested, and the state between
-abbrev cleared : tie.After-number → tie.After-clear
-cleared c = c .before .before .before .before .before .before
-
+-- the filing's bytes where the records and where the sheets are tested, and the state between
 abbrev bytes : tie.After-number → List ℕ
-bytes c = cleared c .before .before .before .before .before .args .filing .now
+bytes c = c .before .before .before .before .before .before .before .args .filing .now
 
 abbrev passed : tie.After-number2 → tie.Else1
 passed c = c .before .before .before
 
 abbrev sheet-bytes : tie.After-number2 → List ℕ
 sheet-bytes c = bytes (passed c .before)
-
-clear-requires : tie.Need-clear-requires
-clear-requires c κs = search needs
 
 check-records-requires : tie.Need-check-records-requires
 check-records-requires c κs = search needs
@@ -49,7 +43,7 @@ records-number c = c .number .ensures ∙ ap (λ (v : Verdict). v .number) (c .b
 returns : tie.Need-returns
 returns c =
     let tested = c .before .before in
-    refused-reading (bytes tested) _ _ _ (c .refusal .result) _ (cleared tested .clear .ensures) (c .refusal .ensures)
+    refused-reading (bytes tested) _ _ _ (c .refusal .result) _ (c .refusal .ensures)
     (tested .before .check-records .ensures .0 ∙ records-refuse _ (λ e. c .before .if1 .taken (records-number tested ∙ e)))
     (λ e. c .before .if1 .taken (tested .number .ensures ∙ e))
 
@@ -79,7 +73,7 @@ sheets-number c = c .number2 .ensures ∙ ap (λ (v : Verdict). v .number) (c .b
 returns-2 : tie.Need-returns-2
 returns-2 c =
     let tested = c .before .before in
-    refused-reading (sheet-bytes tested) _ _ _ (c .refusal2 .result) _ (cleared (passed tested .before) .clear .ensures) (c .refusal2 .ensures)
+    refused-reading (sheet-bytes tested) _ _ _ (c .refusal2 .result) _ (c .refusal2 .ensures)
     (tested .before .check-sheets .ensures ∙ sheets-refuse _ (none (passed tested)) (λ e. c .before .if2 .taken (sheets-number tested ∙ e)))
     (λ e. c .before .if2 .taken (tested .number2 .ensures ∙ e))
 
@@ -89,7 +83,7 @@ read-contents-requires c κs =
     let before = passed (tested .before) in
     let noted = before .before .before .check-records .ensures .1 ∙ all-noted before in (
       (none before, sym (sheets-number (tested .before)) ∙ tested .if2 .left),
-      ((ap (λ (n : Noted). n .sheets) noted, ap (λ (n : Noted). n .counting) noted), empty-lengths _ _ _ (cleared (before .before) .clear .ensures)),
+      (ap (λ (n : Noted). n .sheets) noted, ap (λ (n : Noted). n .counting) noted),
     )
 
 returns-3 : tie.Need-returns-3
@@ -99,7 +93,6 @@ pub read-spec : {M : Type 1} → statement M
 read-spec =
     tie.close
     (tie.spec
-    clear-requires
     check-records-requires
     number-requires
     refusal-requires

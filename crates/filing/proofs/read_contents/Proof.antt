@@ -1,38 +1,35 @@
 -- `read_contents` meets its contract: the verdict on the contents is the filing's.
 -- Assumes nothing.
-use mathlib.Core.Path.{_≡_, sym, ap, subst, _∙_}
+use mathlib.Core.Path.{_≡_, refl, sym, ap, subst, _∙_}
 use borrow.Author.Needs.{needs}
 use Rattle.answers.specs.Verdict.{Verdict}
 use Rattle.answers.specs.Answers.{verdictOf}
 use Rattle.scan.proofs.ProgressLaws.{records-passed}
+use Rattle.conditions.specs.CellVerdicts.{cellsVerdict}
+use Rattle.column_sums.specs.Inner.Sums.{BalancesWithin, columnSums}
 use Rattle.contents.specs.Contents.{Contents}
-use Rattle.filing.specs.Verdict.{contentsVerdict, filingVerdict}
-use Rattle.column_sums.specs.Inner.Sums.{BalancesWithin}
-use Rattle.filing.proofs.ReadLaws.{contents-decide, contents-accepted, refused-reading}
 use Rattle.decode.proofs.SoundLaws.{balances-within}
+use Rattle.filing.specs.Verdict.{filingVerdict}
+use Rattle.filing.proofs.ReadLaws.{contents-decide, accepted-over, accepted-contents, refused-reading}
 use Rattle.filing.proofs.read_contents.Statement.{statement}
 use Rattle.filing.proofs.read_contents.Tie as tie
 
-fill-contents-requires : tie.Need-fill-contents-requires
-fill-contents-requires c κs =
-    let start = c .before .before .before .before in
-    (records-passed _ (start .pre .0 .0), start .pre .1)
+-- where the cells are read began
+abbrev start-of : tie.After-fill-cells → tie.Start
+start-of c = c .before .before .before
 
--- where the arrays were filled in began
-abbrev start-of : tie.After-fill-contents → tie.Start
-start-of c = c .before .before .before .before .before
+fill-cells-requires : tie.Need-fill-cells-requires
+fill-cells-requires c κs =
+    let start = c .before .before in
+    ((records-passed _ (start .pre .0 .0), start .pre .1 .1), refl)
 
 check-cells-requires : tie.Need-check-cells-requires
 check-cells-requires c κs =
     let filled = c .before in
-    subst (λ (k : Contents). BalancesWithin (k .cells)) (sym (filled .fill-contents .ensures))
-    (balances-within _ (records-passed _ (start-of filled .pre .0 .0)))
+    subst BalancesWithin (sym (filled .fill-cells .ensures)) (balances-within _ (records-passed _ (start-of filled .pre .0 .0)))
 
 number-requires : tie.Need-number-requires
 number-requires c κs = search needs
-
-clear-requires : tie.Need-clear-requires
-clear-requires c κs = search needs
 
 refusal-requires : tie.Need-refusal-requires
 refusal-requires c κs = search needs
@@ -41,26 +38,28 @@ decided : (c : tie.After-check-cells) → verdictOf (c .check-cells .result .ans
 decided c =
     let filled = c .before .before in
     let start = start-of filled in
-    c .check-cells .ensures .0 ∙ ap contentsVerdict (filled .fill-contents .ensures) ∙ contents-decide _ (start .pre .0 .0) (start .pre .0 .1)
+    c .check-cells .ensures .0 ∙ ap cellsVerdict (filled .fill-cells .ensures) ∙ contents-decide _ (start .pre .0 .0) (start .pre .0 .1)
 
 returns : tie.Need-returns
 returns c =
-    let refused = c .before .before .before .before .before in
-    let tested = refused .before in
-    refused-reading _ _ _ _ (c .refusal .result) _ (c .before .clear .ensures) (c .refusal .ensures) (decided (tested .before))
-    (λ e. refused .if1 .taken (tested .number .ensures ∙ e))
+    let tested = c .before .before in
+    refused-reading _ _ _ _ (c .refusal .result) _ (c .refusal .ensures) (decided (tested .before)) (λ e. c .before .if1 .taken (tested .number .ensures ∙ e))
+
+fill-sheets-requires : tie.Need-fill-sheets-requires
+fill-sheets-requires c κs = search needs
 
 returns-2 : tie.Need-returns-2
 unfolding verdictOf
 returns-2 c =
-    let tested = c .before .before in
-    let checked = tested .before in
+    let passed = c .before .before .before .before in
+    let checked = passed .before .before in
+    let cells = checked .before .before .fill-cells .ensures in
     let v = decided checked in
-    let zero = sym (tested .number .ensures) ∙ c .before .if1 .left in (
+    let zero = sym (ap (λ (u : Verdict). u .number) v) ∙ sym (passed .before .number .ensures) ∙ passed .if1 .left in (
       v,
       (
-        checked .before .before .fill-contents .ensures ∙ contents-accepted _ (sym (ap (λ (u : Verdict). u .number) v) ∙ zero),
-        checked .check-cells .ensures .1,
+        rw cells (c .fill-sheets .ensures) ∙ accepted-over _ _ zero,
+        checked .check-cells .ensures .1 ∙ ap columnSums (cells ∙ ap (λ (k : Contents). k .cells) (accepted-contents _ zero)),
       ),
     )
 
@@ -68,10 +67,10 @@ pub read-contents-spec : {M : Type 1} → statement M
 read-contents-spec =
     tie.close
     (tie.spec
-    fill-contents-requires
+    fill-cells-requires
     check-cells-requires
     number-requires
-    clear-requires
     refusal-requires
     returns
+    fill-sheets-requires
     returns-2)

@@ -5,8 +5,9 @@ use mathlib.Core.Path.{_≡_, refl, sym, ap, _∙_}
 use mathlib.Core.List.{List}
 use native.Mathlib.Omega.{arith}
 use Rattle.answers.specs.Answers.{numberOf, verdictOf}
+use Rattle.column_sums.specs.Inner.Sums.{columnSums}
 use Rattle.contents.specs.Contents.{Contents}
-use Rattle.filing.proofs.ReadingLaws.{reading-accepted}
+use Rattle.filing.proofs.ReadingLaws.{reading-says, reading-valid, reading-cells}
 use Rattle.shares.specs.Places.{placesOf}
 use Rattle.split_outcomes.specs.Outcomes.{splitVerdict}
 use Rattle.split_outcomes.proofs.OutcomeLaws.{split-short, split-filing, outcome-refused, outcome-accepted}
@@ -59,14 +60,16 @@ accepted c = sym (c .before .number .ensures) ∙ c .if2 .left
 places-of-requires : tie.Need-places-of-requires
 places-of-requires c κs =
     let passed = c .before .before in
-    let read = passed .before .before .read in
-    (reading-accepted _ (read .result .answer) _ (read .ensures .0) (read .ensures .1 .0) (accepted passed) .1 .of-cells, read .ensures .1 .1)
+    let read = passed .before .before .read in (
+      reading-valid _ (read .result .answer) _ _ (read .ensures .0) (read .ensures .1 .0) (accepted passed) .of-cells,
+      read .ensures .1 .1 ∙ ap columnSums (reading-cells _ (read .result .answer) _ _ (read .ensures .0) (read .ensures .1 .0) (accepted passed)),
+    )
 
 returns-3 : tie.Need-returns-3
 returns-3 c =
     let passed = c .before .before .before in
     let read = passed .before .before in
-    let is = reading-accepted (bytes read) (read .read .result .answer) _ (read .read .ensures .0) (read .read .ensures .1 .0) (accepted passed) .0 in
+    let is = reading-says (bytes read) (read .read .result .answer) _ _ (read .read .ensures .0) (read .read .ensures .1 .0) (accepted passed) in
     outcome-accepted _ _ _ (read-is read) (accepted passed) (c .places-of .ensures ∙ ap (λ (k : Contents). placesOf (k .cells)) is) refl
 
 pub outcome-of-spec : {M : Type 1} → statement M

@@ -1,6 +1,6 @@
 -- `tier_search::tier_for` meets its contract. Assumes nothing.
 use mathlib.Core.Path.{sym, _∙_}
-use Rattle.filing.proofs.ReadingLaws.{reading-accepted}
+use Rattle.filing.proofs.ReadingLaws.{reading-valid}
 use Rattle.filing_tiers.proofs.FilingTierLaws.{filed-limits}
 use Rattle.tier_search.proofs.TierAnswerLaws.{small-of-test, refused-tier, large-tier, reached-tier}
 use borrow.Author.Needs.{needs}
@@ -33,7 +33,7 @@ tiers-of-requires c κs =
     let tested = c .before .before .before in
     let reading = tested .before .before in
     filed-limits _
-    (reading-accepted _ _ _ (reading .read .ensures .0) (reading .read .ensures .1 .0) (sym (tested .before .number .ensures) ∙ tested .if1 .left) .1)
+    (reading-valid _ _ _ _ (reading .read .ensures .0) (reading .read .ensures .1 .0) (sym (tested .before .number .ensures) ∙ tested .if1 .left))
 
 reached-tier-requires : tie.Need-reached-tier-requires
 reached-tier-requires c κs =
@@ -47,7 +47,7 @@ returns-3 c =
     let tested = large .before .before in
     let reading = tested .before .before in
     reached-tier _ _ _ (reading .read .ensures .0) (sym (tested .before .number .ensures) ∙ tested .if1 .left)
-    (sym (large .before .too-large .ensures) ∙ large .if2 .left) _ (reading .read .ensures .1 .0) _ (tiers .tiers-of .ensures .0) _ (c .reached-tier .ensures)
+    (sym (large .before .too-large .ensures) ∙ large .if2 .left) _ _ (reading .read .ensures .1 .0) _ (tiers .tiers-of .ensures .0) _ (c .reached-tier .ensures)
 
 pub tier-for-spec : {M : Type 1} → statement M
 tier-for-spec =

@@ -1,9 +1,10 @@
 -- `valuation::value` keeps its promise: each way out is one of the call's laws. Assumes nothing.
 use Prim.Native.Nat.{_≤_}
-use mathlib.Core.Path.{sym, _∙_}
+use mathlib.Core.Path.{sym, ap, _∙_}
 use lib.ListN.{length}
 use borrow.Author.Needs.{needs}
-use Rattle.filing.proofs.ReadingLaws.{reading-accepted}
+use Rattle.column_sums.specs.Inner.Sums.{columnSums}
+use Rattle.filing.proofs.ReadingLaws.{reading-valid, reading-cells}
 use Rattle.valuation.proofs.CallLaws.{short-list, refused-filing, valued-filing}
 use Rattle.valuation.proofs.value.Statement.{statement}
 use Rattle.valuation.proofs.value.Tie as tie
@@ -31,7 +32,11 @@ write-numbers-requires c κs =
     let accepted = c .before .before .before .before .before .before in
     let reading = accepted .before .before in
     let zero = sym (accepted .before .number .ensures) ∙ accepted .if2 .left in
-    (reading-accepted _ _ _ (reading .read .ensures .0) (reading .read .ensures .1 .0) zero .1, reading .read .ensures .1 .1, long reading)
+    let read = reading .read .ensures in (
+      reading-valid _ _ _ _ (read .0) (read .1 .0) zero,
+      read .1 .1 ∙ ap columnSums (reading-cells _ _ _ _ (read .0) (read .1 .0) zero),
+      long reading,
+    )
 
 same-length : tie.Need-same-length
 same-length c = search needs
@@ -42,7 +47,7 @@ returns-3 c =
     let accepted = written .before .before .before .before .before .before .before in
     let reading = accepted .before .before in
     valued-filing _ _ (long reading) _ (reading .read .ensures .0) (sym (accepted .before .number .ensures) ∙ accepted .if2 .left)
-    _ (reading .read .ensures .1 .0) _ (written .write-numbers .ensures)
+    _ _ (reading .read .ensures .1 .0) _ (written .write-numbers .ensures)
 
 pub value-spec : {M : Type 1} → statement M
 value-spec =

@@ -1,4 +1,4 @@
--- `fill_contents` meets its contract: each part is what its callee fills in or answers.
+-- `fill_sheets` meets its contract: each part is what its callee fills in or answers.
 -- Assumes nothing.
 use Prim.Native.Nat.{ℕ, _<_}
 use mathlib.Core.List.{List}
@@ -9,23 +9,19 @@ use borrow.Author.Needs.{needs}
 use Rattle.record_kinds.specs.Kinds.{kindCount, yieldsKind, flatRatesKind, tiersKind, ratePathKind}
 use Rattle.decode.specs.Contents.{sheetOffset, contentsOf}
 use Rattle.decode.proofs.ContentsLaws.{sheet-noted}
-use Rattle.decode.proofs.fill_contents.Statement.{statement}
-use Rattle.decode.proofs.fill_contents.Tie as tie
+use Rattle.decode.proofs.fill_sheets.Statement.{statement}
+use Rattle.decode.proofs.fill_sheets.Tie as tie
 
 -- where a sheet stands
 sheet-is : (c : tie.Start) (kind : ℕ) → kind < kindCount → getD (c .args .sheets .now) kind 0 ≡ sheetOffset (c .args .s .now) kind
-sheet-is c kind h = ap (λ (l : List ℕ). getD l kind 0) (c .pre .1 .0 .0) ∙ sheet-noted _ kind h
-
-fill-cells-requires : tie.Need-fill-cells-requires
-fill-cells-requires c κs = search needs
+sheet-is c kind h = ap (λ (l : List ℕ). getD l kind 0) (c .pre) ∙ sheet-noted _ kind h
 
 element-copy-out-fill-yields : tie.Need-element-copy-out-fill-yields
 element-copy-out-fill-yields c = search needs
 
 fill-yields-requires : tie.Need-fill-yields-requires
 fill-yields-requires c κs =
-    let start = c .before .before .before .before .before in
-    (sheet-is start yieldsKind (lit< tt), start .pre .1 .1 .1)
+    sheet-is (c .before .before .before) yieldsKind (lit< tt)
 
 element-copy-out-fill-rates : tie.Need-element-copy-out-fill-rates
 element-copy-out-fill-rates c = search needs
@@ -35,8 +31,8 @@ element-copy-out-fill-rates-2 c = search needs
 
 fill-rates-requires : tie.Need-fill-rates-requires
 fill-rates-requires c κs =
-    let start = c .before .before .before .before .before .before .before .before .before in
-    (sheet-is start flatRatesKind (lit< tt), sheet-is start ratePathKind (lit< tt), start .pre .1 .1 .2)
+    let start = c .before .before .before .before .before .before .before in
+    (sheet-is start flatRatesKind (lit< tt), sheet-is start ratePathKind (lit< tt))
 
 element-copy-out-tiers-at : tie.Need-element-copy-out-tiers-at
 element-copy-out-tiers-at c = search needs
@@ -49,21 +45,18 @@ unfolding contentsOf
 returns c =
     let rates = c .before .before in
     let yields = rates .before .before .before .before in
-    let cells = yields .before .before .before in
-    let start = cells .before .before .before in
+    let start = yields .before .before .before .before in
     rw (
-      cells .fill-cells .ensures,
       yields .fill-yields .ensures,
       rates .fill-rates .ensures,
       c .tiers-at .ensures,
       sheet-is start tiersKind (lit< tt),
     )
 
-pub fill-contents-spec : {M : Type 1} → statement M
-fill-contents-spec =
+pub fill-sheets-spec : {M : Type 1} → statement M
+fill-sheets-spec =
     tie.close
     (tie.spec
-    fill-cells-requires
     element-copy-out-fill-yields
     fill-yields-requires
     element-copy-out-fill-rates
