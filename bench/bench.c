@@ -145,9 +145,10 @@ static void take_apart(double least[FILINGS][VERSIONS])
 /* A book with one change, called as a valuation is. */
 static uint64_t book_of_one(const uint8_t *filing, size_t size, uint64_t *numbers, size_t length, uint64_t *place)
 {
-    static const uint64_t change[5] = {32, 1000, 5000, 120, 300};
+    static const uint64_t change[6] = {0, 32, 1000, 5000, 120, 300};
+    uint64_t changed;
     (void)length;
-    return spritapricot_book(filing, size, change, 5, numbers, place);
+    return spritapricot_book(filing, size, change, 6, numbers, place, &changed);
 }
 
 static void stacks(void)

@@ -285,13 +285,14 @@ struct book {
     uint64_t balance[36], value[36][14], shown[29];
 };
 
-/* Whether place i takes what a change sets it to; all 0 clears it. */
-static int fits(const uint64_t c[5])
+/* Whether a change can be made: 0 sets the place to what it takes, 1 clears it, with the last four 0. */
+static int fits(const uint64_t c[6])
 {
     static const uint64_t first[9] = {1, 1, 1, 4, 4, 4, 13, 13, 37}, last[9] = {3, 3, 3, 12, 12, 12, 36, 36, 120};
-    if (35 < c[0]) return 0;
-    if ((c[1] | c[2] | c[3] | c[4]) == 0) return 1;
-    return 1 <= c[1] && c[1] <= 999999999 && c[2] <= 15000 && first[c[0] / 4] <= c[3] && c[3] <= last[c[0] / 4] && c[4] <= (c[0] % 2 == 0 ? 3600u : 0u);
+    if (35 < c[1]) return 0;
+    if (c[0] == 1) return (c[2] | c[3] | c[4] | c[5]) == 0;
+    if (c[0] != 0) return 0;
+    return 1 <= c[2] && c[2] <= 999999999 && c[3] <= 15000 && first[c[1] / 4] <= c[4] && c[4] <= last[c[1] / 4] && c[5] <= (c[1] % 2 == 0 ? 3600u : 0u);
 }
 
 /* Place i holds another balance with its values; the totals move by the difference. */
@@ -304,24 +305,28 @@ static void hold(struct book *b, uint64_t i, uint64_t balance, const uint64_t va
     memcpy(b->value[i], value, sizeof b->value[i]);
 }
 
-uint64_t BOOK(const uint8_t *filing, size_t filing_length, const uint64_t *changes, size_t changes_length, uint64_t shown[29], uint64_t *place)
+uint64_t BOOK(const uint8_t *filing, size_t filing_length, const uint64_t *changes, size_t changes_length, uint64_t shown[29], uint64_t *place,
+    uint64_t *changed)
 {
     static const int column[9] = {0, 1, 2, 0, 1, 2, 1, 2, 2};
     struct contents k;
     struct pair factor[7][120];
     struct book book = {{0}, {{0}}, {0}};
     int refusal = read_filing(filing, filing_length, &k, place);
+    *changed = 0;
     if (refusal != 0) return (uint64_t)refusal;
     for (int t = 1; t <= 120; t++) discount(k.yield[t - 1], t, factor);
-    for (size_t n = 0; n < changes_length / 5; n++) {
-        const uint64_t *c = changes + 5 * n;
+    for (size_t n = 0; n < changes_length / 6; n++) {
+        const uint64_t *c = changes + 6 * n;
         uint64_t value[14] = {0};
-        *place = c[0];
+        *place = c[1];
+        *changed = n;
         if (!fits(c)) return 17;
-        struct place p = {c[1], c[2], c[4], (int)c[3], column[c[0] / 4]};
-        if (c[1] != 0) value_place(&k, &p, (int)c[0], factor, value);
-        hold(&book, c[0], c[1], value);
+        struct place p = {c[2], c[3], c[5], (int)c[4], column[c[1] / 4]};
+        if (c[0] == 0) value_place(&k, &p, (int)c[1], factor, value);
+        hold(&book, c[1], c[2], value);
     }
+    *changed = changes_length / 6;
     *place = 0;
     memcpy(shown, book.shown, sizeof book.shown);
     return 0;

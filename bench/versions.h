@@ -16,7 +16,7 @@ enum { PLAIN = 5 };
 static value_function *const plain_version[PLAIN] = {value_recomputed, value_tabled, value_multiplied, value_in_runs, value_in_step};
 
 /* A book after a list of changes, of versions c and d. */
-typedef uint64_t book_function(const uint8_t *, size_t, const uint64_t *, size_t, uint64_t *, uint64_t *);
+typedef uint64_t book_function(const uint8_t *, size_t, const uint64_t *, size_t, uint64_t *, uint64_t *, uint64_t *);
 
 book_function book_multiplied, book_in_runs;
 

@@ -33,14 +33,16 @@ uint64_t spritapricot_cells(uint64_t year, uint64_t month, uint64_t day, const u
 
 /*
  * Opens a book from the filing of `filing_length` bytes at `filing` and makes the changes of a list in turn. The `changes_length` numbers at `changes`
- * are five for each change: the place, 0 to 35; balance in thousands of dollars, coupon in thousandths of a percent a year, months, penalty in
- * hundredths of a month; with the last four 0 the place is cleared. A last part of fewer than five does not count. Answers 0 for acceptance: `totals`
- * then holds the sum of the balances, and for each scenario the short lower, short upper, long lower and long upper total; *place is 0. Otherwise
- * answers the number of the first refusal, the filing's own or 17, with its place in *place, and leaves `totals` as it was. Memory as above, but about
- * 111 KiB of stack.
+ * are six for each change: 0 to set the place or 1 to clear it; the place, 0 to 35; balance in thousands of dollars, coupon in thousandths of a percent a
+ * year, months, penalty in hundredths of a month. A clear has 0 for the last four. A last part of fewer than six does not count. Answers 0 for acceptance:
+ * `totals` then holds the sum of the balances, and for each scenario the short lower, short upper, long lower and long upper total; *place is 0, and
+ * *changed the number of changes. Otherwise answers the number of the first refusal with its place in *place, and leaves `totals` as it was: the filing's
+ * own, with 0 in *changed, or 17 at the place that the change gives, with the number of changes made before it in *changed. 17 refuses a first number
+ * above 1, a place above 35, a set balance of 0 or over 999,999,999, a coupon, months or a penalty outside the place's limits, and a clear whose last four
+ * numbers are not all 0. Memory as above, but about 111 KiB of stack.
  */
 uint64_t spritapricot_book(const uint8_t *filing, size_t filing_length, const uint64_t *changes, size_t changes_length, uint64_t totals[29],
-    uint64_t *place);
+    uint64_t *place, uint64_t *changed);
 
 #ifdef __cplusplus
 }

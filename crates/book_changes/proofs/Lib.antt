@@ -1,1 +1,2 @@
 pub mod ChangingLaws
+pub mod ChangeCases

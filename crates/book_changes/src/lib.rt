@@ -3,49 +3,63 @@ use answers::Answer;
 use answers::number;
 use book_places::Answered;
 use book_places::Book;
+use book_places::refusal;
 use standing_book::clear;
 use standing_book::open;
 use standing_book::set;
 ghost use mathlib.Core.Path.{_≡_};
 ghost use Prim.Native.Nat.{_<_};
 ghost use Rattle.books.specs.Promise.{ChangedOf};
-ghost use Rattle.book_changes.specs.Changing.{leavesNothing, changeOf, changeCount, changeAt, ChangedAll, BookOf};
+ghost use Rattle.book_changes.specs.Changing.{leavesNothing, clears, changeOf, changeCount, changeAt, ChangedAll, BookOf};
 
-// Opens a book from a filing and makes the changes of a list in turn. A change is five numbers: the place, then balance, coupon, months and penalty as
-// `set` takes them; with these four 0 the place is cleared. Only whole changes count. The first refusal answers, and leaves the book as it was opened.
-pub fn book_of(filing: &[u8], changes: &[u64]) -> Answered
+// The answer on a list of changes, the book after it, and how many changes were made before the answer.
+pub struct Changed {
+    pub answer: Answer,
+    pub book: Book,
+    pub made: usize,
+}
+
+// Opens a book from a filing and makes the changes of a list in turn. A change is six numbers: 0 to set a place or 1 to clear it, the place, then balance,
+// coupon, months and penalty as `set` takes them, or 0 each. Only whole changes count. The first refusal answers, and leaves the book as it was opened.
+pub fn book_of(filing: &[u8], changes: &[u64]) -> Changed
     ensures { λ r. ⌜ BookOf (now (filing .entry)) (now (changes .entry)) r ⌝ }
 {
     let opened = open(filing);
     let answer = opened.answer;
-    if number(answer) != 0 {
-        return opened;
-    }
     let book = opened.book;
+    if number(answer) != 0 {
+        return Changed {
+            answer,
+            book,
+            made: 0,
+        };
+    }
     change_all(book, changes)
 }
 
 // The changes in turn.
-fn change_all(opened: Book, changes: &[u64]) -> Answered
+fn change_all(opened: Book, changes: &[u64]) -> Changed
     ensures { λ r. ⌜ ChangedAll opened (now (changes .entry)) r ⌝ }
 {
     let mut book = opened;
     let mut k: usize = 0;
-    while k < changes.len() / 5 {
+    while k < changes.len() / 6 {
         let done = change_at(book, changes, k);
         let answer = done.answer;
         if number(answer) != 0 {
-            return Answered {
+            return Changed {
                 answer,
                 book: opened,
+                made: k,
             };
         }
         book = done.book;
         k += 1;
     }
-    Answered {
+    Changed {
         answer: Answer::Accepted,
         book,
+        made: k,
     }
 }
 
@@ -54,7 +68,7 @@ fn change_at(book: Book, changes: &[u64], k: usize) -> Answered
     requires { ⌜ k < changeCount (now changes) ⌝ }
     ensures { λ r. ⌜ ChangedOf book (changeAt (now (changes .entry)) k) r ⌝ }
 {
-    let at = 5 * k;
+    let at = 6 * k;
     change(
         book,
         changes[at],
@@ -62,17 +76,39 @@ fn change_at(book: Book, changes: &[u64], k: usize) -> Answered
         changes[at + 2],
         changes[at + 3],
         changes[at + 4],
+        changes[at + 5],
     )
 }
 
-// The change that five numbers mean.
-fn change(book: Book, place: u64, balance: u64, coupon: u64, months: u64, penalty: u64) -> Answered
-    ensures { λ r. ⌜ ChangedOf book (changeOf place balance coupon months penalty) r ⌝ }
+// The change that six numbers mean.
+fn change(
+    book: Book,
+    action: u64,
+    place: u64,
+    balance: u64,
+    coupon: u64,
+    months: u64,
+    penalty: u64,
+) -> Answered
+    ensures { λ r. ⌜ ChangedOf book (changeOf action place balance coupon months penalty) r ⌝ }
 {
-    if leaves_nothing(balance, coupon, months, penalty) {
+    if clears(action, balance, coupon, months, penalty) {
         return clear(book, place as usize);
     }
-    set(book, place as usize, balance, coupon, months, penalty)
+    if action == 0 {
+        return set(book, place as usize, balance, coupon, months, penalty);
+    }
+    refusal(book, place as usize)
+}
+
+// A place is to be cleared, with nothing besides.
+fn clears(action: u64, balance: u64, coupon: u64, months: u64, penalty: u64) -> bool
+    ensures { λ r. ⌜ r ≡ clears action balance coupon months penalty ⌝ }
+{
+    if action != 1 {
+        return false;
+    }
+    leaves_nothing(balance, coupon, months, penalty)
 }
 
 // Balance, coupon, months and penalty are all 0.

@@ -3,6 +3,7 @@ use Prim.Native.Nat.{ℕ, _<_}
 use mathlib.Core.Path.{_≡_, refl, ap, subst}
 use mathlib.Core.Bool.{Bool, true, false, cond}
 use mathlib.Core.List.{List, [], _∷_}
+use native.Mathlib.Omega.{arith}
 use borrow.Author.Tests.{ltb-true}
 use Rattle.answers.specs.declared.Answer.the-variants.{Accepted, OutsidePlaceLimits}
 use Rattle.answers.specs.Answers.{verdictOf}
@@ -16,7 +17,7 @@ use Rattle.book_places.specs.declared.Book.{Book}
 use Rattle.book_places.specs.declared.Answered.{Answered}
 use Rattle.book_places.specs.BookPlaces.{withPlace}
 use Rattle.books.specs.Books.{emptyBook, openedBook}
-use Rattle.books.specs.Changes.{Change, setPlace, clearPlace, changedPlace, fitsChange, heldAfter, changeVerdict, bookAfter, bookAfterAll}
+use Rattle.books.specs.Changes.{Change, setPlace, clearPlace, neitherAt, changedPlace, fitsChange, heldAfter, changeVerdict, bookAfter, bookAfterAll}
 use Rattle.books.specs.Inner.Standing.{Standing, Within}
 use Rattle.books.specs.Promise.{Kept, ChangedOf, BookPromise}
 use Rattle.books.proofs.PlaceLaws.{none-within, fits-place, fits-within}
@@ -28,11 +29,13 @@ fits-at : (c : Change) → fitsChange c ≡ true → changedPlace c < 36
 unfolding fitsChange changedPlace
 fits-at (setPlace place balance coupon months penalty) h = fits-place place balance coupon months penalty h
 fits-at (clearPlace place) h = ltb-true place 36 h
+fits-at (neitherAt place) h = let never : _≡_ {A = ℕ} 0 1 = cc in omega arith
 
 fits-held : (k : Contents) (b : Book) → Standing k b → (c : Change) → fitsChange c ≡ true → Within k (changedPlace c) (heldAfter b c)
 unfolding fitsChange changedPlace heldAfter
 fits-held k b stands (setPlace place balance coupon months penalty) h = fits-within place balance coupon months penalty h k b (stands .under)
 fits-held k b stands (clearPlace place) h = none-within k place
+fits-held k b stands (neitherAt place) h = none-within k place
 
 -- the book after a change stands
 after-stands : (k : Contents) (b : Book) → Standing k b → (c : Change) → Standing k (bookAfter b c)

@@ -1,6 +1,6 @@
 -- The changes of a book (02:CR 7): the verdict on each and the book after it, and after any sequence of them. Definitions only.
 use Prim.Native.Nat.{ℕ}
-use mathlib.Core.Bool.{Bool, cond, not}
+use mathlib.Core.Bool.{Bool, false, cond, not}
 use mathlib.Core.List.{List, [], _∷_}
 use lib.Dec.{ltb}
 use Rattle.answers.specs.Verdict.{Verdict, refusedIf}
@@ -13,20 +13,23 @@ use Rattle.book_places.specs.BookPlaces.{withPlace}
 use Rattle.books.specs.Books.{valuedIn}
 
 -- a place is set to a balance (thousands of dollars), a coupon (thousandths of a percent a year), months and a penalty (hundredths of a month), in this
--- order, or it is cleared
+-- order, or it is cleared; or what is asked of it is neither
 pub data Change : Type 0 where
   setPlace : ℕ → ℕ → ℕ → ℕ → ℕ → Change
   clearPlace : ℕ → Change
+  neitherAt : ℕ → Change
 
 -- the place that is changed
 unfoldable pub changedPlace : Change → ℕ
 changedPlace (setPlace place balance coupon months penalty) = place
 changedPlace (clearPlace place) = place
+changedPlace (neitherAt place) = place
 
--- the place takes the change
+-- the place takes the change; none takes what is neither
 unfoldable pub fitsChange : Change → Bool
 fitsChange (setPlace place balance coupon months penalty) = fitsPlace place balance coupon months penalty
 fitsChange (clearPlace place) = ltb place subBalanceCount
+fitsChange (neitherAt place) = false
 
 -- a deposit that is not valued
 abbrev pub unvalued : ℕ → ℕ → ℕ → ℕ → SubBalance
@@ -37,6 +40,7 @@ unvalued balance coupon months penalty =
 unfoldable pub heldAfter : Book → Change → SubBalance
 heldAfter b (setPlace place balance coupon months penalty) = valuedIn b place (unvalued balance coupon months penalty)
 heldAfter b (clearPlace place) = noPlace
+heldAfter b (neitherAt place) = noPlace
 
 -- 17, at the place given
 unfoldable pub changeVerdict : Change → Verdict

@@ -9,9 +9,9 @@ use Rattle.answers.specs.Answers.{numberOf, locationOf, verdictOf}
 use Rattle.answers.specs.Verdict.{Verdict}
 use Rattle.answers.proofs.AnswerLaws.{accepted-answer}
 use Rattle.book_places.specs.declared.Book.{Book}
-use Rattle.book_places.specs.declared.Answered.{Answered}
 use Rattle.books.specs.Books.{openedBook}
 use Rattle.books.specs.Promise.{Kept}
+use Rattle.book_changes.specs.declared.Changed.{Changed}
 use Rattle.book_changes.specs.Changing.{bookVerdict, BookOf}
 use Rattle.exports.specs.Changed.{shownOf, bookOf, BookForC}
 
@@ -20,7 +20,7 @@ shown-where : (b : Bool) (book other : Book) (before : List ℕ) → cond b (sho
 shown-where true book other before = refl
 shown-where false book other before = refl
 
-module _ (s l before after : List ℕ) (r : Answered) (number location : ℕ) (done : BookOf s l r) (n : number ≡ numberOf (r .answer)) (p : location ≡ locationOf (r .answer)) where
+module _ (s l before after : List ℕ) (r : Changed) (number location : ℕ) (done : BookOf s l r) (n : number ≡ numberOf (r .answer)) (p : location ≡ locationOf (r .answer)) where
   number-of : number ≡ bookVerdict s l .number
   unfolding verdictOf
   number-of = n ∙ ap (λ (v : Verdict). v .number) (done .answer-is)
@@ -31,12 +31,13 @@ module _ (s l before after : List ℕ) (r : Answered) (number location : ℕ) (d
       let q : eqb (bookVerdict s l .number) 0 ≡ true = eq-eqb _ 0 (sym number-of ∙ z) in
       done .book-is ∙ rw q
 
-  pub book-for-c : after ≡ cond (eqb number 0) (r .book .balance ∷ r .book .totals) before → BookForC s l before number location after
+  pub book-for-c : after ≡ cond (eqb number 0) (r .book .balance ∷ r .book .totals) before → BookForC s l before number location (r .made) after
   unfolding verdictOf shownOf
   book-for-c e =
       record {
         number-is = number-of;
         location-is = p ∙ ap (λ (v : Verdict). v .location) (done .answer-is);
+        changed-is = done .made-is;
         list-is = e ∙ rw (number-of, done .book-is) (shown-where (eqb (bookVerdict s l .number) 0) (bookOf s l) (openedBook s) before);
         kept = λ z. subst (Kept s) (book-is z) (done .kept (accepted-answer (r .answer) (sym n ∙ z)));
       }

@@ -14,7 +14,7 @@ number-requires c κs = search needs
 
 returns : tie.Need-returns
 unfolding verdictOf
-returns c = opening-refused _ _ _ (c .before .before .open .ensures) (λ e. c .if1 .taken (c .before .number .ensures ∙ e))
+returns c = opening-refused _ _ _ (c .before .before .before .open .ensures) (λ e. c .if1 .taken (c .before .number .ensures ∙ e))
 
 change-all-requires : tie.Need-change-all-requires
 change-all-requires c κs = search needs
@@ -22,7 +22,7 @@ change-all-requires c κs = search needs
 returns-2 : tie.Need-returns-2
 unfolding verdictOf
 returns-2 c =
-    opening-accepted _ _ _ _ (c .before .before .before .before .open .ensures) (sym (c .before .before .before .number .ensures) ∙ c .before .before .if1 .left) (c .change-all .ensures)
+    opening-accepted _ _ _ _ (c .before .before .before .before .open .ensures) (sym (c .before .before .number .ensures) ∙ c .before .if1 .left) (c .change-all .ensures)
 
 pub book-of-spec : {M : Type 1} → statement M
 book-of-spec = tie.close (tie.spec open-requires number-requires returns change-all-requires returns-2)

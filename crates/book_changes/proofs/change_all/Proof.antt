@@ -14,7 +14,7 @@ abbrev Inv-loop : tie.InvT-loop
 Inv-loop opened changes book₀ k₀ book k = Changing opened changes k book
 
 abbrev μ-loop : tie.MeasureT-loop
-μ-loop opened changes book₀ k₀ book k = length changes / 5 - k
+μ-loop opened changes book₀ k₀ book k = length changes / 6 - k
 
 loop-holds : tie.Need-loop-holds Inv-loop μ-loop
 loop-holds c = changing-start _ _

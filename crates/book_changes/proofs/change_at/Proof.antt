@@ -1,4 +1,4 @@
--- `book_changes::change_at` meets its contract: the five numbers of change k are read. Assumes nothing.
+-- `book_changes::change_at` meets its contract: the six numbers of change k are read. Assumes nothing.
 use borrow.Author.Needs.{needs}
 use Rattle.book_changes.specs.Changing.{changeAt}
 use Rattle.book_changes.proofs.change_at.Statement.{statement}
@@ -49,6 +49,15 @@ mul-change-5 c = search needs
 shared-slice-read-change-5 : tie.Need-shared-slice-read-change-5
 shared-slice-read-change-5 c = search needs
 
+add-change-5 : tie.Need-add-change-5
+add-change-5 c = search needs
+
+mul-change-6 : tie.Need-mul-change-6
+mul-change-6 c = search needs
+
+shared-slice-read-change-6 : tie.Need-shared-slice-read-change-6
+shared-slice-read-change-6 c = search needs
+
 change-requires : tie.Need-change-requires
 change-requires c κs = search needs
 
@@ -75,5 +84,8 @@ change-at-spec =
     add-change-4
     mul-change-5
     shared-slice-read-change-5
+    add-change-5
+    mul-change-6
+    shared-slice-read-change-6
     change-requires
     returns)
