@@ -3,7 +3,7 @@ use Prim.Native.Nat.{ℕ, zero, suc, _+_, _*_, _/_, _%_, _≤_, _<_}
 use mathlib.Core.Path.{_≡_, refl, sym, _∙_}
 use mathlib.Core.Bool.{Bool, true, false, cond}
 use mathlib.Core.List.{List, [], _∷_, _++_}
-use mathlib.Core.Logic.{⊎-elim}
+use mathlib.Core.Logic.{inr, ⊎-elim}
 use native.Mathlib.Nat.{le-trans, le-refl, le-of-lt, lt-suc-self, lt-of-lt-of-le, pos-of-ne-zero, ne-of-gt, ne-of-lt, eq-or-lt-of-le, le-of-suc-le-suc, not-suc-le-zero}
 use native.Mathlib.Omega.{arith}
 use borrow.Author.Tests.{lt-ltb, le-leb, eqb-true, eqb-false}
@@ -45,8 +45,8 @@ use Rattle.books.specs.Books.{emptyBook, openedBook, valuedIn}
 use Rattle.books.specs.Changes.{Change, unvalued, changedPlace, fitsChange, heldAfter, bookAfter, bookAfterAll}
 use Rattle.book_shares.specs.Shares.{shareSet, shareChange, shareChanges, bookOfShares, ShowsTotals}
 use Rattle.books.specs.Promise.{balanceIn, lowerIn, upperIn, totalIn, Kept, BookPromise}
-use Rattle.books.specs.Inner.Standing.{Within, Standing}
-use Rattle.books.proofs.PlaceLaws.{fits-within}
+use Rattle.books.specs.Standing.{Holds, Standing}
+use Rattle.books.proofs.PlaceLaws.{fits-held}
 use Rattle.books.proofs.StandingLaws.{here, elsewhere}
 use Rattle.books.proofs.KeptLaws.{lower-is, upper-is}
 use Rattle.books.proofs.ChangeLaws.{book-promise}
@@ -140,8 +140,8 @@ module _ (k : Contents) (b : Book) (stands : Standing k b) (n : ℕ) (h : n < 36
       held : SubBalance
       held = valuedIn b n (share k n)
 
-      within : Within k n held
-      within = fits-within n _ _ _ _ (share-fits k (stands .under .valid) n h pos) k b (stands .under)
+      within : Holds k n held
+      within = inr (fits-held n _ _ _ _ (share-fits k (stands .under .valid) n h pos) k b (stands .under))
 
 -- an accepted filing
 module _ (s : List ℕ) (a : filingVerdict s ≡ accepted) where

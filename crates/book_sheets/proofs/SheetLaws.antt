@@ -1,5 +1,5 @@
--- Laws of the sheets and tiers that a book holds: where they are usable each number is within its limit, and those of a valid filing are.
--- Assumes nothing.
+-- Laws of the sheets and tiers that a book holds: where they are usable each number is within its limit, and those of a valid filing are; the values under
+-- them are those of the code. Assumes nothing.
 use Prim.Native.Nat.{ℕ, zero, suc, _-_, _≤_, _<_, zero-le}
 use mathlib.Core.Path.{_≡_, refl, ap}
 use mathlib.Core.Bool.{Bool, true, false, not, _&&_}
@@ -10,20 +10,27 @@ use native.Mathlib.Omega.{arith}
 use borrow.Author.Tests.{ltb-true, ltb-false, le-ltb, leb-true, leb-false, le-leb, lt-leb, eqb-false, ne-eqb, not-true}
 use lib.Dec.{leb, ltb, lit≤}
 use lib.ListN.{length, getD, List·getD-eq-default}
-use Rattle.lists.specs.Tables.{anyBelow}
+use Rattle.lists.specs.Tables.{table, joined, anyBelow}
 use Rattle.lists.proofs.TestLaws.{and-true, any-fails}
 use Rattle.schedule.specs.Limits.{rateLimit, monthsLimit, tierLimit, withdrawalLimit}
+use Rattle.schedule.specs.Shift.{scenarioCount}
 use Rattle.contents.specs.Contents.{Contents}
 use Rattle.contents.specs.declared.FiledTiers.{FiledTiers}
 use Rattle.contents.specs.Valid.{Valid}
+use Rattle.sub_balances.specs.declared.SubBalance.{SubBalance}
 use Rattle.pricing.specs.Scales.{par}
 use Rattle.pricing.specs.Rounding.{down, up}
-use Rattle.discount_factors.specs.Inner.Factors.{factorsBy, AtMostPar}
+use Rattle.discount_factors.specs.Inner.Factors.{factorsBy, factorIn, AtMostPar}
 use Rattle.discount_factors.proofs.FactorLaws.{factors-at-most-par, upper-factor-pos}
+use Rattle.deposits.specs.Inner.Prices.{tabledPrice, shiftedPath}
+use Rattle.deposits.specs.Inner.Values.{tabledValue, valueBounds, tabledValues}
+use Rattle.filing_tiers.specs.FilingTiers.{tiersOf}
 use Rattle.filing_tiers.specs.Inner.FiledLimits.{FiledLimits}
 use Rattle.filing_tiers.proofs.FilingTierLaws.{filed-limits}
+use Rattle.place_values.specs.PlaceTerms.{depositAt}
+use Rattle.place_values.specs.Inner.PlaceRows.{tabledHeld}
 use Rattle.place_values.proofs.HeldLaws.{rates-within}
-use Rattle.book_sheets.specs.Sheets.{aboveLimit, noneAbove, isZero, noneZero, notRising, tiersUsable, sheetsUsable}
+use Rattle.book_sheets.specs.Sheets.{aboveLimit, noneAbove, isZero, noneZero, notRising, tiersUsable, sheetsUsable, factorAt, termsUnder, valueUnder, boundsUnder}
 
 none-below : (test : ℕ → Bool) (n : ℕ) → ((i : ℕ) → i < n → test i ≡ false) → anyBelow test n ≡ false
 unfolding anyBelow
@@ -117,3 +124,9 @@ filing-limits k v =
       upper-le = factors-at-most-par up (k .yields) monthsLimit;
       upper-pos = λ i h. upper-factor-pos (k .yields) monthsLimit i (lit≤ tt) h;
     }
+
+-- the values of what a place holds, as the code walks them
+pub values-tabled : (rates : List ℕ) (tiers : FiledTiers) (lower upper : List ℕ) (place : ℕ) (held : SubBalance)
+    → joined (table scenarioCount (boundsUnder rates tiers lower upper place held)) ≡ tabledHeld held place rates (tiersOf tiers) lower upper
+unfolding boundsUnder valueUnder termsUnder factorAt tabledHeld tabledValues valueBounds tabledValue tabledPrice shiftedPath factorIn depositAt
+values-tabled rates tiers lower upper place held = refl

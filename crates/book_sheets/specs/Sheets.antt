@@ -1,18 +1,24 @@
 -- The values of a place under the sheets and tiers that a book holds (02:CR 7). A book opened from a filing holds that filing's, which are within their
 -- limits; under others the values are 0. Definitions only.
-use Prim.Native.Nat.{ℕ, _+_, _-_}
+use Prim.Native.Nat.{ℕ, _+_, _*_, _-_}
 use mathlib.Core.Bool.{Bool, cond, not, _&&_}
-use mathlib.Core.List.{List}
+use mathlib.Core.List.{List, [], _∷_}
 use lib.Dec.{eqb, leb, ltb}
 use lib.ListN.{length, getD}
-use Rattle.lists.specs.Tables.{anyBelow}
+use Rattle.lists.specs.Tables.{table, joined, anyBelow}
 use Rattle.schedule.specs.Limits.{rateLimit, tierLimit, withdrawalLimit}
+use Rattle.schedule.specs.Shift.{scenarioCount, shiftedRate, pathRate}
 use Rattle.contents.specs.declared.FiledTiers.{FiledTiers}
 use Rattle.sub_balances.specs.declared.SubBalance.{SubBalance}
+use Rattle.sub_balances.specs.PlaceOrder.{positionOf}
 use Rattle.sub_balances.specs.Places.{noValues}
-use Rattle.pricing.specs.Scales.{par}
+use Rattle.pricing.specs.Scales.{par, valueScale}
+use Rattle.pricing.specs.Terms.{Terms}
+use Rattle.pricing.specs.Rounding.{Rounding, down, up, quotient}
+use Rattle.pricing.specs.Run.{discountedBy}
 use Rattle.filing_tiers.specs.FilingTiers.{tiersOf}
-use Rattle.place_values.specs.Inner.PlaceRows.{tabledHeld}
+use Rattle.deposits.specs.DepositTerms.{termsOf}
+use Rattle.place_values.specs.PlaceTerms.{depositAt}
 
 -- number i of a list is above a limit
 unfoldable pub aboveLimit : ℕ → List ℕ → ℕ → Bool
@@ -42,7 +48,26 @@ tiersUsable t =
 unfoldable pub sheetsUsable : List ℕ → FiledTiers → List ℕ → List ℕ → Bool
 sheetsUsable rates tiers lower upper = noneAbove rateLimit rates && (tiersUsable tiers && (noneAbove par lower && (noneAbove par upper && noneZero upper)))
 
--- lower and upper value in each scenario of what a place holds, dollars
+-- the discount factor of a month, from 1 on, in a scenario, 0 to 6, from a list with seven for each month
+unfoldable pub factorAt : List ℕ → ℕ → ℕ → ℕ
+factorAt factors scenario month = getD factors (scenarioCount * (month - 1) + scenario) 0
+
+-- the terms of what a place holds in a scenario under rates and tiers
+unfoldable pub termsUnder : List ℕ → FiledTiers → ℕ → SubBalance → ℕ → Terms
+termsUnder rates tiers place held scenario =
+    termsOf (tiersOf tiers) (depositAt place held) (λ (month : ℕ). shiftedRate scenario (pathRate rates (positionOf place .column) month))
+
+-- its value at a rounding by discount factors, whole dollars (01:60)
+unfoldable pub valueUnder : Rounding → List ℕ → FiledTiers → List ℕ → ℕ → SubBalance → ℕ → ℕ
+valueUnder ρ rates tiers factors place held scenario =
+    quotient ρ
+    (held .balance * discountedBy ρ (termsUnder rates tiers place held scenario) (factorAt factors scenario) (held .«remaining_months»)) valueScale
+
+-- lower value by lower factors and upper value by upper factors, in a scenario and in each of the seven
+unfoldable pub boundsUnder : List ℕ → FiledTiers → List ℕ → List ℕ → ℕ → SubBalance → ℕ → List ℕ
+boundsUnder rates tiers lower upper place held scenario =
+    valueUnder down rates tiers lower place held scenario ∷ valueUnder up rates tiers upper place held scenario ∷ []
+
 unfoldable pub valuesUnder : List ℕ → FiledTiers → List ℕ → List ℕ → ℕ → SubBalance → List ℕ
 valuesUnder rates tiers lower upper place held =
-    cond (sheetsUsable rates tiers lower upper) (tabledHeld held place rates (tiersOf tiers) lower upper) noValues
+    cond (sheetsUsable rates tiers lower upper) (joined (table scenarioCount (boundsUnder rates tiers lower upper place held))) noValues

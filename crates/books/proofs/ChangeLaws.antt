@@ -1,6 +1,7 @@
 -- Every change keeps the promise of a book, opening establishes it, and so it holds after any sequence of changes. Assumes nothing.
 use Prim.Native.Nat.{ℕ, _<_}
 use mathlib.Core.Path.{_≡_, refl, ap, subst}
+use mathlib.Core.Logic.{inl, inr}
 use mathlib.Core.Bool.{Bool, true, false, cond}
 use mathlib.Core.List.{List, [], _∷_}
 use native.Mathlib.Omega.{arith}
@@ -18,24 +19,24 @@ use Rattle.book_places.specs.declared.Answered.{Answered}
 use Rattle.book_places.specs.BookPlaces.{withPlace}
 use Rattle.books.specs.Books.{emptyBook, openedBook}
 use Rattle.books.specs.Changes.{Change, setPlace, clearPlace, neitherAt, changedPlace, fitsChange, heldAfter, changeVerdict, bookAfter, bookAfterAll}
-use Rattle.books.specs.Inner.Standing.{Standing, Within}
+use Rattle.books.specs.Standing.{Standing, Holds}
 use Rattle.books.specs.Promise.{Kept, ChangedOf, BookPromise}
-use Rattle.books.proofs.PlaceLaws.{none-within, fits-place, fits-within}
+use Rattle.books.proofs.PlaceLaws.{fits-place, fits-held}
 use Rattle.books.proofs.StandingLaws.{empty-stands, changed-stands}
 use Rattle.books.proofs.KeptLaws.{standing-kept}
 
--- a change that the place takes is at one of the thirty-six places, and what the place then holds is within its limits
+-- a change that the place takes is at one of the thirty-six places, and the place then holds nothing or a deposit that it takes
 fits-at : (c : Change) → fitsChange c ≡ true → changedPlace c < 36
 unfolding fitsChange changedPlace
 fits-at (setPlace place balance coupon months penalty) h = fits-place place balance coupon months penalty h
 fits-at (clearPlace place) h = ltb-true place 36 h
 fits-at (neitherAt place) h = let never : _≡_ {A = ℕ} 0 1 = cc in omega arith
 
-fits-held : (k : Contents) (b : Book) → Standing k b → (c : Change) → fitsChange c ≡ true → Within k (changedPlace c) (heldAfter b c)
+holds-change : (k : Contents) (b : Book) → Standing k b → (c : Change) → fitsChange c ≡ true → Holds k (changedPlace c) (heldAfter b c)
 unfolding fitsChange changedPlace heldAfter
-fits-held k b stands (setPlace place balance coupon months penalty) h = fits-within place balance coupon months penalty h k b (stands .under)
-fits-held k b stands (clearPlace place) h = none-within k place
-fits-held k b stands (neitherAt place) h = none-within k place
+holds-change k b stands (setPlace place balance coupon months penalty) h = inr (fits-held place balance coupon months penalty h k b (stands .under))
+holds-change k b stands (clearPlace place) h = inl refl
+holds-change k b stands (neitherAt place) h = inl refl
 
 -- the book after a change stands
 after-stands : (k : Contents) (b : Book) → Standing k b → (c : Change) → Standing k (bookAfter b c)
@@ -43,7 +44,7 @@ unfolding bookAfter
 after-stands k b stands c = by (fitsChange c) refl
   where
     by : (t : Bool) → fitsChange c ≡ t → Standing k (cond t (withPlace b (changedPlace c) (heldAfter b c)) b)
-    by true h = changed-stands k b stands (changedPlace c) (fits-at c h) (heldAfter b c) (fits-held k b stands c h)
+    by true h = changed-stands k b stands (changedPlace c) (fits-at c h) (heldAfter b c) (holds-change k b stands c h)
     by false h = stands
 
 pub after-kept : (s : List ℕ) (b : Book) → Kept s b → (c : Change) → Kept s (bookAfter b c)

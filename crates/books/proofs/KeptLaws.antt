@@ -22,7 +22,8 @@ use Rattle.totals.proofs.WidthLaws.{widths-add}
 use Rattle.book_places.specs.declared.Book.{Book}
 use Rattle.kept_totals.specs.KeptTotals.{sumsPlace, valueOfTotal}
 use Rattle.book_places.specs.BookPlaces.{heldIn}
-use Rattle.books.specs.Inner.Standing.{Standing}
+use Rattle.books.specs.Standing.{Standing}
+use Rattle.books.proofs.PlaceLaws.{holds-within}
 use Rattle.books.specs.Promise.{balanceIn, lowerIn, upperIn, totalIn, exactIn, exactTotalIn, Kept}
 
 -- total r of a scenario's four, short lower, short upper, long lower, long upper, is a fresh sum
@@ -57,7 +58,7 @@ module _ (k : Contents) (b : Book) (stands : Standing k b) (scenario : ℕ) (h :
   bound-is : (place r : ℕ) → place < 36 → r < 2 → getD (heldIn b place .values) (2 * scenario + r) 0 ≡ getD (boundsHeld k place (heldIn b place) scenario) r 0
   unfolding valuesHeld
   bound-is place r hp hr =
-      rw (stands .places place hp .values-are) (joined-getD 2 7 (boundsHeld k place (heldIn b place)) (bounds-length place) scenario r 0 h hr)
+      rw (holds-within k place (heldIn b place) (stands .places place hp) .values-are) (joined-getD 2 7 (boundsHeld k place (heldIn b place)) (bounds-length place) scenario r 0 h hr)
 
   pub lower-is : (place : ℕ) → place < 36 → lowerIn b scenario place ≡ valueHeld down k scenario place (heldIn b place)
   unfolding lowerIn boundsHeld
@@ -78,7 +79,7 @@ module _ (k : Contents) (b : Book) (stands : Standing k b) (scenario : ℕ) (h :
 
   width-is : (place : ℕ) → place < 36 → 250 * upperIn b scenario place ≤ 250 * lowerIn b scenario place + (balanceIn b place + 500)
   unfolding balanceIn
-  width-is place hp = rw (lower-is place hp, upper-is place hp) (held-width k place (heldIn b place) (stands .places place hp .limits) scenario)
+  width-is place hp = rw (lower-is place hp, upper-is place hp) (held-width k place (heldIn b place) (holds-within k place (heldIn b place) (stands .places place hp) .limits) scenario)
 
   -- the short and the long total are all places
   both : (f : ℕ → ℕ) → sumWhere isShort f 36 + sumWhere isLong f 36 ≡ sumWhere everywhere f 36

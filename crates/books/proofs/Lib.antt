@@ -1,3 +1,4 @@
+pub mod FactorLaws
 pub mod PlaceLaws
 pub mod StandingLaws
 pub mod KeptLaws

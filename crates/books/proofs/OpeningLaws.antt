@@ -25,6 +25,7 @@ use Rattle.book_places.specs.declared.Answered.{Answered}
 use Rattle.book_places.specs.BookPlaces.{emptyUnder}
 use Rattle.books.specs.Books.{emptyBook, openedBook}
 use Rattle.books.specs.Promise.{OpenedOf}
+use Rattle.books.proofs.FactorLaws.{filing-factors}
 use Rattle.books.proofs.ChangeLaws.{opened-kept}
 
 -- no bytes spell 0
@@ -51,5 +52,5 @@ pub opened : (s : List ℕ) (r : Answered) {k : Contents} {lower upper : List �
     → OpenedOf s r
 unfolding openedBook emptyBook
 opened s r v said below above is =
-    let book : r .book ≡ openedBook s = is ∙ rw (below, above, said) in
+    let book : r .book ≡ openedBook s = is ∙ rw (below, above, ← filing-factors down _, ← filing-factors up _, said) in
     record { answer-is = v; book-is = book; kept = λ a. rw book (opened-kept s (sym v ∙ a)) }

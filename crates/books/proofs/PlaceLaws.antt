@@ -1,7 +1,8 @@
--- Laws of one place of a book: nothing is within every limit and has the value 0, and a deposit that the place takes is within its limits, with its
--- values under the filing. Assumes nothing.
+-- Laws of one place of a book: nothing has the value 0, a deposit that the place takes has its values under the filing, and either is within the limits of
+-- deposits. Assumes nothing.
 use Prim.Native.Nat.{ℕ, _≤_, _<_, zero-le}
 use mathlib.Core.Path.{_≡_, ap}
+use mathlib.Core.Logic.{inl, inr}
 use mathlib.Core.Bool.{Bool, true, cond, _&&_}
 use mathlib.Core.List.{[], _∷_}
 use native.Mathlib.Nat.{le-refl, le-trans}
@@ -13,6 +14,7 @@ use Rattle.lists.proofs.TestLaws.{and-true, either, entries-le}
 use Rattle.schedule.specs.Cells.{withinRow, leastMonths, mostMonths}
 use Rattle.schedule.specs.Limits.{balanceLimit, couponLimit, penaltyLimit, monthsLimit}
 use Rattle.contents.specs.Contents.{Contents}
+use Rattle.sub_balances.specs.declared.SubBalance.{SubBalance}
 use Rattle.sub_balances.specs.PlaceOrder.{subBalanceCount, positionOf, withPenalty}
 use Rattle.sub_balances.specs.Places.{noPlace, noValues}
 use Rattle.pricing.specs.Scales.{valueScale}
@@ -28,8 +30,9 @@ use Rattle.place_limits.specs.PlaceLimits.{penaltyWithin, fitsPlace}
 use Rattle.book_sheets.specs.Sheets.{valuesUnder}
 use Rattle.books.specs.Books.{valuedIn}
 use Rattle.books.specs.Changes.{unvalued}
-use Rattle.books.specs.Inner.Standing.{Under, Within}
-use Rattle.book_sheets.proofs.SheetLaws.{limits-usable, filing-limits}
+use Rattle.books.specs.Standing.{Under, Deposited, Holds}
+use Rattle.books.proofs.FactorLaws.{filing-factors}
+use Rattle.book_sheets.proofs.SheetLaws.{limits-usable, filing-limits, values-tabled}
 
 -- nothing has the value 0
 none-valued : (k : Contents) (place : ℕ) → noValues ≡ valuesHeld k place noPlace
@@ -38,7 +41,13 @@ none-valued k place =
     ap joined (table-ext 7 (λ (s : ℕ). 0 ∷ 0 ∷ []) (boundsHeld k place noPlace)
     (λ s h. rw (quotient-zero down _ valueScale (lit< tt), quotient-zero up _ valueScale (lit< tt))))
 
-pub none-within : (k : Contents) (place : ℕ) → Within k place noPlace
+-- what follows of what a place holds: its limits as those of a deposit, and its values
+pub record Within (k : Contents) (place : ℕ) (held : SubBalance) : Type 0 where
+  pub balance-le : held .balance ≤ balanceLimit
+  pub limits : DepositLimits (depositAt place held)
+  pub values-are : held .values ≡ valuesHeld k place held
+
+none-within : (k : Contents) (place : ℕ) → Within k place noPlace
 unfolding depositAt
 none-within k place =
     record {
@@ -99,10 +108,21 @@ module _ (place balance coupon months penalty : ℕ) (fits : fitsPlace place bal
         ≡ valuesHeld k place (unvalued balance coupon months penalty)
     unfolding valuesUnder
     values-filed =
-        rw (u .rates-are, u .tiers-are, u .lower-is, u .upper-is)
-        (rw (limits-usable _ _ _ _ (filing-limits k (u .valid)))
+        rw (u .rates-are, u .tiers-are, u .lower-is, u .upper-is, filing-factors down k, filing-factors up k)
+        (rw (limits-usable _ _ _ _ (filing-limits k (u .valid)), values-tabled)
         (held-are k place (unvalued balance coupon months penalty) fits-limits monthsLimit (λ _. months-le)))
 
-    pub fits-within : Within k place (valuedIn b place (unvalued balance coupon months penalty))
+    pub fits-held : Deposited k place (valuedIn b place (unvalued balance coupon months penalty))
     unfolding valuedIn valuesHeld boundsHeld valueHeld termsHeld depositAt
-    fits-within = record { balance-le = fits-balance; limits = fits-limits; values-are = values-filed }
+    fits-held = record { fits = fits; values-are = values-filed }
+
+-- either way
+pub holds-within : (k : Contents) (place : ℕ) (held : SubBalance) → Holds k place held → Within k place held
+unfolding depositAt
+holds-within k place held (inl e) = rw e (none-within k place)
+holds-within k place held (inr d) =
+    record {
+      balance-le = fits-balance place (held .balance) (held .coupon) (held .«remaining_months») (held .penalty) (d .fits);
+      limits = fits-limits place (held .balance) (held .coupon) (held .«remaining_months») (held .penalty) (d .fits);
+      values-are = d .values-are;
+    }

@@ -1,6 +1,7 @@
 -- The book that is opened stands under its filing, and it stands with something else at a place: the totals are the fresh sums. Assumes nothing.
 use Prim.Native.Nat.{ℕ, zero, suc, _+_, _*_, _-_, _^_, _≤_, _<_}
 use mathlib.Core.Path.{_≡_, refl, sym, ap, _∙_}
+use mathlib.Core.Logic.{inl}
 use mathlib.Core.Bool.{Bool, true, false, cond}
 use native.Mathlib.Nat.{le-trans}
 use native.Mathlib.Omega.{arith}
@@ -24,9 +25,9 @@ use Rattle.book_places.specs.declared.Book.{Book}
 use Rattle.kept_totals.specs.KeptTotals.{moved, sumsPlace, valueOfTotal, totalAfter, totalsAfter}
 use Rattle.book_places.specs.BookPlaces.{heldIn, withPlace}
 use Rattle.books.specs.Books.{emptyBook}
-use Rattle.books.specs.Inner.Standing.{Within, Standing}
+use Rattle.books.specs.Standing.{Holds, Standing}
 use Rattle.kept_totals.proofs.ChangedSumLaws.{zeros-sum, sum-small, place-in-sum, sum-changed, moved-is}
-use Rattle.books.proofs.PlaceLaws.{none-within}
+use Rattle.books.proofs.PlaceLaws.{Within, holds-within}
 
 -- of a place with its values none is above the limit of a value
 module _ (k : Contents) (place : ℕ) (held : SubBalance) (w : Within k place held) where
@@ -56,14 +57,14 @@ module _ (k : Contents) (v : Valid k) where
         under = record { valid = v; rates-are = refl; tiers-are = refl; lower-is = refl; upper-is = refl };
         size = length-replicate 36 noPlace;
         totals-size = length-replicate {A = ℕ} 28 0;
-        places = λ place h. rw (none-held place h) (none-within k place);
+        places = λ place h. inl (none-held place h);
         balance-is = sym (sumWhere-ext everywhere _ (λ _. 0) 36 (λ place h. ap (λ (p : SubBalance). p .balance) (none-held place h)) ∙ zeros-sum everywhere 36);
         total-is = λ i h.
             getD-replicate 28 i 0 0 h ∙ sym (sumWhere-ext (sumsPlace i) _ (λ _. 0) 36 (λ place l. none-value i place l) ∙ zeros-sum (sumsPlace i) 36);
       }
 
 -- a standing book with something else at a place
-module _ (k : Contents) (b : Book) (stands : Standing k b) (place : ℕ) (at : place < 36) (held : SubBalance) (w : Within k place held) where
+module _ (k : Contents) (b : Book) (stands : Standing k b) (place : ℕ) (at : place < 36) (held : SubBalance) (w : Holds k place held) where
   abbrev after : Book
   after = withPlace b place held
 
@@ -76,12 +77,15 @@ module _ (k : Contents) (b : Book) (stands : Standing k b) (place : ℕ) (at : p
   unfolding withPlace
   elsewhere i other = sym (getD-set-other (b .places) place i held _ other)
 
-  within-after : (i : ℕ) → i < 36 → Within k i (heldIn after i)
-  within-after i h = by (eqb i place) refl
+  holds-after : (i : ℕ) → i < 36 → Holds k i (heldIn after i)
+  holds-after i h = by (eqb i place) refl
     where
-      by : (t : Bool) → eqb i place ≡ t → Within k i (heldIn after i)
+      by : (t : Bool) → eqb i place ≡ t → Holds k i (heldIn after i)
       by true e = let same = eqb-true i place e in rw (same, here) w
       by false e = rw (← elsewhere i (eqb-false i place e)) (stands .places i h)
+
+  within-after : (i : ℕ) → i < 36 → Within k i (heldIn after i)
+  within-after i h = holds-within k i (heldIn after i) (holds-after i h)
 
   -- a sum over the places of one of their figures, moved by the difference
   module _ (test : ℕ → Bool) (figure : SubBalance → ℕ) (limit : ℕ) (small : limit * 36 ≤ 2 ^ 64 - 1)
@@ -131,7 +135,7 @@ module _ (k : Contents) (b : Book) (stands : Standing k b) (place : ℕ) (at : p
             };
         size = length-set (b .places) place held ∙ stands .size;
         totals-size = totals-length;
-        places = within-after;
+        places = holds-after;
         balance-is = balance-after;
         total-is = total-after;
       }

@@ -1,19 +1,27 @@
 -- The book (02:CR 7): opened empty under a filing; a place valued under its sheets and tiers. Definitions only.
-use Prim.Native.Nat.{ℕ}
+use Prim.Native.Nat.{ℕ, suc}
 use mathlib.Core.List.{List}
+use Rattle.lists.specs.Tables.{table, joined}
 use Rattle.schedule.specs.Limits.{monthsLimit}
+use Rattle.schedule.specs.Shift.{scenarioCount}
 use Rattle.contents.specs.Contents.{Contents}
 use Rattle.filing.specs.Readings.{readContents}
 use Rattle.sub_balances.specs.declared.SubBalance.{SubBalance}
-use Rattle.pricing.specs.Rounding.{down, up}
-use Rattle.discount_factors.specs.Inner.Factors.{factorsBy}
+use Rattle.pricing.specs.Rounding.{Rounding, down, up}
+use Rattle.pricing.specs.Run.{discountFactorBy}
+use Rattle.place_values.specs.PlaceTerms.{monthYield}
 use Rattle.book_places.specs.declared.Book.{Book}
 use Rattle.book_places.specs.BookPlaces.{emptyUnder}
 use Rattle.book_sheets.specs.Sheets.{valuesUnder}
 
--- the empty book under what a filing says: its rates and tiers, and the discount factors of all 120 months
+-- the discount factors of what a filing says (01:60), at a rounding, billionths: those of months 1 to 120, in the seven scenarios each
+unfoldable pub filingFactors : Rounding → Contents → List ℕ
+filingFactors ρ k =
+    joined (table monthsLimit (λ (month : ℕ). table scenarioCount (λ (scenario : ℕ). discountFactorBy ρ (monthYield k scenario) (suc month))))
+
+-- the empty book under what a filing says: its rates, its tiers, and its lower and upper discount factors
 unfoldable pub emptyBook : Contents → Book
-emptyBook k = emptyUnder (k .rates) (k .tiers) (factorsBy down (k .yields) monthsLimit) (factorsBy up (k .yields) monthsLimit)
+emptyBook k = emptyUnder (k .rates) (k .tiers) (filingFactors down k) (filingFactors up k)
 
 -- the book that a filing's bytes open; those of a refused filing open the book of a filing that says nothing
 unfoldable pub openedBook : List ℕ → Book

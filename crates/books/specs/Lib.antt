@@ -1,4 +1,4 @@
 pub mod Books
 pub mod Changes
-pub mod Inner
+pub mod Standing
 pub mod Promise

@@ -19,7 +19,7 @@ use Rattle.book_places.specs.declared.Answered.{Answered}
 use Rattle.book_places.specs.BookPlaces.{heldIn}
 use Rattle.books.specs.Books.{openedBook}
 use Rattle.books.specs.Changes.{Change, changeVerdict, bookAfter, bookAfterAll}
-use Rattle.books.specs.Inner.Standing.{Standing}
+use Rattle.books.specs.Standing.{Standing}
 
 -- read off a book: balance, lower and upper value of a place, and number r of a scenario's four totals
 unfoldable pub balanceIn : Book → ℕ → ℕ
@@ -43,7 +43,7 @@ exactTotalIn test s b scenario = totalWhere test (exactIn s b scenario) subBalan
 
 -- what holds of a book that was opened from the accepted filing s
 pub record Kept (s : List ℕ) (b : Book) : Type 0 where
-  -- it stands under that filing, and each place holds a deposit within the limits, with its values, or nothing
+  -- it stands under that filing, and each place holds a deposit within the place's limits, with its values, or nothing
   pub standing : Standing (contentsOf s) b
   -- the totals equal fresh sums over the places
   pub balance-total : b .balance ≡ sumWhere everywhere (balanceIn b) subBalanceCount

@@ -10,7 +10,7 @@ use Rattle.discounts.proofs.TableLaws.{lower-discounting, upper-discounting}
 use Rattle.place_values.specs.PlaceTerms.{depositAt}
 use Rattle.place_values.proofs.HeldLaws.{held-by}
 use Rattle.book_sheets.specs.Sheets.{valuesUnder}
-use Rattle.book_sheets.proofs.SheetLaws.{Limits, usable-limits}
+use Rattle.book_sheets.proofs.SheetLaws.{Limits, usable-limits, values-tabled}
 use borrow.Author.Needs.{needs}
 use Rattle.book_sheets.proofs.values_in.Statement.{statement}
 use Rattle.book_sheets.proofs.values_in.Tie as tie
@@ -68,6 +68,7 @@ returns-2 c =
     c .held-values .ensures .0 (lent _ (tiers .tiers-of .ensures .1))
     ∙ held-by (a .place) (a .held) (a .rates .now) _ (a .lower .now) (a .upper .now) _ _ (λ pos. (below .to-multipliers .ensures .0, above .to-multipliers2 .ensures .0))
     ∙ rw (tiers .tiers-of .ensures .0, ← test .before .usable .ensures, not-false (test .before .usable .result) (test .if1 .left))
+    (sym (values-tabled (a .rates .now) (a .tiers) (a .lower .now) (a .upper .now) (a .place) (a .held)))
 
 pub values-in-spec : {M : Type 1} → statement M
 values-in-spec =
