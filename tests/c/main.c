@@ -68,9 +68,7 @@ int main(void)
 {
     try_value();
     try_cells();
-#ifdef BOOK
     try_book();
-#endif
     printf("%lu passed, %lu failed\n", passed, failed);
     return failed != 0;
 }
