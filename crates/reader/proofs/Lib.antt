@@ -1,2 +1,3 @@
+pub mod StepLaws
 pub mod WalkLaws
 pub mod ReaderLaws

@@ -1,9 +1,12 @@
-// A reader of a filing: it holds the filing's bytes and moves record by record.
+// A reader of a filing: it holds the filing's bytes and moves record by record. Whoever walks over the records asks it where the next one stands (`next_of`).
 
 mod steps;
 
 use crate::steps::record_at;
 ghost use mathlib.Core.Path.{_≡_};
+ghost use Prim.Native.Nat.{_<_};
+ghost use lib.ListN.{length};
+ghost use Rattle.fields.specs.Records.{nextRecord};
 ghost use Rattle.reader.specs.Inner.Steps.{stepAt};
 
 // What stands at an offset of a filing.
@@ -51,4 +54,15 @@ pub fn step_at(s: &[u8], at: usize) -> Step
     ensures { λ t. ⌜ t ≡ stepAt (now (s .entry)) at ⌝ }
 {
     Reader::new(s).moved(at).step()
+}
+
+// The offset of the record after the one at an offset, as a reader there says.
+pub fn next_of(s: &[u8], at: usize) -> usize
+    requires { ⌜ at < length (now s) ⌝ }
+    ensures { λ r. ⌜ r ≡ nextRecord (now (s .entry)) at ⌝ }
+{
+    match step_at(s, at) {
+        Step::Record(next) => next,
+        Step::End => at,
+    }
 }

@@ -1,10 +1,10 @@
-// A pass over the records for one block of numbers.
+// A pass over the records for one block of numbers, by the steps of the reader.
 use fields::amendment_number;
-use fields::record_length;
 use notes::BLOCK;
 use numbers::WORDS;
 use numbers::holds;
 use numbers::put;
+use reader::next_of;
 use records::Item;
 use records::record_item;
 use schedule::FIRST_CELL;
@@ -14,7 +14,7 @@ ghost use lib.Dec.{ltb};
 ghost use lib.ListN.{length};
 ghost use Rattle.schedule.specs.Cells.{firstCell, cellCount};
 ghost use Rattle.records.specs.declared.Item.the-variants.{Amendment};
-ghost use Rattle.fields.specs.Records.{nextRecord, firstRecord};
+ghost use Rattle.fields.specs.Records.{firstRecord};
 ghost use Rattle.records.specs.Items.{sameItem, recordItem, firstWith};
 ghost use Rattle.notes.specs.Inner.Notes.{blockCount};
 ghost use Rattle.repetitions.specs.Inner.Repetitions.{repeats, keyOf, metAgain, metWith};
@@ -30,7 +30,7 @@ pub(crate) fn repetition(s: &[u8], block: usize, end: usize) -> usize
         if meets(s, block, at, &mut met) {
             return at;
         }
-        at = next_record(s, at);
+        at = next_of(s, at);
     }
     end
 }
@@ -75,7 +75,7 @@ pub fn amended_before(s: &[u8], cell: u64, number: u16, end: usize) -> bool
         if amends(s, cell, number, at) {
             return true;
         }
-        at = next_record(s, at);
+        at = next_of(s, at);
     }
     false
 }
@@ -90,15 +90,4 @@ fn amends(s: &[u8], cell: u64, number: u16, at: usize) -> bool
         Item::Amendment(n, m) => (n == cell) & (m == number),
         Item::Nothing => false,
     }
-}
-
-// The offset of the record after one within the bytes.
-fn next_record(s: &[u8], at: usize) -> usize
-    requires { ⌜ at < length (now s) ⌝ }
-    ensures { λ r. ⌜ r ≡ nextRecord (now (s .entry)) at ⌝ }
-{
-    if s.len() <= at {
-        return at;
-    }
-    at + 2 + record_length(s, at)
 }

@@ -6,41 +6,25 @@ use native.Mathlib.Omega.{arith}
 use mathlib.Core.Path.{_≡_, refl, sym, ap, _∙_}
 use mathlib.Core.Bool.{Bool, true, false, cond, not}
 use mathlib.Core.List.{List}
-use borrow.Author.Tests.{ltb-true, ltb-false, lt-ltb, le-ltb, leb-true, leb-false, eqb-false, eq-eqb, ne-eqb, not-true}
-use lib.Dec.{leb, ltb, eqb}
+use borrow.Author.Tests.{ltb-true, ltb-false, lt-ltb, le-ltb, eqb-false, eq-eqb, ne-eqb, not-true}
+use lib.Dec.{ltb, eqb}
 use lib.ListN.{length}
 use Rattle.answers.specs.declared.Answer.{Answer}
 use Rattle.answers.specs.declared.Answer.the-variants.{Accepted}
 use Rattle.answers.specs.Verdict.{Verdict, accepted}
 use Rattle.answers.specs.Answers.{verdictOf}
-use Rattle.reader.specs.declared.Step.{Step}
-use Rattle.reader.specs.declared.Step.the-variants.{Record, End}
 use Rattle.fields.specs.Records.{nextRecord}
 use Rattle.records.specs.Items.{recordItem}
 use Rattle.record_verdicts.specs.RecordVerdicts.{firstRefused, verdictBy, firstFaulty, recordVerdict, recordsVerdict}
 use Rattle.record_verdicts.specs.Inner.PlainVerdicts.{plainVerdict, firstPlain, plainsVerdict}
 use Rattle.sound_records.specs.Inner.SoundRecords.{soundNamed}
 use Rattle.sound_records.proofs.NamedLaws.{passes, sound-told}
-use Rattle.reader.specs.Inner.Steps.{stepAt}
 use Rattle.notes.specs.Inner.Notes.{Noted, notedBefore, nothingNoted, noteItem}
 use Rattle.scan.specs.Inner.Scans.{Visited}
 use Rattle.record_verdicts.proofs.FaultLaws.{faultless, complete-ends}
 use Rattle.fields.proofs.RecordLaws.{first-le, first-passes}
 use Rattle.fields.proofs.SearchLaws.{Reached, here, reached-next, Ahead, ahead-start, ahead-here, ahead-next, ahead-done}
 use Rattle.scan.proofs.NotingLaws.{noted-start, noted-next}
-
--- what a step says of the bytes at its offset
-abbrev pub Says : List ℕ → ℕ → Step → Type 0
-Says s at End = length s ≤ at
-Says s at (Record next) = (at < length s) × (next ≡ nextRecord s at)
-
-pub step-says : (s : List ℕ) (at : ℕ) → Says s at (stepAt s at)
-unfolding stepAt
-step-says s at = by (leb (length s) at) refl
-  where
-    by : (past : Bool) → leb (length s) at ≡ past → Says s at (cond past End (Record (nextRecord s at)))
-    by true e = leb-true (length s) at e
-    by false e = (leb-false (length s) at e, refl)
 
 abbrev faulty : List ℕ → ℕ → Bool
 faulty s at = not (eqb (plainVerdict s at .number) 0)

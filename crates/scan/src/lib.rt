@@ -1,11 +1,10 @@
-// The records of a filing, front to back: a reader moves over them, and each is tested.
+// The records of a filing, front to back: each is tested at its offset, and a reader moved there says where the next one stands.
 use answers::Answer;
 use answers::number;
 use notes::BLOCKS;
 use notes::note;
 use notes::note_named;
-use reader::Step;
-use reader::step_at;
+use reader::next_of;
 use record_kinds::KINDS;
 use record_verdicts::check_record;
 use schedule::CELLS;
@@ -14,7 +13,6 @@ ghost use mathlib.Core.Path.{_≡_};
 ghost use Prim.Native.Nat.{_<_};
 ghost use lib.ListN.{length};
 ghost use Rattle.answers.specs.Answers.{verdictOf};
-ghost use Rattle.fields.specs.Records.{nextRecord};
 ghost use Rattle.notes.specs.Inner.Notes.{notedAs, notedBefore};
 ghost use Rattle.scan.specs.Inner.Scans.{Visited};
 ghost use Rattle.record_verdicts.specs.Inner.PlainVerdicts.{firstPlain, plainsVerdict};
@@ -77,15 +75,4 @@ fn visit(
         note(s, at, sheets, cells, counting, falling);
     }
     answer
-}
-
-// The offset of the record after one.
-fn next_of(s: &[u8], at: usize) -> usize
-    requires { ⌜ at < length (now s) ⌝ }
-    ensures { λ r. ⌜ r ≡ nextRecord (now (s .entry)) at ⌝ }
-{
-    match step_at(s, at) {
-        Step::Record(next) => next,
-        Step::End => at,
-    }
 }

@@ -33,18 +33,18 @@ returns c =
     let is = ahead-here (start .args .s .now) _ (start .args .end) (loop .at) (loop .inv) l (sym (tested .amends .ensures) ∙ c .if1 .taken) in
     sym (rw is (lt-ltb (loop .at) (start .args .end) l))
 
-next-record-requires : tie.Need-next-record-requires Inv-loop μ-loop
-next-record-requires c κs = omega (arith, c .before .before .before .before .before .pre)
+next-of-requires : tie.Need-next-of-requires Inv-loop μ-loop
+next-of-requires c κs = omega (arith, c .before .before .before .before .before .pre)
 
 loop-less : tie.Need-loop-less Inv-loop μ-loop
-loop-less c = omega (arith, next-lt (c .before .before .before .before .before .before .args .s .now) (c .before .before .before .before .loop .at), c .next-record .ensures)
+loop-less c = omega (arith, next-lt (c .before .before .before .before .before .before .args .s .now) (c .before .before .before .before .loop .at), c .next-of .ensures)
 
 loop-again : tie.Need-loop-again Inv-loop μ-loop
 loop-again c =
     let tested = c .before .before in
     let loop = tested .before .before .loop in
     let start = tested .before .before .before .before in
-    rw (c .next-record .ensures)
+    rw (c .next-of .ensures)
     (ahead-next (start .args .s .now) _ (start .args .end) (loop .at) (loop .inv) (tested .before .loop-test .taken) (sym (tested .amends .ensures) ∙ c .before .if1 .left))
 
 returns-2 : tie.Need-returns-2 Inv-loop μ-loop
@@ -63,7 +63,7 @@ amended-before-spec =
     loop-holds
     amends-requires
     returns
-    next-record-requires
+    next-of-requires
     loop-less
     loop-again
     returns-2)

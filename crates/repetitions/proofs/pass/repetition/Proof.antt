@@ -31,11 +31,11 @@ returns c =
     sym (ahead-here s _ (start .args .end) (loop .at) (loop .inv .1) (tested .before .before .loop-test .taken)
     (sym (tested .meets .ensures .0 ∙ again-is s (start .args .block) (loop .at) (loop .met) (loop .inv .2) (tested .before .before .before .before .shared-slice-known .given)) ∙ c .if1 .taken))
 
-next-record-requires : tie.Need-next-record-requires Inv-loop μ-loop
-next-record-requires c κs = omega (arith, c .before .before .before .before .before .before .pre)
+next-of-requires : tie.Need-next-of-requires Inv-loop μ-loop
+next-of-requires c κs = omega (arith, c .before .before .before .before .before .before .pre)
 
 loop-less : tie.Need-loop-less Inv-loop μ-loop
-loop-less c = omega (arith, next-lt (c .before .before .before .before .before .before .before .args .s .now) (c .before .before .before .before .before .loop .at), c .next-record .ensures)
+loop-less c = omega (arith, next-lt (c .before .before .before .before .before .before .before .args .s .now) (c .before .before .before .before .before .loop .at), c .next-of .ensures)
 
 loop-again : tie.Need-loop-again Inv-loop μ-loop
 loop-again c =
@@ -45,7 +45,7 @@ loop-again c =
     let s = start .args .s .now in
     let met = loop .inv .2 in
     let bytes = tested .before .before .before .before .shared-slice-known .given in
-    rw (c .next-record .ensures, tested .meets .ensures .1) (
+    rw (c .next-of .ensures, tested .meets .ensures .1) (
       reached-next s (loop .inv .0),
       ahead-next s _ (start .args .end) (loop .at) (loop .inv .1) (tested .before .before .loop-test .taken)
           (sym (tested .meets .ensures .0 ∙ again-is s (start .args .block) (loop .at) (loop .met) met bytes) ∙ c .before .if1 .left),
@@ -66,7 +66,7 @@ repetition-spec =
     loop-holds
     meets-requires
     returns
-    next-record-requires
+    next-of-requires
     loop-less
     loop-again
     returns-2)

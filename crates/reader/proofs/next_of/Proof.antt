@@ -3,11 +3,11 @@
 use native.Mathlib.Omega.{arith}
 use mathlib.Core.Path.{_≡_, sym, subst, _∙_}
 use borrow.Author.Needs.{needs}
 use Rattle.reader.specs.declared.Step.{Step}
 use Rattle.reader.specs.declared.Step.the-variants.{Record, End}
-use Rattle.scan.proofs.ProgressLaws.{Says, step-says}
-use Rattle.scan.proofs.next_of.Statement.{statement}
-use Rattle.scan.proofs.next_of.Tie as tie
+use Rattle.reader.proofs.StepLaws.{Says, step-says}
+use Rattle.reader.proofs.next_of.Statement.{statement}
+use Rattle.reader.proofs.next_of.Tie as tie
 
 -- what the step says of the bytes at the offset
 says : (c : tie.After-step-at) (t : Step) → c .step-at .result ≡ t → Says (c .before .before .args .s .now) (c .before .before .args .at) t
