@@ -30,7 +30,7 @@ use Rattle.shares.specs.Places.{placeAt}
 use Rattle.shares.proofs.SubBalanceLaws.{balanceAt-le, balanceAt-limit, balanceAt-total}
 use Rattle.pricing.specs.Scales.{valueScale}
 use Rattle.pricing.specs.Rounding.{Rounding, down, up}
-use Rattle.pricing.specs.Run.{valueBy}
+use Rattle.pricing.specs.Run.{worthBy, valueBy}
 use Rattle.pricing.proofs.RoundingLaws.{quotient-zero}
 use Rattle.place_values.specs.PlaceTerms.{depositAt, termsHeld}
 use Rattle.place_values.specs.HeldValues.{valueHeld}
@@ -104,7 +104,7 @@ Shows k place held = (held .balance ≡ balanceAt (k .cells) place) × ((ρ : Ro
 
 -- nothing shows a share without balance
 none-shows : (k : Contents) (place : ℕ) → balanceAt (k .cells) place ≡ 0 → Shows k place noPlace
-unfolding valueAt valueHeld valueBy placeAt
+unfolding valueAt valueHeld valueBy worthBy placeAt
 none-shows k place e = (sym e, λ ρ scenario. rw e (quotient-zero ρ _ valueScale (lit< tt) ∙ sym (quotient-zero ρ _ valueScale (lit< tt))))
 
 -- a share that is set shows itself

@@ -19,7 +19,7 @@ use Rattle.sub_balances.specs.PlaceOrder.{subBalanceCount, positionOf, withPena
 use Rattle.sub_balances.specs.Places.{noPlace, noValues}
 use Rattle.pricing.specs.Scales.{valueScale}
 use Rattle.pricing.specs.Rounding.{down, up}
-use Rattle.pricing.specs.Run.{valueBy}
+use Rattle.pricing.specs.Run.{worthBy, valueBy}
 use Rattle.pricing.proofs.RoundingLaws.{quotient-zero}
 use Rattle.deposits.specs.Inner.Prices.{DepositLimits}
 use Rattle.place_values.specs.PlaceTerms.{depositAt, termsHeld}
@@ -36,7 +36,7 @@ use Rattle.book_sheets.proofs.SheetLaws.{limits-usable, filing-limits, values-t
 
 -- nothing has the value 0
 none-valued : (k : Contents) (place : ℕ) → noValues ≡ valuesHeld k place noPlace
-unfolding valuesHeld boundsHeld valueHeld valueBy tableFrom joined
+unfolding valuesHeld boundsHeld valueHeld valueBy worthBy tableFrom joined
 none-valued k place =
     ap joined (table-ext 7 (λ (s : ℕ). 0 ∷ 0 ∷ []) (boundsHeld k place noPlace)
     (λ s h. rw (quotient-zero down _ valueScale (lit< tt), quotient-zero up _ valueScale (lit< tt))))

@@ -8,7 +8,8 @@ use Rattle.lists.specs.Tables.{joined}
 use Rattle.lists.proofs.TableLaws.{table-getD, table-ext}
 use Rattle.withdrawal.specs.Tiers.{TierTable}
 use Rattle.pricing.specs.Rounding.{Rounding, down, up}
-use Rattle.pricing.proofs.RunLaws.{run-ext}
+use Rattle.pricing.specs.Run.{flowBy}
+use Rattle.pricing.proofs.FlowWidthLaws.{discounted-ext}
 use Rattle.month_multipliers.specs.Multipliers.{factorOf}
 use Rattle.discount_factors.specs.Inner.Factors.{factorIn}
 use Rattle.discounts.specs.Inner.Tables.{HoldsFactors, factorsOf}
@@ -25,7 +26,7 @@ module _ (ρ : Rounding) (factors discounts : List ℕ) (months : ℕ) (holds : 
       → tabledPrice ρ tiers d rate (factorsOf ρ months discounts) scenario ≡ tabledPrice ρ tiers d rate factors scenario
   unfolding tabledPrice factorsOf
   price-is tiers d rate scenario e hs =
-      run-ext ρ (termsOf tiers d rate) (factorIn (factorsOf ρ months discounts) scenario) (factorIn factors scenario) (d .months)
+      discounted-ext ρ (flowBy ρ (termsOf tiers d rate)) (factorIn (factorsOf ρ months discounts) scenario) (factorIn factors scenario) (d .months)
       (λ t l. let h : 7 * t + scenario < 7 * months = omega (arith, l, hs, e) in
       factor-in-suc (factorsOf ρ months discounts) scenario t
       ∙ table-getD (7 * months) (λ (i : ℕ). factorOf ρ (getD discounts i 0)) (7 * t + scenario) 0 h

@@ -14,7 +14,7 @@ use Rattle.withdrawal.proofs.MonthSurvivalLaws.{last-month}
 use Rattle.pricing.specs.declared.Run.{Run}
 use Rattle.pricing.specs.Scales.{par, couponGrowth, amountLimit}
 use Rattle.pricing.specs.Rounding.{Rounding}
-use Rattle.pricing.specs.Run.{discountedBy}
+use Rattle.pricing.specs.Run.{discountedSum, discountedBy}
 use Rattle.pricing.specs.Inner.Month.{runBy, nextRun, Small}
 use Rattle.pricing.proofs.LimitLaws.{discounted-limit}
 use Rattle.pricing.proofs.RunLaws.{run-suc, run-small}
@@ -82,5 +82,5 @@ last-price ρ tiers d rate factors scenario t e = rw e
 
 pub no-price : (ρ : Rounding) (tiers : TierTable) (d : Deposit) (rate : ℕ → ℕ) (factors : List ℕ) (scenario : ℕ) → 0 ≡ d .months
     → 0 ≡ tabledPrice ρ tiers d rate factors scenario
-unfolding tabledPrice discountedBy
+unfolding tabledPrice discountedSum
 no-price ρ tiers d rate factors scenario e = rw (← e)

@@ -13,9 +13,9 @@ use Rattle.schedule.specs.Shift.{scenarioCount}
 use Rattle.withdrawal.specs.Tiers.{TierTable}
 use Rattle.pricing.specs.Scales.{valueScale}
 use Rattle.pricing.specs.Rounding.{Rounding, down, up}
-use Rattle.pricing.specs.Run.{discountFactorBy, priceBy, valueBy}
+use Rattle.pricing.specs.Run.{flowBy, discountFactorBy, priceBy, worthBy, valueBy}
 use Rattle.pricing.proofs.RoundingLaws.{quotient-zero}
-use Rattle.pricing.proofs.RunLaws.{run-ext}
+use Rattle.pricing.proofs.FlowWidthLaws.{discounted-ext}
 use Rattle.deposits.specs.declared.Deposit.{Deposit}
 use Rattle.discount_factors.specs.Inner.Factors.{sheetYield, factorsBy, factorIn}
 use Rattle.deposits.specs.DepositTerms.{termsOf}
@@ -52,7 +52,7 @@ module _ (tiers : TierTable) (yields : List ℕ) (longest balance : ℕ) (d : De
       ≡ priceBy ρ (termsOf tiers d (shiftedPath scenario rates column)) (sheetYield yields scenario)
   unfolding tabledPrice priceBy termsOf
   price-is ρ scenario hs pos =
-      run-ext ρ (termsOf tiers d (shiftedPath scenario rates column)) (factorIn (factorsBy ρ yields longest) scenario)
+      discounted-ext ρ (flowBy ρ (termsOf tiers d (shiftedPath scenario rates column))) (factorIn (factorsBy ρ yields longest) scenario)
       (discountFactorBy ρ (sheetYield yields scenario)) (d .months)
       (λ t l. factor-is ρ yields longest scenario t hs (lt-of-lt-of-le l months-le) (lt-of-lt-of-le l (reach pos)))
 
@@ -60,7 +60,7 @@ module _ (tiers : TierTable) (yields : List ℕ) (longest balance : ℕ) (d : De
   value-is : (ρ : Rounding) (scenario : ℕ) → scenario < 7
       → tabledValue ρ tiers balance d (shiftedPath scenario rates column) (factorsBy ρ yields longest) scenario
       ≡ valueBy ρ balance (termsOf tiers d (shiftedPath scenario rates column)) (sheetYield yields scenario)
-  unfolding tabledValue valueBy
+  unfolding tabledValue valueBy worthBy
   value-is ρ scenario hs =
       ⊎-elim (λ e. rw e (quotient-zero ρ _ valueScale (lit< tt) ∙ sym (quotient-zero ρ _ valueScale (lit< tt))))
       (λ pos. rw (price-is ρ scenario hs pos)) (eq-zero-or-pos balance)

@@ -17,7 +17,7 @@ use Rattle.month_multipliers.proofs.StepLaws.{step-is, last-is, paid-pos}
 use Rattle.pricing.specs.declared.Run.{Run}
 use Rattle.pricing.specs.Scales.{par, couponGrowth, amountLimit}
 use Rattle.pricing.specs.Rounding.{Rounding, down, up}
-use Rattle.pricing.specs.Run.{balanceBy, discountedBy}
+use Rattle.pricing.specs.Run.{balanceBy, discountedSum, discountedBy}
 use Rattle.pricing.specs.Inner.Month.{runBy, Small}
 use Rattle.deposits.specs.declared.Deposit.{Deposit}
 use Rattle.deposits.specs.DepositTerms.{servicingCost, termsOf}
@@ -83,7 +83,7 @@ module _ (ρ : Rounding) (t : WithdrawalTiers) (d : Deposit) (rates : List ℕ) 
 
   -- after every number of months below all
   walked-is : (month : ℕ) → month < d .months → walkedBy ρ paid left carried whole levels discounts scenario month ≡ run month
-  unfolding walkedBy runBy balanceBy discountedBy
+  unfolding walkedBy runBy balanceBy discountedSum
   walked-is zero h = refl
   walked-is (suc month) h =
       let before = le-of-lt h in

@@ -16,7 +16,7 @@ use Rattle.pricing.specs.Scales.{par}
 use Rattle.pricing.specs.Rounding.{Rounding, up}
 use Rattle.pricing.specs.Run.{discountFactorBy}
 use Rattle.pricing.specs.Inner.Multipliers.{discountsBy, AtMost}
-use Rattle.pricing.proofs.LimitLaws.{discount-limit}
+use Rattle.pricing.proofs.FlowWidthLaws.{discount-limit}
 use Rattle.pricing.proofs.MultiplierLaws.{discount-pos}
 use Rattle.discount_factors.specs.Inner.Factors.{sheetYield, yieldFactors, monthFactors, factorsBy, factorIn, AtMostPar}
 

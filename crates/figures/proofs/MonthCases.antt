@@ -9,7 +9,7 @@ use Rattle.withdrawal.specs.Gain.{gain, cost, atMost}
 use Rattle.withdrawal.specs.Tiers.{houseTiers}
 use Rattle.withdrawal.specs.MonthSurvival.{brokered, accountOf, earlySurvival, monthSurvival}
 use Rattle.pricing.specs.Rounding.{down, up, quotient}
-use Rattle.pricing.specs.Run.{balanceBy, outflowBy, flowBy, discountBy, discountFactorBy, discountedBy, priceBy}
+use Rattle.pricing.specs.Run.{balanceBy, outflowBy, flowBy, discountBy, discountFactorBy, discountedSum, priceBy}
 use Rattle.deposits.specs.DepositTerms.{servicingCost, termsOf}
 use Rattle.figures.specs.Starred.{houseTerms, flat}
 
@@ -29,5 +29,5 @@ prices-hold : priceBy down (houseTerms true 600 300 200 2) (flat 0)
     ∷ priceBy up (houseTerms true 600 300 200 3) (flat 0)
     ∷ []
     ≡ 1001038259 ∷ 1001038260 ∷ 1000519518 ∷ 1000519521 ∷ []
-unfolding gain cost atMost earlySurvival monthSurvival quotient balanceBy outflowBy flowBy discountBy discountFactorBy discountedBy priceBy accountOf servicingCost termsOf houseTerms flat
+unfolding gain cost atMost earlySurvival monthSurvival quotient balanceBy outflowBy flowBy discountBy discountFactorBy discountedSum priceBy accountOf servicingCost termsOf houseTerms flat
 prices-hold = refl

@@ -11,7 +11,7 @@ use Rattle.withdrawal.specs.Tiers.{houseTiers, tier, reached, firstReached, ann
 use Rattle.withdrawal.specs.MonthSurvival.{accountOf, earlySurvival, monthSurvival}
 use Rattle.withdrawal.proofs.SurvivalLaws.{survival-of-zero}
 use Rattle.pricing.specs.Rounding.{quotient}
-use Rattle.pricing.specs.Run.{balanceBy, outflowBy, flowBy, discountBy, discountFactorBy, discountedBy, priceBy, valueBy}
+use Rattle.pricing.specs.Run.{balanceBy, outflowBy, flowBy, discountBy, discountFactorBy, discountedSum, priceBy, worthBy, valueBy}
 use Rattle.deposits.specs.DepositTerms.{servicingCost, termsOf}
 use Rattle.figures.specs.Starred.{StarredFigures, houseTerms, flat}
 
@@ -37,7 +37,7 @@ edge-missed n h =
     )
 
 pub starred : StarredFigures
-unfolding sum apportion sharesFrom cumulativeShare accountParts gain cost atMost houseTiers tier reached firstReached annualWithdrawal earlySurvival monthSurvival quotient balanceBy outflowBy flowBy discountBy discountFactorBy discountedBy priceBy valueBy accountOf servicingCost termsOf houseTerms flat
+unfolding sum apportion sharesFrom cumulativeShare accountParts gain cost atMost houseTiers tier reached firstReached annualWithdrawal earlySurvival monthSurvival quotient balanceBy outflowBy flowBy discountBy discountFactorBy discountedSum priceBy worthBy valueBy accountOf servicingCost termsOf houseTerms flat
 starred =
     record {
       brokered-shares = refl;

@@ -19,7 +19,7 @@ use Rattle.totals.specs.RowTotals.{valueLimit}
 use Rattle.pricing.specs.Bounded.{Bounded}
 use Rattle.pricing.specs.Scales.{valueScale}
 use Rattle.pricing.specs.Rounding.{Rounding, down, up}
-use Rattle.pricing.specs.Run.{valueBy}
+use Rattle.pricing.specs.Run.{worthBy, valueBy}
 use Rattle.pricing.proofs.EnclosureLaws.{value-encloses}
 use Rattle.pricing.proofs.WidthLaws.{value-width}
 use Rattle.pricing.proofs.RoundingLaws.{quotient-le}
@@ -64,7 +64,7 @@ module _ (k : Contents) (place : ℕ) (held : SubBalance) where
 
     -- no value is above the limit of a value
     pub held-le : held .balance ≤ balanceLimit → (ρ : Rounding) (scenario : ℕ) → valueHeld ρ k scenario place held ≤ valueLimit
-    unfolding valueHeld valueBy
+    unfolding valueHeld valueBy worthBy
     held-le small ρ scenario =
         quotient-le ρ _ valueScale valueLimit (lit< tt)
         (omega (arith, mul-le-mul small (price-limit (termsHeld k scenario place held) (monthYield k scenario) (terms-bounded scenario) ρ)))

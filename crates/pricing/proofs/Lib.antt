@@ -1,10 +1,12 @@
 pub mod RoundingLaws
 pub mod ProductLaws
+pub mod FlowLaws
 pub mod EnclosureLaws
 pub mod MonthLaws
 pub mod AmountLaws
 pub mod PaymentLaws
 pub mod DiscountLaws
+pub mod FlowWidthLaws
 pub mod WidthLaws
 pub mod LimitLaws
 pub mod MultiplierLaws

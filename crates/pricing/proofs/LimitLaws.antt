@@ -1,21 +1,20 @@
 -- No figure of the run leaves the limits of 64-bit products, for terms within the limits. Assumes nothing.
-use Prim.Native.Nat.{ℕ, zero, suc, _+_, _*_, _≤_, zero-le}
+use Prim.Native.Nat.{ℕ, zero, suc, _+_, _≤_, zero-le}
 use mathlib.Core.Logic.{⊎-elim}
-use lib.Dec.{lit<}
-use native.Mathlib.Nat.{le-refl, le-trans, add-le-add, eq-or-lt-of-le, mul-le-mul-left}
+use native.Mathlib.Nat.{le-refl, le-trans, eq-or-lt-of-le}
 use native.Mathlib.Omega.{arith}
 use Rattle.lists.specs.Sums.{sumWhere, everywhere}
 use Rattle.lists.proofs.SumLaws.{sumWhere-mono}
 use Rattle.fraction.proofs.EnclosureLaws.{encloses-le}
 use Rattle.schedule.specs.Limits.{monthsLimit}
-use Rattle.pricing.specs.Scales.{par, rateScale, amountLimit}
+use Rattle.pricing.specs.Scales.{par, amountLimit}
 use Rattle.pricing.specs.Terms.{Terms}
 use Rattle.pricing.specs.Bounded.{Bounded}
 use Rattle.pricing.specs.Rounding.{Rounding, down, up}
-use Rattle.pricing.specs.Run.{balanceBy, flowBy, discountBy, discountFactorBy, discountedBy, priceBy}
-use Rattle.pricing.proofs.RoundingLaws.{quotient-le}
+use Rattle.pricing.specs.Run.{balanceBy, flowBy, discountFactorBy, discountedBy, priceBy}
 use Rattle.pricing.proofs.EnclosureLaws.{balance-encloses, flow-encloses}
 use Rattle.pricing.proofs.AmountLaws.{outflowsBy, amount-le, amount-limit}
+use Rattle.pricing.proofs.FlowWidthLaws.{discount-limit, discounted-le-paid}
 use Rattle.pricing.proofs.PaymentLaws.{paymentsBy, payments-before, payments-last}
 
 -- a bound of the upper figure bounds the lower one too
@@ -42,23 +41,9 @@ payments-limit k b t h =
     either (λ (ρ : Rounding). paymentsBy ρ k t) amountLimit
     (sumWhere-mono everywhere (flowBy down k) (flowBy up k) t (λ i l. encloses-le (flow-encloses k i))) (upper-payments k b t h)
 
-pub discount-limit : (z n : ℕ) (ρ : Rounding) → discountBy ρ z n ≤ par
-unfolding discountBy
-discount-limit z zero ρ = le-refl par
-discount-limit z (suc n) ρ =
-    quotient-le ρ (discountBy ρ z n * rateScale) (rateScale + z) par (omega arith) (omega (arith, discount-limit z n ρ))
-
--- discounted by factors of at most par, the flows are at most the flows themselves
-discounted-le-payments : (k : Terms) (df : ℕ → ℕ) → ((t : ℕ) → df t ≤ par) → (t : ℕ) (ρ : Rounding) → discountedBy ρ k df t ≤ paymentsBy ρ k t
-unfolding sumWhere discountedBy
-discounted-le-payments k df hd zero ρ = zero-le
-discounted-le-payments k df hd (suc t) ρ =
-    add-le-add (discounted-le-payments k df hd t ρ)
-    (quotient-le ρ (flowBy ρ k t * df (suc t)) par (flowBy ρ k t) (lit< tt) (mul-le-mul-left (flowBy ρ k t) (hd (suc t))))
-
 pub discounted-limit : (k : Terms) (df : ℕ → ℕ) → ((t : ℕ) → df t ≤ par) → Bounded k → (t : ℕ) → t ≤ k .months → (ρ : Rounding)
     → discountedBy ρ k df t ≤ amountLimit
-discounted-limit k df hd b t h ρ = le-trans (discounted-le-payments k df hd t ρ) (payments-limit k b t h ρ)
+discounted-limit k df hd b t h ρ = le-trans (discounted-le-paid ρ (flowBy ρ k) df hd t) (payments-limit k b t h ρ)
 
 pub price-limit : (k : Terms) (z : ℕ → ℕ) → Bounded k → (ρ : Rounding) → priceBy ρ k z ≤ amountLimit
 unfolding priceBy discountFactorBy

@@ -14,7 +14,7 @@ use Rattle.pricing.specs.Rounding.{Rounding, down, up, quotient}
 use Rattle.pricing.specs.Run.{discountBy}
 use Rattle.pricing.specs.Inner.Multipliers.{multiplierScale, multiplierBy, multipliersBy, nextBy, nextAllBy, firstBy, chainBy, chainedBy, factorBy, discountsBy, AtMost}
 use Rattle.pricing.proofs.RoundingLaws.{ceiling-ge, ceiling-lt}
-use Rattle.pricing.proofs.LimitLaws.{discount-limit}
+use Rattle.pricing.proofs.FlowWidthLaws.{discount-limit}
 
 -- x a / w by a multiplier m in units of 1 / s
 module _ (x a w s m : ℕ) (pos : 0 < w) (some : 0 < s) where

@@ -1,13 +1,13 @@
 -- The run as a state: where it begins, one month on, and that each month of a deposit within the limits fits 64 bits. Assumes nothing.
-use Prim.Native.Nat.{ℕ, zero, suc, _≤_, _<_}
+use Prim.Native.Nat.{ℕ, suc, _≤_, _<_}
 use mathlib.Core.Path.{_≡_, refl}
 use lib.Dec.{eqb}
-use native.Mathlib.Nat.{le-of-lt, le-trans, lt-trans, lt-suc-self}
+use native.Mathlib.Nat.{le-of-lt, le-trans}
 use Rattle.pricing.specs.Scales.{par}
 use Rattle.pricing.specs.Terms.{Terms}
 use Rattle.pricing.specs.Bounded.{Bounded}
 use Rattle.pricing.specs.Rounding.{Rounding}
-use Rattle.pricing.specs.Run.{balanceBy, outflowBy, flowBy, discountedBy}
+use Rattle.pricing.specs.Run.{balanceBy, outflowBy, flowBy, discountedSum}
 use Rattle.pricing.specs.Inner.Month.{runBy, nextBalance, nextFlow, nextRun, Small}
 use Rattle.pricing.proofs.LimitLaws.{balance-limit, discounted-limit}
 
@@ -15,16 +15,8 @@ use Rattle.pricing.proofs.LimitLaws.{balance-limit, discounted-limit}
 pub run-suc : (ρ : Rounding) (k : Terms) (df : ℕ → ℕ) (t : ℕ)
     → nextRun ρ (k .growth) (k .servicing) (k .survival (suc t)) (df (suc t)) (eqb (suc t) (k .months)) (runBy ρ k df t)
     ≡ runBy ρ k df (suc t)
-unfolding runBy nextRun nextFlow nextBalance balanceBy outflowBy flowBy discountedBy
+unfolding runBy nextRun nextFlow nextBalance balanceBy outflowBy flowBy discountedSum
 run-suc ρ k df t = refl
-
--- discount factors that agree over the months give the same run
-pub run-ext : (ρ : Rounding) (k : Terms) (df df′ : ℕ → ℕ) (n : ℕ) → ((t : ℕ) → t < n → df (suc t) ≡ df′ (suc t))
-    → discountedBy ρ k df n ≡ discountedBy ρ k df′ n
-unfolding discountedBy
-run-ext ρ k df df′ zero h = refl
-run-ext ρ k df df′ (suc n) h =
-    rw (run-ext ρ k df df′ n (λ t l. h t (lt-trans l (lt-suc-self n))), h n (lt-suc-self n))
 
 -- the sizes of a month, with discount factors of at most par
 pub run-small : (ρ : Rounding) (k : Terms) (df : ℕ → ℕ) → Bounded k → ((t : ℕ) → df t ≤ par) → (t : ℕ) → t < k .months

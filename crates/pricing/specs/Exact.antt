@@ -30,14 +30,18 @@ exactDiscount z (suc n) = scaled (exactDiscount z n) rateScale (rateScale + z)
 unfoldable pub exactDiscountFactor : (ℕ → ℕ) → ℕ → Fraction
 exactDiscountFactor z t = exactDiscount (z t) t
 
--- the sum of flow × df over months 1 to t, Equation 6.A.1 (01:58)
-unfoldable pub exactPriceTo : Terms → (ℕ → ℕ) → ℕ → Fraction
-exactPriceTo k z zero = whole 0
-exactPriceTo k z (suc t) = plus (exactPriceTo k z t) (product (exactFlow k t) (exactDiscountFactor z (suc t)))
+-- the sum of flow × df over months 1 to t, Equation 6.A.1 (01:58), for any flows: flow t is that of month t + 1
+unfoldable pub exactDiscounted : (ℕ → Fraction) → (ℕ → ℕ) → ℕ → Fraction
+exactDiscounted flow z zero = whole 0
+exactDiscounted flow z (suc t) = plus (exactDiscounted flow z t) (product (flow t) (exactDiscountFactor z (suc t)))
 
+-- the price of a deposit: its flows to month T
 unfoldable pub exactPrice : Terms → (ℕ → ℕ) → Fraction
-exactPrice k z = exactPriceTo k z (k .months)
+exactPrice k z = exactDiscounted (exactFlow k) z (k .months)
 
--- value in dollars of a balance in thousands of dollars (01:58): balance × price / 10^6
+-- value in dollars of a balance in thousands of dollars at a price in billionths (01:58): balance × price / 10^6
+unfoldable pub exactWorth : ℕ → Fraction → Fraction
+exactWorth balance price = scaled price balance valueScale
+
 unfoldable pub exactValue : ℕ → Terms → (ℕ → ℕ) → Fraction
-exactValue balance k z = scaled (exactPrice k z) balance valueScale
+exactValue balance k z = exactWorth balance (exactPrice k z)

@@ -29,15 +29,22 @@ discountBy ρ z (suc n) = quotient ρ (discountBy ρ z n * rateScale) (rateScale
 unfoldable pub discountFactorBy : Rounding → (ℕ → ℕ) → ℕ → ℕ
 discountFactorBy ρ z t = discountBy ρ (z t) t
 
--- the sum over months 1 to t of flow × df / 10^9, each product rounded
-unfoldable pub discountedBy : Rounding → Terms → (ℕ → ℕ) → ℕ → ℕ
-discountedBy ρ k df zero = 0
-discountedBy ρ k df (suc t) = discountedBy ρ k df t + quotient ρ (flowBy ρ k t * df (suc t)) par
+-- the sum over months 1 to t of flow × df / 10^9, each product rounded, for any flows: flow t is that of month t + 1
+unfoldable pub discountedSum : Rounding → (ℕ → ℕ) → (ℕ → ℕ) → ℕ → ℕ
+discountedSum ρ flow df zero = 0
+discountedSum ρ flow df (suc t) = discountedSum ρ flow df t + quotient ρ (flow t * df (suc t)) par
+
+-- the same of a deposit's flows
+abbrev pub discountedBy : Rounding → Terms → (ℕ → ℕ) → ℕ → ℕ
+discountedBy ρ k = discountedSum ρ (flowBy ρ k)
 
 -- the price: all T months, by their discount factors
 unfoldable pub priceBy : Rounding → Terms → (ℕ → ℕ) → ℕ
 priceBy ρ k z = discountedBy ρ k (discountFactorBy ρ z) (k .months)
 
--- value in dollars of a balance in thousands of dollars, rounded at the end
+-- value in dollars of a balance in thousands of dollars at a price in billionths, rounded at the end
+unfoldable pub worthBy : Rounding → ℕ → ℕ → ℕ
+worthBy ρ balance price = quotient ρ (balance * price) valueScale
+
 unfoldable pub valueBy : Rounding → ℕ → Terms → (ℕ → ℕ) → ℕ
-valueBy ρ balance k z = quotient ρ (balance * priceBy ρ k z) valueScale
+valueBy ρ balance k z = worthBy ρ balance (priceBy ρ k z)
