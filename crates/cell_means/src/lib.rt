@@ -1,6 +1,7 @@
 // What the cells of a position hold: its balance, and the means of its coupons and remaining months.
 use filled_cells::FormCell;
 use filled_cells::Totals;
+use schedule::TOTAL_CELL;
 use schedule::tables::entry_at;
 ghost use mathlib.Core.Path.{_≡_};
 ghost use Prim.Native.Nat.{_<_, _^_};
@@ -35,7 +36,7 @@ pub fn value_of(totals: Totals, e: FormCell) -> u64
 pub fn is_present(totals: Totals, e: FormCell) -> bool
     ensures { λ r. ⌜ r ≡ isPresent totals e ⌝ }
 {
-    if e.cell == 645 {
+    if e.cell == TOTAL_CELL {
         return true;
     }
     balance_at(totals, e.position) != 0

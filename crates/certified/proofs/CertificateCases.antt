@@ -16,7 +16,7 @@ use Rattle.certificate_terms.specs.Terms.{certificateCount, dateAt, certificate
 use Rattle.certificate_terms.specs.Faults.{overLimit, noSuchDay, notOutstanding, tooManyMonths, ownVerdict}
 use Rattle.filled_cells.specs.declared.CellValue.{CellValue}
 use Rattle.filled_cells.specs.Means.{mean, balanceAt, couponAt, monthsAt}
-use Rattle.filled_cells.specs.Cells.{isFilled, positionWith, formCell, formCells, isPresent, valueOf, cellValue, cellsOf}
+use Rattle.filled_cells.specs.Cells.{isFilled, isOfPosition, positionWith, formCell, formCells, isPresent, valueOf, cellValue, cellsOf}
 use Rattle.certificate_sums.specs.Sums.{standsAt, positionSum, totalsOf}
 use Rattle.certificate_sums.specs.EachVerdict.{sumOverLimit, certificateVerdict, eachVerdict}
 use Rattle.certificates.specs.Verdict.{countVerdict, certificatesVerdict}
@@ -125,5 +125,5 @@ cells-hold :
     ∷ (cell 602 5 ∷ cell 603 6 ∷ cell 606 5 ∷ cell 607 6 ∷ cell 609 1 ∷ cell 610 1 ∷ cell 645 11 ∷ [])
     ∷ []
     ∷ []
-unfolding filledCells cellsOf cellValue valueOf isPresent formCells formCell positionWith isFilled totalsOf balanceAt couponAt monthsAt mean sum those contains cellClass brokeredCell penaltyBalanceCell penaltyMonthsCell unusedCells certificatesVerdict countVerdict eachVerdict certificateVerdict ownVerdict sumOverLimit certificateCount certificateAt dateAt overLimit noSuchDay notOutstanding tooManyMonths positionSum standsAt positionOf positionFor columnOf isDate within lastDay isLeap onOrAfter movedOn dayIn monthsBetween firstFrom withinRow positionAt positions position sumWhere tableFrom joined refused accepted refusedIf firstRefusal firstOf
+unfolding filledCells cellsOf cellValue valueOf isPresent formCells formCell isOfPosition positionWith isFilled totalsOf balanceAt couponAt monthsAt mean sum those contains cellClass brokeredCell penaltyBalanceCell penaltyMonthsCell unusedCells certificatesVerdict countVerdict eachVerdict certificateVerdict ownVerdict sumOverLimit certificateCount certificateAt dateAt overLimit noSuchDay notOutstanding tooManyMonths positionSum standsAt positionOf positionFor columnOf isDate within lastDay isLeap onOrAfter movedOn dayIn monthsBetween firstFrom withinRow positionAt positions position sumWhere tableFrom joined refused accepted refusedIf firstRefusal firstOf
 cells-hold = refl

@@ -18,7 +18,7 @@ use Rattle.calendar.specs.declared.Date.{Date}
 use Rattle.certificate_terms.specs.Terms.{certificateCount}
 use Rattle.filled_cells.specs.declared.Totals.{Totals}
 use Rattle.filled_cells.specs.Means.{balanceAt, couponAt, monthsAt}
-use Rattle.filled_cells.specs.Cells.{isFilled, positionWith, formCell, isPresent, valueOf, cellsOf}
+use Rattle.filled_cells.specs.Cells.{isFilled, isOfPosition, positionWith, formCell, isPresent, valueOf, cellsOf}
 use Rattle.certificate_sums.specs.Sums.{positionSum, balanceOf, totalsOf}
 use Rattle.certificates.specs.Verdict.{certificatesVerdict}
 use Rattle.certificates.specs.Filled.{filledCells}
@@ -51,15 +51,15 @@ belonging cell class t i h =
     }
 
 balance-belongs : (i : ℕ) → i < 9 → Belongs (positionAt i .balance) 1 i
-unfolding allFrom cellClass contains firstFrom positionWith positions positionAt position
+unfolding allFrom cellClass contains firstFrom isOfPosition positionWith positions positionAt position
 balance-belongs i h = belonging (λ (j : ℕ). positionAt j .balance) 1 tt i h
 
 coupon-belongs : (i : ℕ) → i < 9 → Belongs (positionAt i .coupon) 2 i
-unfolding allFrom cellClass contains firstFrom positionWith positions positionAt position
+unfolding allFrom cellClass contains firstFrom isOfPosition positionWith positions positionAt position
 coupon-belongs i h = belonging (λ (j : ℕ). positionAt j .coupon) 2 tt i h
 
 months-belongs : (i : ℕ) → i < 9 → Belongs (positionAt i .months) 3 i
-unfolding allFrom cellClass contains firstFrom positionWith positions positionAt position
+unfolding allFrom cellClass contains firstFrom isOfPosition positionWith positions positionAt position
 months-belongs i h = belonging (λ (j : ℕ). positionAt j .months) 3 tt i h
 
 -- a value that is handed back only where the balance is not 0

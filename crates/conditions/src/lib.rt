@@ -8,6 +8,7 @@ use positions::position;
 use positions::within_row;
 use schedule::CELLS;
 use schedule::Position;
+use schedule::TOTAL_CELL;
 ghost use mathlib.Core.Path.{_≡_};
 ghost use Rattle.answers.specs.Answers.{verdictOf};
 ghost use Rattle.column_sums.specs.Inner.Sums.{BalancesWithin, columnSums};
@@ -83,9 +84,9 @@ fn check_total(cells: &[u64; CELLS], totals: &[u64; 3]) -> Answer
     requires { ⌜ BalancesWithin (now cells) × (now totals ≡ columnSums (now cells) .totals) ⌝ }
     ensures { λ r. ⌜ verdictOf r ≡ totalVerdict (now (cells .entry)) ⌝ }
 {
-    if cell_value(cells, 645) == totals[0] + totals[1] + totals[2] {
+    if cell_value(cells, TOTAL_CELL) == totals[0] + totals[1] + totals[2] {
         Answer::Accepted
     } else {
-        Answer::TotalDiffers(645)
+        Answer::TotalDiffers(TOTAL_CELL)
     }
 }

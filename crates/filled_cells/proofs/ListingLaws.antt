@@ -3,21 +3,20 @@ use Prim.Native.Nat.{ℕ, suc, _+_, _-_, _≤_, _<_}
 use native.Mathlib.Numerals.{add-one}
 use native.Mathlib.Omega.{arith}
 use mathlib.Core.Path.{_≡_, refl, sym, ap, _∙_}
-use mathlib.Core.Bool.{Bool, true, false, cond}
+use mathlib.Core.Bool.{Bool, true, false, cond, _&&_}
 use mathlib.Core.List.{List, [], _∷_, map, _++_, append-nil}
 use borrow.Author.Tests.{ne-eqb}
-use lib.ListN.{length, drop, set, replicate, length-append, drop-of-length-le, length-map}
-use lib.Seq.{drop-cons, set-at, append-snoc}
+use lib.ListN.{length, set, replicate, length-append, length-map}
+use lib.Seq.{set-at, append-snoc}
 use Rattle.lists.specs.Sums.{sum}
 use Rattle.lists.specs.Tables.{tableFrom, those, padded, contains}
-use Rattle.schedule.specs.Cells.{position, positions, positionAt, brokeredCell, penaltyBalanceCell, penaltyMonthsCell, unusedCells}
+use Rattle.schedule.specs.Cells.{firstCell, totalCell, position, positions, positionAt, brokeredCell, penaltyBalanceCell, penaltyMonthsCell, unusedCells}
 use Rattle.schedule.specs.Limits.{cellClass}
 use Rattle.filled_cells.specs.declared.Totals.{Totals}
 use Rattle.filled_cells.specs.declared.FormCell.{FormCell}
 use Rattle.filled_cells.specs.declared.CellValue.{CellValue}
 use Rattle.filled_cells.specs.Means.{balanceAt, couponAt, monthsAt}
-use Rattle.filled_cells.specs.Cells.{isFilled, positionWith, formCell, formCells, isPresent, valueOf, cellValue, cellsOf, cellArray, noCell}
-use Rattle.filled_cells.specs.Inner.Listing.{formCellAt}
+use Rattle.filled_cells.specs.Cells.{isFilled, formCount, isOfPosition, positionWith, formCell, formCells, isPresent, valueOf, cellValue, cellsOf, cellArray, noCell}
 use Rattle.lists.specs.Ranges.{within, firstFrom}
 
 -- what a cell holds, class by class
@@ -40,87 +39,8 @@ module _ (t : Totals) (e : FormCell) where
 
 -- there are 28 cells
 form-length : length formCells ≡ 28
-unfolding cellClass contains firstFrom position positions positionAt those tableFrom brokeredCell penaltyBalanceCell penaltyMonthsCell unusedCells within isFilled positionWith formCell formCells
+unfolding cellClass contains firstFrom position positions positionAt those tableFrom brokeredCell penaltyBalanceCell penaltyMonthsCell unusedCells within isFilled isOfPosition positionWith formCell formCells
 form-length = refl
-
-module _ (t : Totals) where
-  -- the cells from an index of the table on
-  unfoldable pub cellsFrom : ℕ → List CellValue
-  cellsFrom index = map (cellValue t) (those (isPresent t) (drop index formCells))
-
-  from-one : (e : FormCell) (es : List FormCell) (b : Bool)
-      → map (cellValue t) (cond b (e ∷ es) es) ≡ cond b (cellValue t e ∷ map (cellValue t) es) (map (cellValue t) es)
-  from-one e es true = refl
-  from-one e es false = refl
-
-  from-suc : (index : ℕ) → index < 28
-      → cellsFrom index ≡ cond (isPresent t (formCellAt index)) (cellValue t (formCellAt index) ∷ cellsFrom (index + 1)) (cellsFrom (index + 1))
-  unfolding cellsFrom those formCellAt
-  from-suc index h =
-      let long : index < length formCells = rw form-length h in
-      rw (drop-cons formCells index (record { cell = 0; class = 0; position = 0 }) long, add-one)
-      (from-one (formCellAt index) (those (isPresent t) (drop (suc index) formCells)) (isPresent t (formCellAt index)))
-
-  -- the cells before an index of the table are listed, the rest of 28 entries is empty
-  pub record Listing (cells : List CellValue) (count index : ℕ) : Type 0 where
-    pub sofar : List CellValue
-    pub long : length sofar ≡ count
-    pub within : count ≤ index
-    pub most : index ≤ 28
-    pub stored : cells ≡ sofar ++ replicate (28 - count) noCell
-    pub rest : sofar ++ cellsFrom index ≡ cellsOf t
-
-  -- before the first
-  pub listing-start : Listing (replicate 28 noCell) 0 0
-  unfolding cellsFrom cellsOf
-  listing-start = record { sofar = []; long = refl; within = omega arith; most = omega arith; stored = refl; rest = refl }
-
-  module _ (cells : List CellValue) (count index : ℕ) (at : Listing cells count index) (h : index < 28) where
-    -- a cell that is handed back
-    pub listing-present : (x : CellValue) → x ≡ cellValue t (formCellAt index) → isPresent t (formCellAt index) ≡ true
-        → Listing (set cells count x) (count + 1) (index + 1)
-    listing-present x e p =
-        let more : 28 - count ≡ suc (28 - (count + 1)) = omega (arith, at .within) in
-        let next : cellsFrom index ≡ x ∷ cellsFrom (index + 1) = from-suc index h ∙ rw (p, e) in
-        let empty : List CellValue = replicate (28 - (count + 1)) noCell in
-        record {
-          sofar = at .sofar ++ (x ∷ []);
-          long = length-append (at .sofar) (x ∷ []) ∙ ap (λ (n : ℕ). n + 1) (at .long);
-          within = omega (arith, at .within);
-          most = omega arith;
-          stored =
-              rw (at .stored, more) (set-at (at .sofar) noCell empty x count (at .long) ∙ sym (append-snoc (at .sofar) x empty));
-          rest = append-snoc (at .sofar) x (cellsFrom (index + 1)) ∙ rw (sym next) (at .rest);
-        }
-
-    -- a cell that stays absent
-    pub listing-absent : isPresent t (formCellAt index) ≡ false → Listing cells count (index + 1)
-    listing-absent p =
-        let next : cellsFrom index ≡ cellsFrom (index + 1) = from-suc index h ∙ rw p in
-        record {
-          sofar = at .sofar;
-          long = at .long;
-          within = omega (arith, at .within);
-          most = omega arith;
-          stored = at .stored;
-          rest = rw (sym next) (at .rest);
-        }
-
-  none-left : cellsFrom 28 ≡ []
-  unfolding cellsFrom those
-  none-left =
-      let long : length formCells ≤ 28 = rw form-length (omega arith) in
-      rw (drop-of-length-le formCells long)
-
-  -- all cells
-  pub listing-done : (cells : List CellValue) (count index : ℕ) → Listing cells count index → 28 ≤ index
-      → (count ≡ length (cellsOf t)) × (cells ≡ cellArray (cellsOf t))
-  unfolding padded
-  listing-done cells count index at h =
-      let last : index ≡ 28 = omega (arith, at .most) in
-      let all : at .sofar ≡ cellsOf t = sym (append-nil (at .sofar)) ∙ rw (sym none-left, sym last) (at .rest) in
-      let counted : count ≡ length (cellsOf t) = sym (at .long) ∙ ap length all in
-      (counted, at .stored ∙ rw (all, counted))
 
 -- as many as pass a test, at most all
 those-le : (test : FormCell → Bool) (es : List FormCell) → length (those test es) ≤ length es
@@ -136,3 +56,97 @@ those-le test (e ∷ es) = by (test e) (those-le test es)
 pub cells-count : (t : Totals) → length (cellsOf t) ≤ 28
 unfolding cellsOf
 cells-count t = rw length-map (omega (arith, those-le (isPresent t) formCells, form-length))
+
+module _ (t : Totals) where
+  -- the cells of the sums among n numbers from one on
+  unfoldable pub cellsFrom : ℕ → ℕ → List CellValue
+  cellsFrom cell n = map (cellValue t) (those (isPresent t) (map formCell (those isFilled (tableFrom cell n (λ (m : ℕ). m)))))
+
+  -- a cell is listed: certificates can fill it, and it is handed back
+  abbrev pub listed : ℕ → Bool
+  listed cell = isFilled cell && isPresent t (formCell cell)
+
+  from-suc : (cell n : ℕ) → cellsFrom cell (suc n) ≡ cond (listed cell) (cellValue t (formCell cell) ∷ cellsFrom (suc cell) n) (cellsFrom (suc cell) n)
+  unfolding cellsFrom those tableFrom
+  from-suc cell n = by (isFilled cell) (isPresent t (formCell cell)) refl
+    where
+      rest : List ℕ
+      rest = those isFilled (tableFrom (suc cell) n (λ (m : ℕ). m))
+
+      by : (x y : Bool) → isPresent t (formCell cell) ≡ y
+          → map (cellValue t) (those (isPresent t) (map formCell (cond x (cell ∷ rest) rest)))
+          ≡ cond (x && y) (cellValue t (formCell cell) ∷ map (cellValue t) (those (isPresent t) (map formCell rest)))
+          (map (cellValue t) (those (isPresent t) (map formCell rest)))
+      by true true e = rw e
+      by true false e = rw e
+      by false y e = refl
+
+  -- the cells before a number are listed, the rest of 28 entries is empty
+  pub record Listing (cells : List CellValue) (count cell : ℕ) : Type 0 where
+    pub sofar : List CellValue
+    pub left : ℕ
+    pub long : length sofar ≡ count
+    pub through : cell + left ≡ firstCell + formCount
+    pub stored : cells ≡ sofar ++ replicate (28 - count) noCell
+    pub rest : sofar ++ cellsFrom cell left ≡ cellsOf t
+
+  -- before the first
+  pub listing-start : Listing (replicate 28 noCell) 0 firstCell
+  unfolding cellsFrom cellsOf formCells
+  listing-start = record { sofar = []; left = formCount; long = refl; through = refl; stored = refl; rest = refl }
+
+  module _ (cells : List CellValue) (count cell : ℕ) (at : Listing cells count cell) (h : cell ≤ totalCell) where
+    -- one number less is left
+    abbrev fewer : ℕ
+    fewer = at .left - 1
+
+    more : at .left ≡ suc fewer
+    more = omega (arith, at .through)
+
+    next : cellsFrom cell (at .left) ≡ cond (listed cell) (cellValue t (formCell cell) ∷ cellsFrom (cell + 1) fewer) (cellsFrom (cell + 1) fewer)
+    next = ap (cellsFrom cell) more ∙ rw add-one (from-suc cell fewer)
+
+    -- a cell that is listed has room: no more than 28 are
+    pub listing-room : listed cell ≡ true → count < 28
+    listing-room p =
+        let counted : length (at .sofar ++ cellsFrom cell (at .left)) ≡ length (cellsOf t) = ap length (at .rest) in
+        omega (arith, cells-count t, at .long, rw (next, p, length-append) at counted)
+
+    pub listing-present : (x : CellValue) → x ≡ cellValue t (formCell cell) → listed cell ≡ true → Listing (set cells count x) (count + 1) (cell + 1)
+    listing-present x e p =
+        let room = listing-room p in
+        let behind : 28 - count ≡ suc (28 - (count + 1)) = omega (arith, room) in
+        let here : cellsFrom cell (at .left) ≡ x ∷ cellsFrom (cell + 1) fewer = next ∙ rw (p, e) in
+        let empty : List CellValue = replicate (28 - (count + 1)) noCell in
+        record {
+          sofar = at .sofar ++ (x ∷ []);
+          left = fewer;
+          long = length-append (at .sofar) (x ∷ []) ∙ ap (λ (n : ℕ). n + 1) (at .long);
+          through = omega (arith, at .through, more);
+          stored =
+              rw (at .stored, behind) (set-at (at .sofar) noCell empty x count (at .long) ∙ sym (append-snoc (at .sofar) x empty));
+          rest = append-snoc (at .sofar) x (cellsFrom (cell + 1) fewer) ∙ rw (sym here) (at .rest);
+        }
+
+    -- a cell that stays absent
+    pub listing-absent : listed cell ≡ false → Listing cells count (cell + 1)
+    listing-absent p =
+        let same : cellsFrom cell (at .left) ≡ cellsFrom (cell + 1) fewer = next ∙ rw p in
+        record {
+          sofar = at .sofar;
+          left = fewer;
+          long = at .long;
+          through = omega (arith, at .through, more);
+          stored = at .stored;
+          rest = rw (sym same) (at .rest);
+        }
+
+  -- all cells
+  pub listing-done : (cells : List CellValue) (count cell : ℕ) → Listing cells count cell → totalCell < cell
+      → (count ≡ length (cellsOf t)) × (cells ≡ cellArray (cellsOf t))
+  unfolding padded cellsFrom those tableFrom
+  listing-done cells count cell at h =
+      let none : at .left ≡ 0 = omega (arith, at .through) in
+      let all : at .sofar ≡ cellsOf t = sym (append-nil (at .sofar)) ∙ rw none at (at .rest) in
+      let counted : count ≡ length (cellsOf t) = sym (at .long) ∙ ap length all in
+      (counted, at .stored ∙ rw (all, counted))

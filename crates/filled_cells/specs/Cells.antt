@@ -6,7 +6,7 @@ use mathlib.Core.List.{List, map}
 use lib.Dec.{eqb}
 use Rattle.lists.specs.Sums.{sum}
 use Rattle.lists.specs.Tables.{tableFrom, those, padded}
-use Rattle.schedule.specs.Cells.{positionAt, totalCell}
+use Rattle.schedule.specs.Cells.{positionAt, firstCell, totalCell}
 use Rattle.schedule.specs.Limits.{cellClass}
 use Rattle.filled_cells.specs.declared.Totals.{Totals}
 use Rattle.filled_cells.specs.declared.FormCell.{FormCell}
@@ -18,19 +18,25 @@ use Rattle.lists.specs.Ranges.{within, firstFrom}
 unfoldable pub isFilled : ℕ → Bool
 isFilled cell = within 1 3 (cellClass cell) || eqb (cellClass cell) 6
 
+-- so many numbers of cells go from the first to the total
+abbrev pub formCount : ℕ
+formCount = 45
+
+-- a cell is the balance, the WAC or the WARM of the position at an index
+unfoldable pub isOfPosition : ℕ → ℕ → Bool
+isOfPosition cell i = eqb (positionAt i .balance) cell || (eqb (positionAt i .coupon) cell || eqb (positionAt i .months) cell)
+
 -- the index, 0 to 8, of the position that a cell belongs to; 9 for the total
 unfoldable pub positionWith : ℕ → ℕ
-positionWith cell =
-    firstFrom 0 9
-    (λ (i : ℕ). eqb (positionAt i .balance) cell || (eqb (positionAt i .coupon) cell || eqb (positionAt i .months) cell))
+positionWith cell = firstFrom 0 9 (isOfPosition cell)
 
 -- a cell with its class and the index of its position
 unfoldable pub formCell : ℕ → FormCell
 formCell n = record { cell = n; class = cellClass n; position = positionWith n }
 
--- the cells that certificates can fill, by ascending number: those of 601 to 645
+-- the cells that certificates can fill, by ascending number: those from the first cell to the total
 unfoldable pub formCells : List FormCell
-formCells = map formCell (those isFilled (tableFrom 601 45 (λ (n : ℕ). n)))
+formCells = map formCell (those isFilled (tableFrom firstCell formCount (λ (n : ℕ). n)))
 
 -- a cell is handed back: the total always, another where its position does not sum to 0
 unfoldable pub isPresent : Totals → FormCell → Bool

@@ -1,157 +1,48 @@
-// The cells that certificates can fill. The check tests the table against the definitions.
+// The cells that certificates can fill: each with its class and its position.
 use filled_cells::FormCell;
+use positions::position;
+use schedule::tables::cell_class;
+use schedule::tables::within;
 ghost use mathlib.Core.Path.{_≡_};
-ghost use Prim.Native.Nat.{_<_};
-ghost use Rattle.filled_cells.specs.Inner.Listing.{formCellAt};
+ghost use Rattle.filled_cells.specs.Cells.{positionWith, isOfPosition, formCell, isFilled};
 
-// A cell of the table.
-pub fn form_cell(index: usize) -> FormCell
-    requires { ⌜ index < 28 ⌝ }
-    ensures { λ r. ⌜ r ≡ formCellAt index ⌝ }
+// A cell with its class and the index of its position.
+pub fn form_cell(cell: usize) -> FormCell
+    ensures { λ r. ⌜ r ≡ formCell cell ⌝ }
 {
-    FORM_CELLS[index]
+    FormCell {
+        cell,
+        class: cell_class(cell as u64),
+        position: position_with(cell),
+    }
 }
 
-// Cell, class (1 balance, 2 WAC, 3 WARM, 6 total) and index of the position, by ascending cell.
-const FORM_CELLS: [FormCell; 28] = [
-    FormCell {
-        cell: 601,
-        class: 1,
-        position: 0,
-    },
-    FormCell {
-        cell: 602,
-        class: 1,
-        position: 1,
-    },
-    FormCell {
-        cell: 603,
-        class: 1,
-        position: 2,
-    },
-    FormCell {
-        cell: 605,
-        class: 2,
-        position: 0,
-    },
-    FormCell {
-        cell: 606,
-        class: 2,
-        position: 1,
-    },
-    FormCell {
-        cell: 607,
-        class: 2,
-        position: 2,
-    },
-    FormCell {
-        cell: 608,
-        class: 3,
-        position: 0,
-    },
-    FormCell {
-        cell: 609,
-        class: 3,
-        position: 1,
-    },
-    FormCell {
-        cell: 610,
-        class: 3,
-        position: 2,
-    },
-    FormCell {
-        cell: 615,
-        class: 1,
-        position: 3,
-    },
-    FormCell {
-        cell: 616,
-        class: 1,
-        position: 4,
-    },
-    FormCell {
-        cell: 617,
-        class: 1,
-        position: 5,
-    },
-    FormCell {
-        cell: 619,
-        class: 2,
-        position: 3,
-    },
-    FormCell {
-        cell: 620,
-        class: 2,
-        position: 4,
-    },
-    FormCell {
-        cell: 621,
-        class: 2,
-        position: 5,
-    },
-    FormCell {
-        cell: 622,
-        class: 3,
-        position: 3,
-    },
-    FormCell {
-        cell: 623,
-        class: 3,
-        position: 4,
-    },
-    FormCell {
-        cell: 624,
-        class: 3,
-        position: 5,
-    },
-    FormCell {
-        cell: 631,
-        class: 1,
-        position: 6,
-    },
-    FormCell {
-        cell: 632,
-        class: 1,
-        position: 7,
-    },
-    FormCell {
-        cell: 634,
-        class: 2,
-        position: 6,
-    },
-    FormCell {
-        cell: 635,
-        class: 2,
-        position: 7,
-    },
-    FormCell {
-        cell: 636,
-        class: 3,
-        position: 6,
-    },
-    FormCell {
-        cell: 637,
-        class: 3,
-        position: 7,
-    },
-    FormCell {
-        cell: 641,
-        class: 1,
-        position: 8,
-    },
-    FormCell {
-        cell: 643,
-        class: 2,
-        position: 8,
-    },
-    FormCell {
-        cell: 644,
-        class: 3,
-        position: 8,
-    },
-    FormCell {
-        cell: 645,
-        class: 6,
-        position: 9,
-    },
-];
+// The index, 0 to 8, of the position that a cell belongs to, and 9 where there is none.
+fn position_with(cell: usize) -> usize
+    ensures { λ r. ⌜ r ≡ positionWith cell ⌝ }
+{
+    let mut i = 0;
+    while i < 9 {
+        if is_of_position(i, cell) {
+            return i;
+        }
+        i += 1;
+    }
+    i
+}
+
+// A cell is the balance, the coupon or the remaining months of the position at an index.
+fn is_of_position(i: usize, cell: usize) -> bool
+    ensures { λ r. ⌜ r ≡ isOfPosition cell i ⌝ }
+{
+    let p = position(i);
+    (p.balance == cell) | ((p.coupon == cell) | (p.months == cell))
+}
+
+// A balance, a coupon, remaining months or the total.
+pub fn is_filled(cell: usize) -> bool
+    ensures { λ r. ⌜ r ≡ isFilled cell ⌝ }
+{
+    let class = cell_class(cell as u64);
+    within(1, 3, class as u64) | (class == 6)
+}

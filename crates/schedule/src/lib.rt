@@ -9,6 +9,9 @@ pub const LAST_CELL: u64 = 661;
 
 pub const CELLS: usize = 61;
 
+// The total of the nine balances.
+pub const TOTAL_CELL: usize = 645;
+
 // One of the nine balances: its row (remaining months, 1 to 4), its column (original maturity, 1 to 3), and the cells of its balance, its coupon
 // (WAC) and its remaining months (WARM).
 pub struct Position {

@@ -1,11 +1,10 @@
--- The size of some sums, the answer with their cells, and the table of cells. Definitions only.
+-- The size of some sums, and the answer with their cells. Definitions only.
 use Prim.Native.Nat.{ℕ, _*_, _≤_}
 use mathlib.Core.Path.{_≡_}
 use lib.ListN.{length, getD}
 use Rattle.filled_cells.specs.declared.Totals.{Totals}
 use Rattle.filled_cells.specs.declared.Cells.{Cells}
-use Rattle.filled_cells.specs.declared.FormCell.{FormCell}
-use Rattle.filled_cells.specs.Cells.{formCells, cellsOf, cellArray}
+use Rattle.filled_cells.specs.Cells.{cellsOf, cellArray}
 use Rattle.schedule.specs.Limits.{balanceLimit, filedCouponLimit, monthsLimit}
 use Rattle.answers.specs.declared.Answer.the-variants.{Accepted}
 
@@ -19,7 +18,3 @@ pub record Bounded (t : Totals) : Type 0 where
 -- acceptance, with the cells of some sums
 unfoldable pub acceptedCells : Totals → Cells
 acceptedCells t = record { answer = Accepted; count = length (cellsOf t); cells = cellArray (cellsOf t) }
-
--- the cell at an index of the table
-unfoldable pub formCellAt : ℕ → FormCell
-formCellAt index = getD formCells index (record { cell = 0; class = 0; position = 0 })
