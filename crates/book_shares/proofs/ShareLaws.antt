@@ -177,11 +177,11 @@ module _ (s : List ℕ) (a : filingVerdict s ≡ accepted) where
   upper-share scenario h place hp = upper-is k full (kept 36 .standing) scenario h place hp ∙ shown 36 (le-refl 36) .first place hp .1 up scenario
 
   -- the four totals of a scenario
-  total-share : (scenario : ℕ) → scenario < 7 → (r : ℕ) → r < 4 → totalIn full scenario r ≡ getD (scenarioTotals k scenario) r 0
+  total-share : (scenario : ℕ) → scenario < 7 → (r : ℕ) → r < 4 → totalIn full r scenario ≡ getD (scenarioTotals k scenario) r 0
   unfolding scenarioTotals totalBy
   total-share scenario h =
       let now = kept 36 in
-      each-lt 4 (λ r. totalIn full scenario r ≡ getD (scenarioTotals k scenario) r 0) (
+      each-lt 4 (λ r. totalIn full r scenario ≡ getD (scenarioTotals k scenario) r 0) (
         now .short-lower scenario h ∙ sumWhere-ext isShort _ _ 36 (lower-share scenario h),
         (
           now .short-upper scenario h ∙ sumWhere-ext isShort _ _ 36 (upper-share scenario h),

@@ -1,16 +1,17 @@
 -- A book that stands under an accepted filing keeps its promise: its totals are fresh sums, and its figures enclose the exact ones within the widths.
 -- Assumes nothing.
 use Prim.Native.Nat.{ℕ, _+_, _*_, _%_, _≤_, _<_}
-use mathlib.Core.Path.{_≡_, refl, ap, _∙_}
+use mathlib.Core.Path.{_≡_, refl, sym, ap, _∙_}
 use mathlib.Core.Bool.{Bool}
 use mathlib.Core.List.{List}
 use native.Mathlib.Omega.{arith}
 use lib.Dec.{lit<}
 use lib.ListN.{length, getD}
 use Rattle.lists.specs.Sums.{sumWhere, everywhere}
-use Rattle.lists.proofs.SumLaws.{sumWhere-ext, sumWhere-split}
+use Rattle.lists.proofs.SumLaws.{sumWhere-ext}
 use Rattle.lists.proofs.TableLaws.{joined-getD}
 use Rattle.fraction.specs.Fraction.{Encloses}
+use Rattle.fraction.specs.Totals.{totalWhere}
 use Rattle.fraction.proofs.EnclosureLaws.{total-encloses}
 use Rattle.contents.specs.Contents.{Contents}
 use Rattle.decode.specs.Contents.{contentsOf}
@@ -18,35 +19,35 @@ use Rattle.sub_balances.specs.PlaceOrder.{subBalanceCount, isShort, isLong}
 use Rattle.pricing.specs.Rounding.{down, up}
 use Rattle.place_values.specs.HeldValues.{valueHeld, boundsHeld, valuesHeld}
 use Rattle.place_values.proofs.HeldLaws.{held-encloses, held-width}
-use Rattle.totals.proofs.WidthLaws.{widths-add}
+use Rattle.pricing.proofs.EnclosedValuesLaws.{values-enclosed}
 use Rattle.book_places.specs.declared.Book.{Book}
 use Rattle.kept_totals.specs.KeptTotals.{sumsPlace, valueOfTotal}
 use Rattle.book_places.specs.BookPlaces.{heldIn}
 use Rattle.books.specs.Standing.{Standing}
 use Rattle.books.proofs.PlaceLaws.{holds-within}
-use Rattle.books.specs.Promise.{balanceIn, lowerIn, upperIn, totalIn, exactIn, exactTotalIn, Kept}
+use Rattle.books.specs.Promise.{balanceIn, lowerIn, upperIn, totalIn, exactIn, Kept}
 
 -- total r of a scenario's four, short lower, short upper, long lower, long upper, is a fresh sum
 module _ (k : Contents) (b : Book) (stands : Standing k b) (scenario : ℕ) (h : scenario < 7) where
   -- of the places that pass a test, value j of the fourteen
   fresh : (r j : ℕ) (test : ℕ → Bool) → r < 4 → sumsPlace (4 * scenario + r) ≡ test → valueOfTotal (4 * scenario + r) ≡ j
-      → totalIn b scenario r ≡ sumWhere test (λ (place : ℕ). getD (heldIn b place .values) j 0) subBalanceCount
+      → totalIn b r scenario ≡ sumWhere test (λ (place : ℕ). getD (heldIn b place .values) j 0) subBalanceCount
   unfolding totalIn
   fresh r j test small e f = rw (← e, ← f) (stands .total-is (4 * scenario + r) (omega arith))
 
-  pub short-lower-is : totalIn b scenario 0 ≡ sumWhere isShort (lowerIn b scenario) subBalanceCount
+  pub short-lower-is : totalIn b 0 scenario ≡ sumWhere isShort (lowerIn b scenario) subBalanceCount
   unfolding lowerIn sumsPlace valueOfTotal
   short-lower-is = fresh 0 (2 * scenario) isShort (lit< tt) (let e : (4 * scenario + 0) % 4 ≡ 0 = omega arith in rw e) (omega arith)
 
-  pub short-upper-is : totalIn b scenario 1 ≡ sumWhere isShort (upperIn b scenario) subBalanceCount
+  pub short-upper-is : totalIn b 1 scenario ≡ sumWhere isShort (upperIn b scenario) subBalanceCount
   unfolding upperIn sumsPlace valueOfTotal
   short-upper-is = fresh 1 (2 * scenario + 1) isShort (lit< tt) (let e : (4 * scenario + 1) % 4 ≡ 1 = omega arith in rw e) (omega arith)
 
-  pub long-lower-is : totalIn b scenario 2 ≡ sumWhere isLong (lowerIn b scenario) subBalanceCount
+  pub long-lower-is : totalIn b 2 scenario ≡ sumWhere isLong (lowerIn b scenario) subBalanceCount
   unfolding lowerIn sumsPlace valueOfTotal
   long-lower-is = fresh 2 (2 * scenario) isLong (lit< tt) (let e : (4 * scenario + 2) % 4 ≡ 2 = omega arith in rw e) (omega arith)
 
-  pub long-upper-is : totalIn b scenario 3 ≡ sumWhere isLong (upperIn b scenario) subBalanceCount
+  pub long-upper-is : totalIn b 3 scenario ≡ sumWhere isLong (upperIn b scenario) subBalanceCount
   unfolding upperIn sumsPlace valueOfTotal
   long-upper-is = fresh 3 (2 * scenario + 1) isLong (lit< tt) (let e : (4 * scenario + 3) % 4 ≡ 3 = omega arith in rw e) (omega arith)
 
@@ -81,26 +82,6 @@ module _ (k : Contents) (b : Book) (stands : Standing k b) (scenario : ℕ) (h :
   unfolding balanceIn
   width-is place hp = rw (lower-is place hp, upper-is place hp) (held-width k place (heldIn b place) (holds-within k place (heldIn b place) (stands .places place hp) .limits) scenario)
 
-  -- the short and the long total are all places
-  both : (f : ℕ → ℕ) → sumWhere isShort f 36 + sumWhere isLong f 36 ≡ sumWhere everywhere f 36
-  unfolding isLong
-  both f = sumWhere-split isShort f 36
-
-  all-width : b .balance ≡ sumWhere everywhere (balanceIn b) 36
-      → 250 * (totalIn b scenario 1 + totalIn b scenario 3) ≤ 250 * (totalIn b scenario 0 + totalIn b scenario 2) + (b .balance + 18000)
-  all-width balance =
-      omega (
-        arith,
-        balance,
-        short-lower-is,
-        short-upper-is,
-        long-lower-is,
-        long-upper-is,
-        both (lowerIn b scenario),
-        both (upperIn b scenario),
-        widths-add (lowerIn b scenario) (upperIn b scenario) (balanceIn b) 36 width-is,
-      )
-
 -- under an accepted filing
 module _ (s : List ℕ) (b : Book) (stands : Standing (contentsOf s) b) where
   place-encloses : (scenario place : ℕ) → scenario < 7 → place < 36
@@ -111,8 +92,8 @@ module _ (s : List ℕ) (b : Book) (stands : Standing (contentsOf s) b) where
       (held-encloses (contentsOf s) place (heldIn b place) scenario)
 
   sums-enclose : (test : ℕ → Bool) (scenario : ℕ) → scenario < 7
-      → Encloses (sumWhere test (lowerIn b scenario) 36) (exactTotalIn test s b scenario) (sumWhere test (upperIn b scenario) 36)
-  unfolding exactTotalIn exactIn
+      → Encloses (sumWhere test (lowerIn b scenario) 36) (totalWhere test (exactIn s b scenario) 36) (sumWhere test (upperIn b scenario) 36)
+  unfolding exactIn
   sums-enclose test scenario h =
       rw (lower-sum (contentsOf s) b stands scenario h test, upper-sum (contentsOf s) b stands scenario h test)
       (total-encloses test _ _ _ 36 (λ place. held-encloses (contentsOf s) place (heldIn b place) scenario))
@@ -130,11 +111,10 @@ module _ (s : List ℕ) (b : Book) (stands : Standing (contentsOf s) b) where
         short-upper = short-upper-is (contentsOf s) b stands;
         long-lower = long-lower-is (contentsOf s) b stands;
         long-upper = long-upper-is (contentsOf s) b stands;
-        value-encloses = place-encloses;
-        value-width = λ scenario place h hp. width-is (contentsOf s) b stands scenario h place hp;
+        values-enclosed = values-enclosed subBalanceCount (balanceIn b) (lowerIn b) (upperIn b) (exactIn s b) (b .balance) place-encloses
+            (λ scenario place h hp. width-is (contentsOf s) b stands scenario h place hp) (sym balance-sum);
         short-encloses = λ scenario h.
             rw (short-lower-is (contentsOf s) b stands scenario h, short-upper-is (contentsOf s) b stands scenario h) (sums-enclose isShort scenario h);
         long-encloses = λ scenario h.
             rw (long-lower-is (contentsOf s) b stands scenario h, long-upper-is (contentsOf s) b stands scenario h) (sums-enclose isLong scenario h);
-        total-width = λ scenario h. all-width (contentsOf s) b stands scenario h balance-sum;
       }

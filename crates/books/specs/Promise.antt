@@ -1,18 +1,17 @@
 -- What a book promises at every moment (02:CR 7): the record that opening establishes and every change keeps, and so any sequence of changes.
 -- Balances in thousands of dollars, values and totals in dollars. Definitions only.
-use Prim.Native.Nat.{ℕ, _+_, _*_, _≤_, _<_}
+use Prim.Native.Nat.{ℕ, _+_, _*_, _<_}
 use mathlib.Core.Path.{_≡_}
-use mathlib.Core.Bool.{Bool}
 use mathlib.Core.List.{List}
 use lib.ListN.{getD}
 use Rattle.lists.specs.Sums.{sumWhere, everywhere}
-use Rattle.fraction.specs.Fraction.{Fraction, Encloses}
-use Rattle.fraction.specs.Totals.{totalWhere}
+use Rattle.fraction.specs.Fraction.{Fraction}
 use Rattle.answers.specs.Answers.{verdictOf}
 use Rattle.answers.specs.Verdict.{accepted}
 use Rattle.decode.specs.Contents.{contentsOf}
 use Rattle.filing.specs.Verdict.{filingVerdict}
 use Rattle.sub_balances.specs.PlaceOrder.{subBalanceCount, isShort, isLong}
+use Rattle.pricing.specs.EnclosedValues.{EnclosedValues, EnclosedTotal}
 use Rattle.place_values.specs.HeldValues.{exactHeld}
 use Rattle.book_places.specs.declared.Book.{Book}
 use Rattle.book_places.specs.declared.Answered.{Answered}
@@ -21,7 +20,7 @@ use Rattle.books.specs.Books.{openedBook}
 use Rattle.books.specs.Changes.{Change, changeVerdict, bookAfter, bookAfterAll}
 use Rattle.books.specs.Standing.{Standing}
 
--- read off a book: balance, lower and upper value of a place, and number r of a scenario's four totals
+-- read off a book: balance, lower and upper value of a place, and number r of a scenario's four totals, short lower, short upper, long lower, long upper
 unfoldable pub balanceIn : Book → ℕ → ℕ
 balanceIn b place = heldIn b place .balance
 
@@ -32,14 +31,11 @@ unfoldable pub upperIn : Book → ℕ → ℕ → ℕ
 upperIn b scenario place = getD (heldIn b place .values) (2 * scenario + 1) 0
 
 unfoldable pub totalIn : Book → ℕ → ℕ → ℕ
-totalIn b scenario r = getD (b .totals) (4 * scenario + r) 0
+totalIn b r scenario = getD (b .totals) (4 * scenario + r) 0
 
--- the exact value of a place, from its balance, coupon, months and penalty under the filing's sheets and tiers, and the exact total over some places
+-- the exact value of a place, from its balance, coupon, months and penalty under the filing's sheets and tiers
 unfoldable pub exactIn : List ℕ → Book → ℕ → ℕ → Fraction
 exactIn s b scenario place = exactHeld (contentsOf s) scenario place (heldIn b place)
-
-unfoldable pub exactTotalIn : (ℕ → Bool) → List ℕ → Book → ℕ → Fraction
-exactTotalIn test s b scenario = totalWhere test (exactIn s b scenario) subBalanceCount
 
 -- what holds of a book that was opened from the accepted filing s
 pub record Kept (s : List ℕ) (b : Book) : Type 0 where
@@ -47,21 +43,15 @@ pub record Kept (s : List ℕ) (b : Book) : Type 0 where
   pub standing : Standing (contentsOf s) b
   -- the totals equal fresh sums over the places
   pub balance-total : b .balance ≡ sumWhere everywhere (balanceIn b) subBalanceCount
-  pub short-lower : (scenario : ℕ) → scenario < 7 → totalIn b scenario 0 ≡ sumWhere isShort (lowerIn b scenario) subBalanceCount
-  pub short-upper : (scenario : ℕ) → scenario < 7 → totalIn b scenario 1 ≡ sumWhere isShort (upperIn b scenario) subBalanceCount
-  pub long-lower : (scenario : ℕ) → scenario < 7 → totalIn b scenario 2 ≡ sumWhere isLong (lowerIn b scenario) subBalanceCount
-  pub long-upper : (scenario : ℕ) → scenario < 7 → totalIn b scenario 3 ≡ sumWhere isLong (upperIn b scenario) subBalanceCount
-  -- lower never above and upper never below the exact value of each place, and the width of each
-  pub value-encloses : (scenario place : ℕ) → scenario < 7 → place < 36
-      → Encloses (lowerIn b scenario place) (exactIn s b scenario place) (upperIn b scenario place)
-  pub value-width : (scenario place : ℕ) → scenario < 7 → place < 36
-      → 250 * upperIn b scenario place ≤ 250 * lowerIn b scenario place + (balanceIn b place + 500)
-  -- the same of the short and the long total
-  pub short-encloses : (scenario : ℕ) → scenario < 7 → Encloses (totalIn b scenario 0) (exactTotalIn isShort s b scenario) (totalIn b scenario 1)
-  pub long-encloses : (scenario : ℕ) → scenario < 7 → Encloses (totalIn b scenario 2) (exactTotalIn isLong s b scenario) (totalIn b scenario 3)
-  -- the width over all thirty-six, against the balance total
-  pub total-width : (scenario : ℕ) → scenario < 7
-      → 250 * (totalIn b scenario 1 + totalIn b scenario 3) ≤ 250 * (totalIn b scenario 0 + totalIn b scenario 2) + (b .balance + 18000)
+  pub short-lower : (scenario : ℕ) → scenario < 7 → totalIn b 0 scenario ≡ sumWhere isShort (lowerIn b scenario) subBalanceCount
+  pub short-upper : (scenario : ℕ) → scenario < 7 → totalIn b 1 scenario ≡ sumWhere isShort (upperIn b scenario) subBalanceCount
+  pub long-lower : (scenario : ℕ) → scenario < 7 → totalIn b 2 scenario ≡ sumWhere isLong (lowerIn b scenario) subBalanceCount
+  pub long-upper : (scenario : ℕ) → scenario < 7 → totalIn b 3 scenario ≡ sumWhere isLong (upperIn b scenario) subBalanceCount
+  -- lower never above and upper never below the exact value of each place, the width of each, and the width over all thirty-six against the balance total
+  pub values-enclosed : EnclosedValues subBalanceCount (balanceIn b) (lowerIn b) (upperIn b) (exactIn s b) (b .balance) 18000
+  -- the short and the long total enclose theirs
+  pub short-encloses : EnclosedTotal isShort subBalanceCount (exactIn s b) (totalIn b 0) (totalIn b 1)
+  pub long-encloses : EnclosedTotal isLong subBalanceCount (exactIn s b) (totalIn b 2) (totalIn b 3)
 
 -- opening: the answer is that on the filing, and the book of an accepted one is kept
 pub record OpenedOf (s : List ℕ) (r : Answered) : Type 0 where

@@ -18,7 +18,7 @@ use Rattle.schedule.specs.Limits.{filedCouponLimit, monthsLimit, totalLimit, ce
 use Rattle.filled_cells.specs.declared.Totals.{Totals}
 use Rattle.filled_cells.specs.declared.CellValue.{CellValue}
 use Rattle.filled_cells.specs.Means.{balanceAt, couponAt, monthsAt}
-use Rattle.filled_cells.specs.Cells.{isFilled, isOfPosition, positionWith, formCell, formCells, isPresent, valueOf, cellValue, cellsOf}
+use Rattle.filled_cells.specs.Cells.{isFilled, positionWith, formCell, formCells, isPresent, valueOf, cellValue, cellsOf}
 use Rattle.filled_cells.specs.Inner.Listing.{Bounded}
 use Rattle.certified.proofs.WeightedLaws.{mean-le}
 

@@ -14,7 +14,7 @@ use Rattle.withdrawal.proofs.MonthSurvivalLaws.{last-month}
 use Rattle.pricing.specs.declared.Run.{Run}
 use Rattle.pricing.specs.Scales.{par, couponGrowth, amountLimit}
 use Rattle.pricing.specs.Rounding.{Rounding}
-use Rattle.pricing.specs.Run.{discountedSum, discountedBy}
+use Rattle.pricing.specs.Run.{discountedSum}
 use Rattle.pricing.specs.Inner.Month.{runBy, nextRun, Small}
 use Rattle.pricing.proofs.LimitLaws.{discounted-limit}
 use Rattle.pricing.proofs.RunLaws.{run-suc, run-small}

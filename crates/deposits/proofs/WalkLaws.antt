@@ -17,7 +17,7 @@ use Rattle.month_multipliers.proofs.StepLaws.{step-is, last-is, paid-pos}
 use Rattle.pricing.specs.declared.Run.{Run}
 use Rattle.pricing.specs.Scales.{par, couponGrowth, amountLimit}
 use Rattle.pricing.specs.Rounding.{Rounding, down, up}
-use Rattle.pricing.specs.Run.{balanceBy, discountedSum, discountedBy}
+use Rattle.pricing.specs.Run.{balanceBy, discountedSum}
 use Rattle.pricing.specs.Inner.Month.{runBy, Small}
 use Rattle.deposits.specs.declared.Deposit.{Deposit}
 use Rattle.deposits.specs.DepositTerms.{servicingCost, termsOf}

@@ -11,3 +11,4 @@ pub mod WidthLaws
 pub mod LimitLaws
 pub mod MultiplierLaws
 pub mod RunLaws
+pub mod EnclosedValuesLaws

@@ -4,4 +4,5 @@ pub mod Exact
 pub mod Rounding
 pub mod Run
 pub mod Bounded
+pub mod EnclosedValues
 pub mod Inner

@@ -8,6 +8,7 @@ use lib.ListN.{getD}
 use Rattle.lists.specs.Sums.{sum, sumWhere, everywhere}
 use Rattle.lists.proofs.SumLaws.{sumWhere-ext}
 use Rattle.fraction.specs.Fraction.{Encloses}
+use Rattle.fraction.specs.Totals.{totalWhere}
 use Rattle.schedule.specs.declared.Position.{Position}
 use Rattle.schedule.specs.Cells.{positionAt, totalCell}
 use Rattle.decode.specs.Contents.{contentsOf}
@@ -17,11 +18,12 @@ use Rattle.sub_balances.specs.PlaceOrder.{positionOf, subBalanceCount, isShort,
 use Rattle.shares.specs.SubBalances.{fourOf, balanceAt}
 use Rattle.shares.proofs.SubBalanceLaws.{four-sum, balanceAt-total}
 use Rattle.pricing.specs.Rounding.{down, up}
-use Rattle.valuation.specs.Exact.{exactValueAt, exactTotal}
-use Rattle.filing_numbers.specs.Run.{valueAt, totalBy}
+use Rattle.valuation.specs.Exact.{exactValueAt}
+use Rattle.filing_numbers.specs.Run.{valueAt}
 use Rattle.filing_numbers.specs.Numbers.{scenarioTotals, numbers}
 use Rattle.valuation.specs.Promise.{balanceIn, lowerIn, upperIn, totalNumber, Enclosed}
-use Rattle.valuation.proofs.ValueLaws.{valueAt-encloses, valueAt-width, totalBy-encloses, all-width}
+use Rattle.pricing.proofs.EnclosedValuesLaws.{values-enclosed}
+use Rattle.valuation.proofs.ValueLaws.{valueAt-encloses, valueAt-width, totalBy-encloses}
 use Rattle.filing_numbers.proofs.NumberLaws.{totals, numbers-split, balance-read, lower-read, upper-read, total-read}
 
 -- one of a position's four places
@@ -66,7 +68,7 @@ module _ (k : Contents) (rest : List ℕ) where
   unfolding upperIn
   upper-in scenario place hs hp = rw (numbers-split k rest) (upper-read k (totals k ++ rest) _ scenario place (omega arith) hs hp)
 
-  total-in : (scenario r : ℕ) → scenario < 7 → r < 4 → totalNumber (numbers k ++ rest) scenario r ≡ getD (scenarioTotals k scenario) r 0
+  total-in : (scenario r : ℕ) → scenario < 7 → r < 4 → totalNumber (numbers k ++ rest) r scenario ≡ getD (scenarioTotals k scenario) r 0
   unfolding totalNumber
   total-in scenario r hs hr = rw (numbers-split k rest) (total-read k rest scenario r hs hr)
 
@@ -75,12 +77,12 @@ module _ (k : Contents) (rest : List ℕ) where
   value-in scenario place hs hp = rw (lower-in scenario place hs hp, upper-in scenario place hs hp) (valueAt-encloses k scenario place)
 
   short-in : (scenario : ℕ) → scenario < 7
-      → Encloses (totalNumber (numbers k ++ rest) scenario 0) (exactTotal isShort k scenario) (totalNumber (numbers k ++ rest) scenario 1)
+      → Encloses (totalNumber (numbers k ++ rest) 0 scenario) (totalWhere isShort (exactValueAt k scenario) subBalanceCount) (totalNumber (numbers k ++ rest) 1 scenario)
   unfolding scenarioTotals
   short-in scenario h = rw (total-in scenario 0 h (lit< tt), total-in scenario 1 h (lit< tt)) (totalBy-encloses isShort k scenario)
 
   long-in : (scenario : ℕ) → scenario < 7
-      → Encloses (totalNumber (numbers k ++ rest) scenario 2) (exactTotal isLong k scenario) (totalNumber (numbers k ++ rest) scenario 3)
+      → Encloses (totalNumber (numbers k ++ rest) 2 scenario) (totalWhere isLong (exactValueAt k scenario) subBalanceCount) (totalNumber (numbers k ++ rest) 3 scenario)
   unfolding scenarioTotals
   long-in scenario h = rw (total-in scenario 2 h (lit< tt), total-in scenario 3 h (lit< tt)) (totalBy-encloses isLong k scenario)
 
@@ -90,14 +92,6 @@ module _ (k : Contents) (rest : List ℕ) where
         → 250 * upperIn (numbers k ++ rest) scenario place ≤ 250 * lowerIn (numbers k ++ rest) scenario place + (balanceIn (numbers k ++ rest) place + 500)
     width-in scenario place hs hp =
         rw (lower-in scenario place hs hp, upper-in scenario place hs hp, balance-in place hp) (valueAt-width k v scenario place hp)
-
-    all-in : (scenario : ℕ) → scenario < 7
-        → 250 * sumWhere everywhere (upperIn (numbers k ++ rest) scenario) subBalanceCount
-        ≤ 250 * sumWhere everywhere (lowerIn (numbers k ++ rest) scenario) subBalanceCount + (cell k totalCell + 18000)
-    unfolding totalBy
-    all-in scenario h =
-        rw (sumWhere-ext everywhere _ (valueAt up k scenario) subBalanceCount (λ place hp. upper-in scenario place h hp))
-        (rw (sumWhere-ext everywhere _ (valueAt down k scenario) subBalanceCount (λ place hp. lower-in scenario place h hp)) (all-width k v scenario))
 
     shares-in : sumWhere everywhere (balanceIn (numbers k ++ rest)) subBalanceCount ≡ cell k totalCell
     shares-in = sumWhere-ext everywhere _ (balanceAt (k .cells)) subBalanceCount balance-in ∙ balanceAt-total (k .cells) (v .of-cells)
@@ -113,12 +107,13 @@ module _ (k : Contents) (rest : List ℕ) where
 -- what the list after an accepted filing holds
 pub enclosed : (s rest : List ℕ) → Valid (contentsOf s) → Enclosed s (numbers (contentsOf s) ++ rest)
 enclosed s rest v =
+    let k = contentsOf s in
+    let list = numbers k ++ rest in
     record {
-      shares-add-up = four-in (contentsOf s) rest v;
-      shares-total = shares-in (contentsOf s) rest v;
-      value-encloses = value-in (contentsOf s) rest;
-      value-width = width-in (contentsOf s) rest v;
-      short-encloses = short-in (contentsOf s) rest;
-      long-encloses = long-in (contentsOf s) rest;
-      total-width = all-in (contentsOf s) rest v;
+      shares-add-up = four-in k rest v;
+      shares-total = shares-in k rest v;
+      values-enclosed = values-enclosed subBalanceCount (balanceIn list) (lowerIn list) (upperIn list) (exactValueAt k) (cell k totalCell)
+          (value-in k rest) (width-in k rest v) (shares-in k rest v);
+      short-encloses = short-in k rest;
+      long-encloses = long-in k rest;
     }

@@ -1,13 +1,12 @@
 -- What the valuing call promises, for any bytes and any list lent to it (01:26-41, 01:58-61, 01:88-93). Definitions only.
 -- Read off the list after the call: balances in thousands of dollars, values and totals in dollars.
-use Prim.Native.Nat.{ℕ, _+_, _*_, _≤_, _<_}
+use Prim.Native.Nat.{ℕ, _+_, _*_, _<_}
 use mathlib.Core.Path.{_≡_}
 use mathlib.Core.Bool.{cond}
 use mathlib.Core.List.{List, _++_}
 use lib.Dec.{eqb}
 use lib.ListN.{length, getD, drop}
 use Rattle.lists.specs.Sums.{sumWhere, everywhere}
-use Rattle.fraction.specs.Fraction.{Encloses}
 use Rattle.schedule.specs.Cells.{positionAt, totalCell}
 use Rattle.answers.specs.declared.Answer.{Answer}
 use Rattle.answers.specs.Answers.{verdictOf}
@@ -16,7 +15,8 @@ use Rattle.decode.specs.Contents.{contentsOf}
 use Rattle.contents.specs.Contents.{cell}
 use Rattle.filing.specs.Verdict.{filingVerdict}
 use Rattle.sub_balances.specs.PlaceOrder.{subBalanceCount, isShort, isLong}
-use Rattle.valuation.specs.Exact.{exactValueAt, exactTotal}
+use Rattle.pricing.specs.EnclosedValues.{EnclosedValues, EnclosedTotal}
+use Rattle.valuation.specs.Exact.{exactValueAt}
 use Rattle.filing_numbers.specs.Numbers.{numbers, numberCount}
 
 -- the verdict on a list and a filing: a list under 568 numbers is a 10, and comes first
@@ -28,7 +28,8 @@ unfoldable pub listAfter : List ℕ → List ℕ → List ℕ
 listAfter s before =
     cond (eqb (verdictOn s before .number) 0) (numbers (contentsOf s) ++ drop numberCount before) before
 
--- the places of the 568: balance, lower and upper value of a place; lower and upper of the short and the long total
+-- the places of the 568: balance, lower and upper value of a place; of a scenario's four totals, short lower, short upper, long lower and long upper,
+-- number r
 unfoldable pub balanceIn : List ℕ → ℕ → ℕ
 balanceIn list place = getD list (15 * place) 0
 
@@ -39,7 +40,7 @@ unfoldable pub upperIn : List ℕ → ℕ → ℕ → ℕ
 upperIn list scenario place = getD list (15 * place + 2 * scenario + 2) 0
 
 unfoldable pub totalNumber : List ℕ → ℕ → ℕ → ℕ
-totalNumber list scenario r = getD list (540 + 4 * scenario + r) 0
+totalNumber list r scenario = getD list (540 + 4 * scenario + r) 0
 
 -- what holds of the list after an accepted filing
 pub record Enclosed (s list : List ℕ) : Type 0 where
@@ -48,20 +49,12 @@ pub record Enclosed (s list : List ℕ) : Type 0 where
       → balanceIn list (4 * i) + balanceIn list (4 * i + 1) + balanceIn list (4 * i + 2) + balanceIn list (4 * i + 3)
       ≡ cell (contentsOf s) (positionAt i .balance)
   pub shares-total : sumWhere everywhere (balanceIn list) subBalanceCount ≡ cell (contentsOf s) totalCell
-  -- lower never above and upper never below the exact value of the same bytes, and the width of each
-  pub value-encloses : (scenario place : ℕ) → scenario < 7 → place < 36
-      → Encloses (lowerIn list scenario place) (exactValueAt (contentsOf s) scenario place) (upperIn list scenario place)
-  pub value-width : (scenario place : ℕ) → scenario < 7 → place < 36
-      → 250 * upperIn list scenario place ≤ 250 * lowerIn list scenario place + (balanceIn list place + 500)
-  -- the same of the short and the long total
-  pub short-encloses : (scenario : ℕ) → scenario < 7
-      → Encloses (totalNumber list scenario 0) (exactTotal isShort (contentsOf s) scenario) (totalNumber list scenario 1)
-  pub long-encloses : (scenario : ℕ) → scenario < 7
-      → Encloses (totalNumber list scenario 2) (exactTotal isLong (contentsOf s) scenario) (totalNumber list scenario 3)
-  -- the width over all thirty-six, against cell 645
-  pub total-width : (scenario : ℕ) → scenario < 7
-      → 250 * sumWhere everywhere (upperIn list scenario) subBalanceCount
-      ≤ 250 * sumWhere everywhere (lowerIn list scenario) subBalanceCount + (cell (contentsOf s) totalCell + 18000)
+  -- lower never above and upper never below the exact value of the same bytes, the width of each, and the width over all thirty-six against cell 645
+  pub values-enclosed :
+      EnclosedValues subBalanceCount (balanceIn list) (lowerIn list) (upperIn list) (exactValueAt (contentsOf s)) (cell (contentsOf s) totalCell) 18000
+  -- the short and the long total enclose theirs
+  pub short-encloses : EnclosedTotal isShort subBalanceCount (exactValueAt (contentsOf s)) (totalNumber list 0) (totalNumber list 1)
+  pub long-encloses : EnclosedTotal isLong subBalanceCount (exactValueAt (contentsOf s)) (totalNumber list 2) (totalNumber list 3)
 
 -- the promise: s is the filing's bytes, before and after are the list at the call and at the return
 pub record Valued (s before : List ℕ) (answer : Answer) (after : List ℕ) : Type 0 where

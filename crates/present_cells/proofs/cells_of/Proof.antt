@@ -1,7 +1,7 @@
 -- `cells_of` meets its contract. The loop's invariant: the cells before a number are listed. Assumes nothing.
 use Prim.Native.Nat.{suc, _-_, _<_}
 use native.Mathlib.Omega.{arith}
-use mathlib.Core.Path.{_≡_, sym, _∙_}
+use mathlib.Core.Path.{_≡_, _∙_}
 use mathlib.Core.Logic.{⊎-elim}
 use mathlib.Core.Bool.{_&&_}
 use Rattle.schedule.specs.Cells.{totalCell}
