@@ -1,14 +1,13 @@
 -- Closed cases of the changes that a list means, so that a wrong clause of a definition breaks a case. Each is computed. Assumes nothing.
-use Prim.Native.Nat.{ℕ}
 use mathlib.Core.Path.{_≡_, refl}
-use mathlib.Core.List.{List, [], _∷_, _++_, map}
+use mathlib.Core.List.{[], _∷_, _++_, map}
 use Rattle.lists.specs.Ranges.{firstFrom}
 use Rattle.lists.specs.Tables.{tableFrom}
 use Rattle.schedule.specs.Cells.{positions, positionAt, position, withinRow}
 use Rattle.sub_balances.specs.PlaceOrder.{positionOf, withPenalty}
 use Rattle.answers.specs.Verdict.{accepted, refused, refusedIf, firstRefusal, firstOf}
 use Rattle.place_limits.specs.PlaceLimits.{penaltyWithin, fitsPlace}
-use Rattle.books.specs.Changes.{Change, setPlace, clearPlace, neitherAt, changedPlace, fitsChange, changeVerdict}
+use Rattle.books.specs.Changes.{setPlace, clearPlace, neitherAt, changedPlace, fitsChange, changeVerdict}
 use Rattle.book_changes.specs.Changing.{leavesNothing, clears, changeOf, changeAt, changesOf, changesVerdict, refusedChange, changesMade}
 
 -- place 2 is set to a balance of 3, a coupon of 4, 5 months and a penalty of 6, and to a balance of 0; then it is cleared, cleared with each other number

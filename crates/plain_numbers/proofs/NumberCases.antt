@@ -1,7 +1,7 @@
 -- A closed case of cells as plain numbers, so that a wrong clause of a definition breaks it: the number of a cell, then its value; 0 past the last. It is
 -- computed. Assumes nothing.
 use mathlib.Core.Path.{_≡_, refl}
-use mathlib.Core.List.{[], _∷_, _++_}
+use mathlib.Core.List.{_∷_}
 use lib.ListN.{replicate}
 use Rattle.lists.specs.Tables.{tableFrom, joined}
 use Rattle.filled_cells.specs.Cells.{noCell}

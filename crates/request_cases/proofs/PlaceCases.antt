@@ -1,9 +1,9 @@
 -- Closed cases of what a place of the book takes (02:CR 7), so that a wrong clause of a definition breaks a case: each limit and the number past it. Each is
 -- computed. Assumes nothing.
-use Prim.Native.Nat.{ℕ, _^_}
+use Prim.Native.Nat.{_^_}
 use mathlib.Core.Path.{_≡_, refl}
-use mathlib.Core.Bool.{Bool, true, false}
-use mathlib.Core.List.{List, [], _∷_, map}
+use mathlib.Core.Bool.{true, false}
+use mathlib.Core.List.{[], _∷_}
 use lib.ListN.{replicate}
 use Rattle.lists.specs.Ranges.{within}
 use Rattle.schedule.specs.Cells.{position, positions, positionAt, withinRow}
