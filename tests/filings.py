@@ -1,5 +1,5 @@
 #!/usr/bin/env python3
-"""The entries that the two test programs run: writes crates/figures_test/stdin and crates/second/stdin, the same bytes.
+"""The entries that the two test programs run: writes crates/test_figures/stdin and crates/test_second/stdin, the same bytes.
 
 With the word `names` it prints the number and the name of each entry instead. An entry is four 4-byte numbers, little-endian (the number of
 the call, the length of the list of numbers, that of the list of places and that of the input), and then the input."""

@@ -1,4 +1,7 @@
 // The answers on a filing, on a list of certificates and on a change of a book, and the paper's number of each.
+pub mod first_refusals;
+pub mod locations;
+
 ghost use mathlib.Core.Path.{_≡_};
 ghost use Rattle.answers.specs.Answers.{numberOf};
 

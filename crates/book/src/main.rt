@@ -1,11 +1,11 @@
 // A standing book on the command line. The one argument names the file with the filing; then each line of standard input is obeyed, and what is
 // answered to it is printed.
-use book_places::Book;
-use book_text::LineInput;
-use book_text::obey_read;
-use book_text::open_read;
-use input_lines::next_line;
+use book_state::Book;
 use libc::STDOUT_FILENO;
+use text_book::LineInput;
+use text_book::obey_read;
+use text_book::open_read;
+use text_input::next_line;
 
 // One byte more than the 65,536 of a filing is read, so that a longer one shows.
 fn main() {

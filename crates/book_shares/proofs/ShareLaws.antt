@@ -15,41 +15,41 @@ use Rattle.lists.specs.Tables.{table, joined}
 use Rattle.lists.proofs.EachLaws.{each-lt}
 use Rattle.lists.proofs.TableLaws.{joined-length, joined-getD}
 use Rattle.lists.proofs.SumLaws.{sumWhere-ext}
-use Rattle.schedule.specs.Cells.{withinRow, totalCell}
-use Rattle.schedule.specs.Limits.{balanceLimit, couponLimit, penaltyLimit}
+use Rattle.form.specs.Cells.{withinRow, totalCell}
+use Rattle.form.specs.Limits.{balanceLimit, couponLimit, penaltyLimit}
 use Rattle.answers.specs.Verdict.{accepted}
-use Rattle.decode.specs.Contents.{contentsOf}
-use Rattle.contents.specs.Contents.{Contents, cell}
+use Rattle.filing_decode.specs.Contents.{contentsOf}
+use Rattle.filing_contents.specs.Contents.{Contents, cell}
 use Rattle.filing.specs.Verdict.{filingVerdict}
-use Rattle.contents.specs.Valid.{Valid}
-use Rattle.sub_balances.specs.declared.SubBalance.{SubBalance}
-use Rattle.sub_balances.specs.PlaceOrder.{positionOf, withPenalty, isShort, isLong}
+use Rattle.filing_contents.specs.Valid.{Valid}
+use Rattle.form.specs.declared.sub_balances.SubBalance.{SubBalance}
+use Rattle.form.specs.PlaceOrder.{positionOf, withPenalty, isShort, isLong}
 use Rattle.shares.specs.SubBalances.{balanceAt, couponAt, monthsAt, penaltyAt}
-use Rattle.sub_balances.specs.Places.{noPlace}
+use Rattle.form.specs.Places.{noPlace}
 use Rattle.shares.specs.Places.{placeAt}
 use Rattle.shares.proofs.SubBalanceLaws.{balanceAt-le, balanceAt-limit, balanceAt-total}
 use Rattle.pricing.specs.Scales.{valueScale}
 use Rattle.pricing.specs.Rounding.{Rounding, down, up}
 use Rattle.pricing.specs.Run.{worthBy, valueBy}
 use Rattle.pricing.proofs.RoundingLaws.{quotient-zero}
-use Rattle.place_values.specs.PlaceTerms.{depositAt, termsHeld}
-use Rattle.place_values.specs.HeldValues.{valueHeld}
-use Rattle.place_values.proofs.PlaceTermsLaws.{penalty-le}
-use Rattle.filing_numbers.specs.Run.{valueAt, totalBy}
-use Rattle.filing_numbers.specs.Numbers.{scenarioTotals}
-use Rattle.filing_numbers.proofs.NumberLaws.{scenarioTotals-length}
-use Rattle.book_places.specs.declared.Book.{Book}
-use Rattle.place_limits.specs.PlaceLimits.{penaltyWithin, fitsPlace}
-use Rattle.book_places.specs.BookPlaces.{heldIn}
-use Rattle.books.specs.Books.{emptyBook, openedBook, valuedIn}
-use Rattle.books.specs.Changes.{Change, unvalued, changedPlace, fitsChange, heldAfter, bookAfter, bookAfterAll}
+use Rattle.value_places.specs.PlaceTerms.{depositAt, termsHeld}
+use Rattle.value_places.specs.HeldValues.{valueHeld}
+use Rattle.value_places.proofs.PlaceTermsLaws.{penalty-le}
+use Rattle.value_numbers.specs.Run.{valueAt, totalBy}
+use Rattle.value_numbers.specs.Numbers.{scenarioTotals}
+use Rattle.value_numbers.proofs.NumberLaws.{scenarioTotals-length}
+use Rattle.book_state.specs.declared.Book.{Book}
+use Rattle.book_limits.specs.PlaceLimits.{penaltyWithin, fitsPlace}
+use Rattle.book_state.specs.BookPlaces.{heldIn}
+use Rattle.book_promise.specs.Books.{emptyBook, openedBook, valuedIn}
+use Rattle.book_promise.specs.Changes.{Change, unvalued, changedPlace, fitsChange, heldAfter, bookAfter, bookAfterAll}
 use Rattle.book_shares.specs.Shares.{shareSet, shareChange, shareChanges, bookOfShares, ShowsTotals}
-use Rattle.books.specs.Promise.{balanceIn, lowerIn, upperIn, totalIn, Kept, BookPromise}
-use Rattle.books.specs.Standing.{Holds, Standing}
-use Rattle.books.proofs.PlaceLaws.{fits-held}
-use Rattle.books.proofs.StandingLaws.{here, elsewhere}
-use Rattle.books.proofs.KeptLaws.{lower-is, upper-is}
-use Rattle.books.proofs.ChangeLaws.{book-promise}
+use Rattle.book_promise.specs.Promise.{balanceIn, lowerIn, upperIn, totalIn, Kept, BookPromise}
+use Rattle.book_promise.specs.Standing.{Holds, Standing}
+use Rattle.book_promise.proofs.PlaceLaws.{fits-held}
+use Rattle.book_promise.proofs.StandingLaws.{here, elsewhere}
+use Rattle.book_promise.proofs.KeptLaws.{lower-is, upper-is}
+use Rattle.book_promise.proofs.ChangeLaws.{book-promise}
 
 -- a change behind a sequence
 after-more : (b : Book) (cs ds : List Change) → bookAfterAll b (cs ++ ds) ≡ bookAfterAll (bookAfterAll b cs) ds

@@ -5,18 +5,18 @@ use mathlib.Core.Bool.{cond}
 use mathlib.Core.List.{List, [], _∷_, _++_}
 use lib.Dec.{eqb}
 use Rattle.lists.specs.Tables.{table, joined}
-use Rattle.schedule.specs.Cells.{totalCell}
-use Rattle.schedule.specs.Shift.{scenarioCount}
+use Rattle.form.specs.Cells.{totalCell}
+use Rattle.form.specs.Shift.{scenarioCount}
 use Rattle.answers.specs.Verdict.{accepted}
-use Rattle.decode.specs.Contents.{contentsOf}
-use Rattle.contents.specs.Contents.{cell}
+use Rattle.filing_decode.specs.Contents.{contentsOf}
+use Rattle.filing_contents.specs.Contents.{cell}
 use Rattle.filing.specs.Verdict.{filingVerdict}
-use Rattle.sub_balances.specs.PlaceOrder.{subBalanceCount}
+use Rattle.form.specs.PlaceOrder.{subBalanceCount}
 use Rattle.shares.specs.SubBalances.{balanceAt, couponAt, monthsAt, penaltyAt}
-use Rattle.filing_numbers.specs.Numbers.{scenarioTotals}
-use Rattle.book_places.specs.declared.Book.{Book}
-use Rattle.books.specs.Books.{openedBook}
-use Rattle.books.specs.Changes.{Change, setPlace, bookAfterAll}
+use Rattle.value_numbers.specs.Numbers.{scenarioTotals}
+use Rattle.book_state.specs.declared.Book.{Book}
+use Rattle.book_promise.specs.Books.{openedBook}
+use Rattle.book_promise.specs.Changes.{Change, setPlace, bookAfterAll}
 
 -- a place set to its share, by the cells of a filing; no change where the share has no balance
 abbrev pub shareSet : List ℕ → ℕ → Change

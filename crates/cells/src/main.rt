@@ -1,8 +1,8 @@
 // Reads a valuation date and certificates as text from standard input and prints the cells that they fill, the line of a refusal or of an unreadable
 // line, or `too long`. One byte more than the 131,072 of an input is read, so that a longer one shows.
-use certificates_text::write_read;
 use libc::STDIN_FILENO;
 use libc::STDOUT_FILENO;
+use text_certificates::write_read;
 
 fn main() {
     let mut input = [0u8; 131073];

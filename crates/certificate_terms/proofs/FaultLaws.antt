@@ -5,17 +5,17 @@ use mathlib.Core.Bool.{Bool, true, false, not}
 use mathlib.Core.List.{[], _∷_}
 use borrow.Author.Tests.{ltb-false, not-false}
 use lib.Dec.{ltb}
-use Rattle.schedule.specs.Limits.{balanceLimit, filedCouponLimit, monthsLimit}
+use Rattle.form.specs.Limits.{balanceLimit, filedCouponLimit, monthsLimit}
 use Rattle.answers.specs.Verdict.{accepted, refused, refusedIf, firstRefusal, firstOf}
 use Rattle.answers.proofs.VerdictLaws.{first-none, condition-fails}
-use Rattle.calendar.specs.declared.Date.{Date}
+use Rattle.certificate_calendar.specs.declared.Date.{Date}
 use Rattle.certificate_terms.specs.declared.Certificate.{Certificate}
 use Rattle.certificate_terms.specs.Terms.{remainingMonths, originalMonths, positionOf}
 use Rattle.certificate_terms.specs.Faults.{overLimit, noSuchDay, notOutstanding, tooManyMonths, ownVerdict}
-use Rattle.calendar.specs.Dates.{isDate, onOrAfter}
+use Rattle.certificate_calendar.specs.Dates.{isDate, onOrAfter}
 use Rattle.lists.proofs.TestLaws.{neither}
-use Rattle.calendar.proofs.DateLaws.{date-day, on-or-after}
-use Rattle.calendar.proofs.MonthLaws.{months-between-least, months-between-anti}
+use Rattle.certificate_calendar.proofs.DateLaws.{date-day, on-or-after}
+use Rattle.certificate_calendar.proofs.MonthLaws.{months-between-least, months-between-anti}
 use Rattle.certificate_terms.proofs.PositionLaws.{position-lt}
 
 module _ (v : Date) (k : ℕ) (c : Certificate) where

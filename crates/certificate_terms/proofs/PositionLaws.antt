@@ -6,7 +6,7 @@ use mathlib.Core.Logic.{⊎-elim}
 use borrow.Author.Tests.{le-leb, lt-leb}
 use lib.Dec.{T, eqb, eqb→eq}
 use Rattle.lists.proofs.TestLaws.{allFrom, all-at}
-use Rattle.schedule.specs.Cells.{position, positions, positionAt, withinRow}
+use Rattle.form.specs.Cells.{position, positions, positionAt, withinRow}
 use Rattle.lists.specs.Ranges.{firstFrom}
 use Rattle.certificate_terms.specs.Terms.{columnOf, positionFor}
 use Rattle.lists.proofs.OrderLaws.{lt-or-le}

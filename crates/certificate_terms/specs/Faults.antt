@@ -2,11 +2,11 @@
 use Prim.Native.Nat.{ℕ}
 use mathlib.Core.Bool.{Bool, not, _||_}
 use lib.Dec.{ltb}
-use Rattle.schedule.specs.Limits.{balanceLimit, filedCouponLimit, monthsLimit}
-use Rattle.calendar.specs.declared.Date.{Date}
+use Rattle.form.specs.Limits.{balanceLimit, filedCouponLimit, monthsLimit}
+use Rattle.certificate_calendar.specs.declared.Date.{Date}
 use Rattle.certificate_terms.specs.declared.Certificate.{Certificate}
 use Rattle.certificate_terms.specs.Terms.{remainingMonths}
-use Rattle.calendar.specs.Dates.{isDate, onOrAfter}
+use Rattle.certificate_calendar.specs.Dates.{isDate, onOrAfter}
 use mathlib.Core.List.{[], _∷_}
 use Rattle.answers.specs.Verdict.{Verdict, refusedIf, firstOf}
 

@@ -4,11 +4,11 @@ use mathlib.Core.Bool.{cond, _&&_}
 use mathlib.Core.List.{List}
 use lib.ListN.{length, getD}
 use lib.Dec.{leb, eqb}
-use Rattle.schedule.specs.Cells.{positionAt, withinRow}
-use Rattle.calendar.specs.declared.Date.{Date}
+use Rattle.form.specs.Cells.{positionAt, withinRow}
+use Rattle.certificate_calendar.specs.declared.Date.{Date}
 use Rattle.certificate_terms.specs.declared.Certificate.{Certificate}
 use Rattle.lists.specs.Ranges.{firstFrom}
-use Rattle.calendar.specs.Dates.{monthsBetween}
+use Rattle.certificate_calendar.specs.Dates.{monthsBetween}
 
 -- the numbers of a certificate, one after the other: issue year, month and day, maturity year, month and day, balance (thousands of dollars),
 -- coupon (hundredths of a percent a year)

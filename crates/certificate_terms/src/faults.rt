@@ -1,17 +1,17 @@
 // What can be wrong with a certificate by itself: 5, 13, 14 and 15, in that order.
 use crate::Certificate;
 use answers::Answer;
-use calendar::Date;
-use calendar::is_date;
-use calendar::months_between;
-use calendar::on_or_after;
-use schedule::limits::BALANCE_LIMIT;
-use schedule::limits::FILED_COUPON_LIMIT;
-use schedule::limits::MONTHS_LIMIT;
+use certificate_calendar::Date;
+use certificate_calendar::is_date;
+use certificate_calendar::months_between;
+use certificate_calendar::on_or_after;
+use form::limits::BALANCE_LIMIT;
+use form::limits::FILED_COUPON_LIMIT;
+use form::limits::MONTHS_LIMIT;
 ghost use mathlib.Core.Path.{_≡_};
 ghost use mathlib.Core.Bool.{true};
 ghost use Rattle.answers.specs.Answers.{verdictOf};
-ghost use Rattle.calendar.specs.Dates.{isDate};
+ghost use Rattle.certificate_calendar.specs.Dates.{isDate};
 ghost use Rattle.certificate_terms.specs.Faults.{overLimit, noSuchDay, notOutstanding, ownVerdict};
 
 // The first fault of certificate k by itself.

@@ -1,12 +1,12 @@
 // One certificate: its numbers in the list, its position in Schedule CMR by its terms in months, and its own faults.
 pub mod faults;
 
-use calendar::Date;
-use schedule::tables::entry_at;
+use certificate_calendar::Date;
+use form::tables::entry_at;
 ghost use mathlib.Core.Path.{_≡_};
 ghost use Prim.Native.Nat.{_≤_, _<_, _+_, _*_};
 ghost use lib.ListN.{length};
-ghost use Rattle.schedule.specs.Limits.{monthsLimit};
+ghost use Rattle.form.specs.Limits.{monthsLimit};
 ghost use Rattle.certificate_terms.specs.Terms.{certificateNumbers, dateAt, certificateAt, columnOf, positionFor};
 
 // A certificate: balance in thousands of dollars, coupon in hundredths of a percent a year.

@@ -12,26 +12,26 @@ use Rattle.lists.specs.Tables.{table}
 use Rattle.lists.proofs.OrderLaws.{lt-or-le}
 use Rattle.lists.proofs.RangeLaws.{within-is, within-below, within-above}
 use Rattle.lists.proofs.TableLaws.{table-length, table-getD, table-le}
-use Rattle.schedule.specs.Limits.{balanceLimit, filedCouponLimit, monthsLimit}
+use Rattle.form.specs.Limits.{balanceLimit, filedCouponLimit, monthsLimit}
 use Rattle.answers.specs.declared.Answer.{Answer}
 use Rattle.answers.specs.Verdict.{Verdict, accepted, refused}
 use Rattle.answers.specs.Answers.{numberOf, verdictOf}
 use Rattle.answers.proofs.VerdictLaws.{first-passed, first-refused, tried-none, condition-holds, condition-refuses, condition-none}
-use Rattle.calendar.specs.declared.Date.{Date}
+use Rattle.certificate_calendar.specs.declared.Date.{Date}
 use Rattle.certificate_terms.specs.Terms.{certificateCount}
-use Rattle.filled_cells.specs.declared.Totals.{Totals}
-use Rattle.filled_cells.specs.declared.Cells.{Cells}
-use Rattle.filled_cells.specs.Cells.{cellsOf}
-use Rattle.filled_cells.specs.Inner.Listing.{Bounded, acceptedCells}
-use Rattle.certificate_sums.specs.Sums.{positionSum, balanceOf, weightedCoupon, weightedMonths, totalsOf}
-use Rattle.certificate_sums.specs.EachVerdict.{certificateVerdict, eachVerdict}
+use Rattle.certificate_cells.specs.declared.filled_cells.Totals.{Totals}
+use Rattle.certificate_cells.specs.declared.filled_cells.Cells.{Cells}
+use Rattle.certificate_cells.specs.Cells.{cellsOf}
+use Rattle.certificate_cells.specs.Inner.Listing.{Bounded, acceptedCells}
+use Rattle.certificates.specs.Sums.{positionSum, balanceOf, weightedCoupon, weightedMonths, totalsOf}
+use Rattle.certificates.specs.EachVerdict.{certificateVerdict, eachVerdict}
 use Rattle.certificates.specs.Verdict.{countVerdict, certificatesVerdict}
 use Rattle.certificates.specs.Filled.{filledCells}
 use Rattle.certificates.specs.Promise.{Converted}
 use Rattle.certificates.specs.Inner.Answers.{noCells}
 use Rattle.lists.specs.Ranges.{within}
-use Rattle.filled_cells.proofs.ListingLaws.{cells-count}
-use Rattle.certificate_sums.proofs.SumLaws.{Passed, balance-sum-le, coupon-sum-le, months-sum-le}
+use Rattle.certificate_cells.proofs.ListingLaws.{cells-count}
+use Rattle.certificates.proofs.SumLaws.{Passed, balance-sum-le, coupon-sum-le, months-sum-le}
 
 module _ (v : Date) (s : List ℕ) where
   -- no refusal of the certificates in turn: each passes

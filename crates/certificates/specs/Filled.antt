@@ -3,11 +3,11 @@ use Prim.Native.Nat.{ℕ}
 use mathlib.Core.Bool.{cond}
 use mathlib.Core.List.{List, []}
 use lib.Dec.{eqb}
-use Rattle.calendar.specs.declared.Date.{Date}
+use Rattle.certificate_calendar.specs.declared.Date.{Date}
 use Rattle.certificate_terms.specs.Terms.{certificateCount}
-use Rattle.filled_cells.specs.declared.CellValue.{CellValue}
-use Rattle.filled_cells.specs.Cells.{cellsOf}
-use Rattle.certificate_sums.specs.Sums.{totalsOf}
+use Rattle.certificate_cells.specs.declared.filled_cells.CellValue.{CellValue}
+use Rattle.certificate_cells.specs.Cells.{cellsOf}
+use Rattle.certificates.specs.Sums.{totalsOf}
 use Rattle.certificates.specs.Verdict.{certificatesVerdict}
 
 -- the cells of the certificates; a refusal gives none

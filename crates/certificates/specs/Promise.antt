@@ -4,9 +4,9 @@ use mathlib.Core.List.{List}
 use Prim.Native.Nat.{ℕ}
 use lib.ListN.{length}
 use Rattle.answers.specs.Answers.{verdictOf}
-use Rattle.calendar.specs.declared.Date.{Date}
-use Rattle.filled_cells.specs.declared.Cells.{Cells}
-use Rattle.filled_cells.specs.Cells.{cellArray}
+use Rattle.certificate_calendar.specs.declared.Date.{Date}
+use Rattle.certificate_cells.specs.declared.filled_cells.Cells.{Cells}
+use Rattle.certificate_cells.specs.Cells.{cellArray}
 use Rattle.certificates.specs.Verdict.{certificatesVerdict}
 use Rattle.certificates.specs.Filled.{filledCells}
 

@@ -4,9 +4,9 @@ use mathlib.Core.Bool.{not}
 use mathlib.Core.List.{List}
 use Rattle.lists.specs.Ranges.{within}
 use Rattle.answers.specs.Verdict.{Verdict, refusedIf, firstRefusal}
-use Rattle.calendar.specs.declared.Date.{Date}
+use Rattle.certificate_calendar.specs.declared.Date.{Date}
 use Rattle.certificate_terms.specs.Terms.{certificateCount}
-use Rattle.certificate_sums.specs.EachVerdict.{eachVerdict}
+use Rattle.certificates.specs.EachVerdict.{eachVerdict}
 
 -- 5, at index 0: the count is outside 1 to 1,000
 unfoldable pub countVerdict : List ℕ → Verdict

@@ -1,11 +1,13 @@
 // Certificates to cells: from the dates, balances and coupons that branches keep to the cells of Schedule CMR.
+pub mod certificate_sums;
+
+use crate::certificate_sums::scan;
 use answers::Answer;
 use answers::number;
-use calendar::Date;
-use certificate_sums::scan;
-use filled_cells::CellValue;
-use filled_cells::Cells;
-use present_cells::cells_of;
+use certificate_calendar::Date;
+use certificate_cells::cells_of;
+use certificate_cells::filled_cells::CellValue;
+use certificate_cells::filled_cells::Cells;
 ghost use mathlib.Core.Path.{_≡_};
 ghost use Rattle.certificates.specs.Promise.{Converted};
 ghost use Rattle.certificates.specs.Inner.Answers.{noCells};

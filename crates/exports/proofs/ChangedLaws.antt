@@ -8,11 +8,11 @@ use borrow.Author.Tests.{eq-eqb}
 use Rattle.answers.specs.Answers.{numberOf, locationOf, verdictOf}
 use Rattle.answers.specs.Verdict.{Verdict}
 use Rattle.answers.proofs.AnswerLaws.{accepted-answer}
-use Rattle.book_places.specs.declared.Book.{Book}
-use Rattle.books.specs.Books.{openedBook}
-use Rattle.books.specs.Promise.{Kept}
-use Rattle.book_changes.specs.declared.Changed.{Changed}
-use Rattle.book_changes.specs.Changing.{bookVerdict, BookOf}
+use Rattle.book_state.specs.declared.Book.{Book}
+use Rattle.book_promise.specs.Books.{openedBook}
+use Rattle.book_promise.specs.Promise.{Kept}
+use Rattle.book_calls.specs.declared.book_changes.Changed.{Changed}
+use Rattle.book_calls.specs.Changing.{bookVerdict, BookOf}
 use Rattle.exports.specs.Changed.{shownOf, bookOf, BookForC}
 
 -- what is shown of a book that stands where a test holds, where the same test holds

@@ -6,10 +6,10 @@ use mathlib.Core.List.{List}
 use lib.Dec.{eqb}
 use Rattle.answers.specs.Answers.{numberOf, locationOf, verdictOf}
 use Rattle.answers.specs.Verdict.{Verdict}
-use Rattle.calendar.specs.declared.Date.{Date}
-use Rattle.filled_cells.specs.declared.Cells.{Cells}
+use Rattle.certificate_calendar.specs.declared.Date.{Date}
+use Rattle.certificate_cells.specs.declared.filled_cells.Cells.{Cells}
 use Rattle.certificates.specs.Promise.{Converted}
-use Rattle.plain_numbers.specs.CellNumbers.{numbersOf}
+use Rattle.exports.specs.CellNumbers.{numbersOf}
 use Rattle.exports.specs.Converted.{ConvertedForC}
 
 pub converted-for-c : (valuation : Date) (s before after : List ℕ) (r : Cells) (number location count : ℕ) → Converted valuation s r

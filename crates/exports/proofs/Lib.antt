@@ -2,3 +2,4 @@ pub mod ExportedLaws
 pub mod ConvertedLaws
 pub mod ChangedLaws
 pub mod ShownCases
+pub mod NumberCases

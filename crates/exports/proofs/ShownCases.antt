@@ -1,7 +1,7 @@
 -- A closed case of what the book's call shows, so that a wrong clause of its definition breaks it: the balance total first, then the totals. Assumes nothing.
 use mathlib.Core.Path.{_≡_, refl}
 use mathlib.Core.List.{[], _∷_}
-use Rattle.book_places.specs.declared.Book.{Book}
+use Rattle.book_state.specs.declared.Book.{Book}
 use Rattle.exports.specs.Changed.{shownOf}
 
 -- a book with a balance total of 7 and the totals 1 to 4

@@ -4,11 +4,11 @@ use mathlib.Core.Path.{_≡_}
 use mathlib.Core.Bool.{cond}
 use mathlib.Core.List.{List, _∷_}
 use lib.Dec.{eqb}
-use Rattle.book_places.specs.declared.Book.{Book}
-use Rattle.books.specs.Books.{openedBook}
-use Rattle.books.specs.Changes.{bookAfterAll}
-use Rattle.books.specs.Promise.{Kept}
-use Rattle.book_changes.specs.Changing.{changesOf, bookVerdict, madeOf}
+use Rattle.book_state.specs.declared.Book.{Book}
+use Rattle.book_promise.specs.Books.{openedBook}
+use Rattle.book_promise.specs.Changes.{bookAfterAll}
+use Rattle.book_promise.specs.Promise.{Kept}
+use Rattle.book_calls.specs.Changing.{changesOf, bookVerdict, madeOf}
 
 -- what is shown of a book: the balance total in thousands of dollars; short lower, short upper, long lower and long upper total by scenario in dollars
 unfoldable pub shownOf : Book → List ℕ

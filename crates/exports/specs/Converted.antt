@@ -5,11 +5,11 @@ use mathlib.Core.Bool.{cond}
 use mathlib.Core.List.{List}
 use lib.Dec.{eqb}
 use lib.ListN.{length}
-use Rattle.calendar.specs.declared.Date.{Date}
-use Rattle.filled_cells.specs.Cells.{cellArray}
+use Rattle.certificate_calendar.specs.declared.Date.{Date}
+use Rattle.certificate_cells.specs.Cells.{cellArray}
 use Rattle.certificates.specs.Verdict.{certificatesVerdict}
 use Rattle.certificates.specs.Filled.{filledCells}
-use Rattle.plain_numbers.specs.CellNumbers.{numbersOf}
+use Rattle.exports.specs.CellNumbers.{numbersOf}
 
 -- s is the list of certificates, before and after are the cells' list at the call and at the return; number and location are 0 for acceptance
 pub record ConvertedForC (valuation : Date) (s before : List ℕ) (number location count : ℕ) (after : List ℕ) : Type 0 where

@@ -1,3 +1,4 @@
 pub mod Exported
 pub mod Converted
 pub mod Changed
+pub mod CellNumbers

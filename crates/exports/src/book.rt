@@ -1,10 +1,10 @@
 // The book's call.
-use book_changes::book_of;
-use plain_numbers::answer_numbers;
-use plain_numbers::write_totals;
+use crate::plain_numbers::answer_numbers;
+use crate::plain_numbers::write_totals;
+use book_calls::book_changes::book_of;
 ghost use Rattle.exports.specs.Changed.{BookForC};
 
-// Opens a book from a filing and makes changes in turn as `book_changes::book_of` does: answers 0 for acceptance, else the first refusal's number, with its
+// Opens a book from a filing and makes changes in turn as `book_calls::book_changes::book_of` does: answers 0 for acceptance, else the first refusal's number, with its
 // location in `location`; the balance total and the twenty-eight totals of the book in `totals`; how many changes were made in `changed`.
 #[no_mangle]
 pub extern "C" fn spritapricot_book(

@@ -1,8 +1,8 @@
 // The certificates' call.
-use calendar::Date;
+use crate::plain_numbers::answer_numbers;
+use crate::plain_numbers::write_cells;
+use certificate_calendar::Date;
 use certificates::to_cells;
-use plain_numbers::answer_numbers;
-use plain_numbers::write_cells;
 ghost use Rattle.exports.specs.Converted.{ConvertedForC};
 
 // Turns certificates into cells as `certificates::to_cells` does: answers 0 for acceptance, else the refusal's number, with the refusal's location in `location`;

@@ -1,8 +1,9 @@
 // The calls for programs in C and in languages that call C, as include/spritapricot.h declares them: the valuing call here, the book's call in `book`, the certificates' call in `cells`.
 pub mod book;
 pub mod cells;
+pub mod plain_numbers;
 
-use plain_numbers::answer_numbers;
+use crate::plain_numbers::answer_numbers;
 use valuation::value;
 ghost use Rattle.exports.specs.Exported.{ValuedForC};
 

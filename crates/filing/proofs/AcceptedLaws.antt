@@ -10,24 +10,24 @@ use lib.Dec.{leb, ltb, lit<}
 use lib.ListN.{length}
 use Rattle.lists.specs.Sums.{sum}
 use Rattle.lists.proofs.TableLaws.{table-le}
-use Rattle.schedule.specs.Cells.{positionAt, brokeredCell, penaltyBalanceCell, penaltyMonthsCell}
-use Rattle.schedule.specs.Limits.{classLimit, heldLimit, monthsLimit, rateLimit}
-use Rattle.schedule.specs.Shift.{pathRate}
-use Rattle.schedule.proofs.CellLaws.{coupon-cell, months-cell, penalty-months-cell}
-use Rattle.fields.specs.Records.{sheetNumber}
+use Rattle.form.specs.Cells.{positionAt, brokeredCell, penaltyBalanceCell, penaltyMonthsCell}
+use Rattle.form.specs.Limits.{classLimit, heldLimit, monthsLimit, rateLimit}
+use Rattle.form.specs.Shift.{pathRate}
+use Rattle.form.proofs.CellLaws.{coupon-cell, months-cell, penalty-months-cell}
+use Rattle.record_fields.specs.Records.{sheetNumber}
 use Rattle.record_kinds.specs.Kinds.{flatRatesKind, ratePathKind, sheetOf, sheetKinds, sheetKind}
 use Rattle.lists.proofs.TestLaws.{neither}
-use Rattle.sheet_numbers.specs.Sheets.{rateCount}
-use Rattle.decode.specs.Contents.{sheetOffset, rateNumber, contentsOf}
-use Rattle.contents.specs.Contents.{cell, cdYield, retailRate}
-use Rattle.column_sums.specs.Balances.{columnBalances}
-use Rattle.required_sheets.specs.RequiredSheets.{sheetMissing}
+use Rattle.filing_contents.specs.Sheets.{rateCount}
+use Rattle.filing_decode.specs.Contents.{sheetOffset, rateNumber, contentsOf}
+use Rattle.filing_contents.specs.Contents.{cell, cdYield, retailRate}
+use Rattle.filing_cells.specs.Balances.{columnBalances}
+use Rattle.filing.specs.RequiredSheets.{sheetMissing}
 use Rattle.filing.specs.Verdict.{Accepted}
-use Rattle.contents.specs.Valid.{Valid}
-use Rattle.column_sums.proofs.SumLaws.{by-column}
-use Rattle.decode.proofs.SoundLaws.{cell-within, balances-within, sheet-limit, tier-count-within, tier-edges-rise, tier-withdrawal-within}
+use Rattle.filing_contents.specs.Valid.{Valid}
+use Rattle.filing_cells.proofs.SumLaws.{by-column}
+use Rattle.filing_decode.proofs.SoundLaws.{cell-within, balances-within, sheet-limit, tier-count-within, tier-edges-rise, tier-withdrawal-within}
 use Rattle.filing.proofs.VerdictLaws.{accepted-passed}
-use Rattle.conditions.proofs.CellVerdictLaws.{months-hold, column-holds, total-holds}
+use Rattle.filing_cells.proofs.CellVerdictLaws.{months-hold, column-holds, total-holds}
 
 module _ (s : List ℕ) (a : Accepted s) where
   -- the yields are present, and so are the rates that no path replaces

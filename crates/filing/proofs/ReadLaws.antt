@@ -5,22 +5,22 @@ use mathlib.Core.Path.{_≡_, sym, ap, _∙_}
 use mathlib.Core.List.{List}
 use borrow.Author.Tests.{eq-eqb, ne-eqb}
 use lib.ListN.{replicate}
-use Rattle.schedule.specs.Cells.{cellCount}
-use Rattle.schedule.specs.Limits.{monthsLimit}
+use Rattle.form.specs.Cells.{cellCount}
+use Rattle.form.specs.Limits.{monthsLimit}
 use Rattle.answers.specs.declared.Answer.{Answer}
 use Rattle.answers.specs.Verdict.{Verdict, firstRefusal}
 use Rattle.answers.specs.Answers.{numberOf, verdictOf}
 use Rattle.answers.proofs.VerdictLaws.{first-passed, first-refused}
 use Rattle.record_verdicts.specs.RecordVerdicts.{recordsVerdict}
-use Rattle.column_sums.specs.Inner.Sums.{columnSums}
-use Rattle.contents.specs.Contents.{Contents, contentsWith}
-use Rattle.sheet_numbers.specs.Sheets.{rateCount}
-use Rattle.decode.specs.Contents.{contentsOf}
-use Rattle.readings.specs.declared.Reading.{Reading}
-use Rattle.required_sheets.specs.RequiredSheets.{sheetVerdict}
+use Rattle.filing_cells.specs.Inner.Sums.{columnSums}
+use Rattle.filing_contents.specs.Contents.{Contents, contentsWith}
+use Rattle.filing_contents.specs.Sheets.{rateCount}
+use Rattle.filing_decode.specs.Contents.{contentsOf}
+use Rattle.filing.specs.declared.readings.Reading.{Reading}
+use Rattle.filing.specs.RequiredSheets.{sheetVerdict}
 use Rattle.filing.specs.Verdict.{contentsVerdict, filingVerdict}
-use Rattle.readings.specs.EmptyContents.{emptyContents}
-use Rattle.readings.proofs.EmptyLaws.{zeros-said}
+use Rattle.filing.specs.EmptyContents.{emptyContents}
+use Rattle.filing.proofs.EmptyLaws.{zeros-said}
 use Rattle.filing.specs.Readings.{readOver, lent, readContents}
 
 module _ (s : List ℕ) where

@@ -7,11 +7,11 @@ use Rattle.answers.specs.declared.Answer.{Answer}
 use Rattle.answers.specs.Verdict.{Verdict}
 use Rattle.answers.specs.Answers.{numberOf, verdictOf}
 use Rattle.answers.proofs.AnswerLaws.{accepted-answer}
-use Rattle.contents.specs.Contents.{Contents}
-use Rattle.decode.specs.Contents.{contentsOf}
+use Rattle.filing_contents.specs.Contents.{Contents}
+use Rattle.filing_decode.specs.Contents.{contentsOf}
 use Rattle.filing.specs.Verdict.{filingVerdict}
 use Rattle.filing.specs.Readings.{readOver, readContents}
-use Rattle.contents.specs.Valid.{Valid}
+use Rattle.filing_contents.specs.Valid.{Valid}
 use Rattle.filing.proofs.ReadLaws.{accepted-over, accepted-contents}
 use Rattle.filing.proofs.AcceptedLaws.{accepted-valid}
 

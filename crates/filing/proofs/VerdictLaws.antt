@@ -8,9 +8,9 @@ use lib.ListN.{length}
 use Rattle.answers.specs.Verdict.{Verdict, accepted, firstRefusal}
 use Rattle.answers.proofs.VerdictLaws.{first-none, condition-fails}
 use Rattle.record_verdicts.specs.RecordVerdicts.{firstFaulty, recordsVerdict}
-use Rattle.scan.proofs.ProgressLaws.{records-passed}
-use Rattle.decode.specs.Contents.{contentsOf}
-use Rattle.required_sheets.specs.RequiredSheets.{sheetMissing, sheetVerdict}
+use Rattle.record_checks.proofs.ProgressLaws.{records-passed}
+use Rattle.filing_decode.specs.Contents.{contentsOf}
+use Rattle.filing.specs.RequiredSheets.{sheetMissing, sheetVerdict}
 use Rattle.filing.specs.Verdict.{contentsVerdict, filingVerdict, Accepted}
 
 -- the conditions on an accepted filing, in their order

@@ -1,2 +1,4 @@
 pub mod Verdict
 pub mod Readings
+pub mod RequiredSheets
+pub mod EmptyContents

@@ -3,9 +3,9 @@ use Prim.Native.Nat.{ℕ}
 use mathlib.Core.Bool.{cond}
 use mathlib.Core.List.{List}
 use lib.Dec.{eqb}
-use Rattle.contents.specs.Contents.{Contents, contentsWith}
-use Rattle.decode.specs.Contents.{contentsOf}
-use Rattle.readings.specs.EmptyContents.{emptyContents}
+use Rattle.filing_contents.specs.Contents.{Contents, contentsWith}
+use Rattle.filing_decode.specs.Contents.{contentsOf}
+use Rattle.filing.specs.EmptyContents.{emptyContents}
 use Rattle.filing.specs.Verdict.{filingVerdict}
 
 -- what stands where something stood before: what the filing says where it is accepted; a refusal changes nothing (01:41)

@@ -5,10 +5,10 @@ use mathlib.Core.Path.{_≡_}
 use mathlib.Core.List.{List}
 use Rattle.answers.specs.Verdict.{Verdict, accepted, firstRefusal}
 use Rattle.record_verdicts.specs.RecordVerdicts.{recordsVerdict}
-use Rattle.conditions.specs.CellVerdicts.{cellsVerdict}
-use Rattle.contents.specs.Contents.{Contents}
-use Rattle.decode.specs.Contents.{contentsOf}
-use Rattle.required_sheets.specs.RequiredSheets.{sheetVerdict}
+use Rattle.filing_cells.specs.CellVerdicts.{cellsVerdict}
+use Rattle.filing_contents.specs.Contents.{Contents}
+use Rattle.filing_decode.specs.Contents.{contentsOf}
+use Rattle.filing.specs.RequiredSheets.{sheetVerdict}
 
 -- the verdict on what the filing says
 abbrev pub contentsVerdict : Contents → Verdict

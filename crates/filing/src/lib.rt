@@ -1,25 +1,28 @@
 // A filing of certificate deposits, from its bytes to what it says.
-use amendments::check_records;
+pub mod readings;
+pub mod required_sheets;
+
+use crate::readings::Reading;
+use crate::readings::refusal;
+use crate::required_sheets::check_sheets;
 use answers::number;
-use conditions::check_cells;
-use decode::fill_cells;
-use decode::fill_sheets;
-use notes::BLOCKS;
-use readings::Reading;
-use readings::refusal;
+use filing_cells::check_cells;
+use filing_decode::fill_cells;
+use filing_decode::fill_sheets;
+use form::CELLS;
+use form::limits::MONTHS;
+use form::limits::RATES;
+use record_checks::check_records;
 use record_kinds::KINDS;
-use required_sheets::check_sheets;
-use schedule::CELLS;
-use schedule::limits::MONTHS;
-use schedule::limits::RATES;
+use record_offsets::BLOCKS;
 ghost use mathlib.Core.Path.{_≡_};
 ghost use lib.ListN.{length};
 ghost use Rattle.answers.specs.Answers.{verdictOf};
-ghost use Rattle.notes.specs.Inner.Notes.{notedBefore};
+ghost use Rattle.record_offsets.specs.Inner.Notes.{notedBefore};
 ghost use Rattle.record_verdicts.specs.RecordVerdicts.{recordsVerdict};
-ghost use Rattle.contents.specs.Contents.{contentsWith};
-ghost use Rattle.column_sums.specs.Inner.Sums.{columnSums};
-ghost use Rattle.required_sheets.specs.RequiredSheets.{sheetVerdict};
+ghost use Rattle.filing_contents.specs.Contents.{contentsWith};
+ghost use Rattle.filing_cells.specs.Inner.Sums.{columnSums};
+ghost use Rattle.filing.specs.RequiredSheets.{sheetVerdict};
 ghost use Rattle.filing.specs.Verdict.{filingVerdict};
 ghost use Rattle.filing.specs.Readings.{readOver, lent, readContents};
 

@@ -2,7 +2,7 @@
 // 65,536 of a filing is read, so that a longer input shows.
 use libc::STDIN_FILENO;
 use libc::STDOUT_FILENO;
-use listing_text::write_read;
+use text_listing::write_read;
 
 fn main() {
     let mut input = [0u8; 65537];

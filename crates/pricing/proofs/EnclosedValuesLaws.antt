@@ -5,7 +5,7 @@ use native.Mathlib.Omega.{arith}
 use Rattle.lists.specs.Sums.{sumWhere, everywhere}
 use Rattle.lists.proofs.SumLaws.{sumWhere-mono, sumWhere-add, sumWhere-mul}
 use Rattle.fraction.specs.Fraction.{Fraction, Encloses}
-use Rattle.schedule.specs.Shift.{scenarioCount}
+use Rattle.form.specs.Shift.{scenarioCount}
 use Rattle.pricing.specs.EnclosedValues.{EnclosedValues}
 
 -- c at each of n places

@@ -8,7 +8,7 @@ use native.Mathlib.Nat.{le-refl, le-antisymm, mul-zero, mul-assoc, mul-le-mul, m
 use native.Mathlib.Omega.{arith}
 use Rattle.lists.specs.Tables.{table, tableFrom}
 use Rattle.lists.proofs.TableLaws.{table-getD, table-ext, table-le}
-use Rattle.schedule.specs.Shift.{shiftedLimit, scenarioCount}
+use Rattle.form.specs.Shift.{shiftedLimit, scenarioCount}
 use Rattle.pricing.specs.Scales.{par, rateScale}
 use Rattle.pricing.specs.Rounding.{Rounding, down, up, quotient}
 use Rattle.pricing.specs.Run.{discountBy}

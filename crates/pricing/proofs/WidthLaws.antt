@@ -3,7 +3,7 @@ use Prim.Native.Nat.{ℕ, zero, suc, _+_, _*_, _≤_, zero-le}
 use mathlib.Core.Path.{_≡_, refl}
 use native.Mathlib.Omega.{arith}
 use Rattle.fraction.proofs.EnclosureLaws.{encloses-le}
-use Rattle.schedule.specs.Limits.{monthsLimit}
+use Rattle.form.specs.Limits.{monthsLimit}
 use Rattle.pricing.specs.Scales.{par}
 use Rattle.pricing.specs.Terms.{Terms}
 use Rattle.pricing.specs.Bounded.{Bounded}

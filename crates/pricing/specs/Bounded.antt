@@ -1,6 +1,6 @@
 -- The limits within which a deposit's terms lie for every accepted filing (01:24, 01:51-56). Definitions only.
 use Prim.Native.Nat.{ℕ, _≤_}
-use Rattle.schedule.specs.Limits.{monthsLimit}
+use Rattle.form.specs.Limits.{monthsLimit}
 use Rattle.pricing.specs.Scales.{par, growthLimit, servicingLimit}
 use Rattle.pricing.specs.Terms.{Terms}
 

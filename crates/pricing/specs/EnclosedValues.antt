@@ -5,7 +5,7 @@ use mathlib.Core.Bool.{Bool}
 use Rattle.lists.specs.Sums.{sumWhere, everywhere}
 use Rattle.fraction.specs.Fraction.{Fraction, Encloses}
 use Rattle.fraction.specs.Totals.{totalWhere}
-use Rattle.schedule.specs.Shift.{scenarioCount}
+use Rattle.form.specs.Shift.{scenarioCount}
 
 -- `count` positions with their exact values; `total` is the sum of their balances and `allowance` 500 for each
 pub record EnclosedValues (count : ℕ) (balance : ℕ → ℕ) (lower upper : ℕ → ℕ → ℕ) (exact : ℕ → ℕ → Fraction) (total allowance : ℕ) : Type 0 where

@@ -1,6 +1,6 @@
 -- Scales and limits of the run (01:24, 01:55-60; 02:CR 4). Definitions only.
 use Prim.Native.Nat.{ℕ, _*_, _^_}
-use Rattle.schedule.specs.Limits.{couponLimit}
+use Rattle.form.specs.Limits.{couponLimit}
 
 -- B_0 (01:55), and the scale of balances, flows, survivals, discount factors and prices: billionths
 abbrev pub par : ℕ

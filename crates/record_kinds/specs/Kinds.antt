@@ -4,9 +4,9 @@ use mathlib.Core.Bool.{Bool, cond, _||_}
 use mathlib.Core.List.{List, [], _∷_}
 use lib.ListN.{getD}
 use lib.Dec.{eqb}
-use Rattle.schedule.specs.Limits.{rateLimit}
+use Rattle.form.specs.Limits.{rateLimit}
 use Rattle.record_kinds.specs.declared.SheetKind.{SheetKind}
-use Rattle.fields.specs.Records.{recordKind, tierCount}
+use Rattle.record_fields.specs.Records.{recordKind, tierCount}
 
 -- the kinds are below this number
 abbrev pub kindCount : ℕ

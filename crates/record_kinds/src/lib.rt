@@ -1,7 +1,9 @@
 // The kinds of record: what a sheet of each kind holds, and the length that a record is to have.
-use fields::record_kind;
-use fields::tier_count;
-use schedule::limits::RATE_LIMIT;
+pub mod items;
+
+use form::limits::RATE_LIMIT;
+use record_fields::record_kind;
+use record_fields::tier_count;
 ghost use mathlib.Core.Path.{_≡_};
 ghost use Rattle.record_kinds.specs.Kinds.{givesCell, namesCell, sheetOf, sheetKind, dueLength};
 

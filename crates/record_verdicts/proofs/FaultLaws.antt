@@ -10,14 +10,14 @@ use lib.Dec.{ltb, eqb}
 use lib.ListN.{length}
 use Rattle.answers.specs.Verdict.{Verdict, accepted, refused, refusedIf, firstRefusal, firstOf}
 use Rattle.answers.proofs.VerdictLaws.{first-passed, first-refused, first-none, condition-fails}
-use Rattle.fields.specs.Records.{recordLength, recordKind, recordValue, sheetNumber, nextRecord}
+use Rattle.record_fields.specs.Records.{recordLength, recordKind, recordValue, sheetNumber, nextRecord}
 use Rattle.record_kinds.specs.Kinds.{givesCell, amendmentKind, sheetKind, tiersKind, dueLength}
-use Rattle.bodies.specs.Bodies.{valueLimit, overLimit}
-use Rattle.tier_faults.specs.TierFaults.{unsoundTiers}
-use Rattle.bodies.proofs.BodyLaws.{FitAmendment, value-within, numbers-within, amendment-within, amendment-fits}
-use Rattle.tier_faults.proofs.TierLaws.{SoundTiers, tiers-load}
+use Rattle.record_limits.specs.Bodies.{valueLimit, overLimit}
+use Rattle.record_limits.specs.TierFaults.{unsoundTiers}
+use Rattle.record_limits.proofs.BodyLaws.{FitAmendment, value-within, numbers-within, amendment-within, amendment-fits}
+use Rattle.record_limits.proofs.TierLaws.{SoundTiers, tiers-load}
 use Rattle.lists.proofs.TestLaws.{neither}
-use Rattle.faults.specs.Faults.{incomplete, misshapen, unlisted, repeated, pathBesideFlat}
+use Rattle.record_shape.specs.Faults.{incomplete, misshapen, unlisted, repeated, pathBesideFlat}
 use Rattle.record_verdicts.specs.RecordVerdicts.{shapeVerdict, bodyVerdict, recordVerdict}
 use Rattle.record_verdicts.specs.Inner.PlainVerdicts.{plainVerdict}
 

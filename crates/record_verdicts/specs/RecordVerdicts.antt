@@ -5,10 +5,10 @@ use mathlib.Core.List.{List, [], _∷_}
 use lib.ListN.{length}
 use lib.Dec.{ltb, eqb}
 use Rattle.answers.specs.Verdict.{Verdict, accepted, refusedIf, firstRefusal, firstOf}
-use Rattle.fields.specs.Records.{firstRecord}
-use Rattle.bodies.specs.Bodies.{overLimit}
-use Rattle.tier_faults.specs.TierFaults.{unsoundTiers}
-use Rattle.faults.specs.Faults.{incomplete, misshapen, unlisted, repeated, pathBesideFlat, amendmentRepeated}
+use Rattle.record_fields.specs.Records.{firstRecord}
+use Rattle.record_limits.specs.Bodies.{overLimit}
+use Rattle.record_limits.specs.TierFaults.{unsoundTiers}
+use Rattle.record_shape.specs.Faults.{incomplete, misshapen, unlisted, repeated, pathBesideFlat, amendmentRepeated}
 
 -- the verdict on one record, at its offset: before 16, by it, and after it
 unfoldable pub shapeVerdict : List ℕ → ℕ → Verdict

@@ -1,21 +1,23 @@
 // The verdict on one record but for 16: refusals 1 to 4, 12, 5 and 11, in the paper's order.
+pub mod sound_records;
+
 use answers::Answer;
-use bodies::over_limit;
-use faults::incomplete;
-use faults::misshapen;
-use faults::path_beside_flat;
-use faults::repeated;
-use faults::unlisted;
-use first_refusals::first_refusal;
+use answers::first_refusals::first_refusal;
+use form::CELLS;
 use record_kinds::KINDS;
-use schedule::CELLS;
-use tier_faults::unsound_tiers;
+use record_limits::over_limit;
+use record_limits::tier_faults::unsound_tiers;
+use record_shape::incomplete;
+use record_shape::misshapen;
+use record_shape::path_beside_flat;
+use record_shape::repeated;
+use record_shape::unlisted;
 ghost use mathlib.Core.Path.{_≡_};
 ghost use Prim.Native.Nat.{_≤_};
 ghost use lib.ListN.{length};
 ghost use Rattle.answers.specs.Verdict.{firstRefusal, refusedIf};
 ghost use Rattle.answers.specs.Answers.{numberOf, locationOf, verdictOf};
-ghost use Rattle.notes.specs.Inner.Notes.{notedBefore};
+ghost use Rattle.record_offsets.specs.Inner.Notes.{notedBefore};
 ghost use Rattle.record_verdicts.specs.RecordVerdicts.{shapeVerdict, bodyVerdict};
 ghost use Rattle.record_verdicts.specs.Inner.PlainVerdicts.{plainVerdict};
 

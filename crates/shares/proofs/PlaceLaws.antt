@@ -7,14 +7,14 @@ use native.Mathlib.Omega.{arith}
 use lib.Dec.{eqb}
 use lib.ListN.{getD, set}
 use Rattle.lists.proofs.FillLaws.{Filled, fill-more}
-use Rattle.conditions.specs.ValidCells.{ValidCells}
-use Rattle.sub_balances.specs.PlaceOrder.{positionOf, withPenalty}
+use Rattle.filing_cells.specs.ValidCells.{ValidCells}
+use Rattle.form.specs.PlaceOrder.{positionOf, withPenalty}
 use Rattle.shares.specs.SubBalances.{balanceAt, couponAt, monthsAt, penaltyAt}
-use Rattle.apportion.specs.declared.Row.{Row}
-use Rattle.sub_balances.specs.declared.SubBalance.{SubBalance}
-use Rattle.sub_balances.specs.Places.{noPlace}
+use Rattle.shares.specs.declared.apportion.Row.{Row}
+use Rattle.form.specs.declared.sub_balances.SubBalance.{SubBalance}
+use Rattle.form.specs.Places.{noPlace}
 use Rattle.shares.specs.Places.{placeAt}
-use Rattle.apportion.specs.Inner.Rows.{rowShares}
+use Rattle.shares.specs.Inner.ShareRows.{rowShares}
 use Rattle.shares.specs.Inner.Rows.{rowAt, rowPlace}
 use Rattle.shares.proofs.RowLaws.{four-row}
 

@@ -9,18 +9,18 @@ use Rattle.lists.specs.Sums.{sum, sumWhere}
 use Rattle.lists.specs.Tables.{those}
 use Rattle.lists.proofs.EachLaws.{each-lt}
 use Rattle.lists.proofs.SumLaws.{sum-take-suc, sum-take-le}
-use Rattle.schedule.specs.declared.Position.{Position}
-use Rattle.schedule.specs.Cells.{position, positions, positionAt, inColumn, brokeredCell}
-use Rattle.column_sums.specs.Balances.{cellIn, columnBalances}
-use Rattle.conditions.specs.ValidCells.{ValidCells}
-use Rattle.column_sums.specs.Inner.Sums.{columnSum}
-use Rattle.column_sums.proofs.SumLaws.{column-range, column-sum, column-limit}
-use Rattle.apportion.specs.declared.Row.{Row}
-use Rattle.apportion.specs.Apportion.{shareBehind}
+use Rattle.form.specs.declared.Position.{Position}
+use Rattle.form.specs.Cells.{position, positions, positionAt, inColumn, brokeredCell}
+use Rattle.filing_cells.specs.Balances.{cellIn, columnBalances}
+use Rattle.filing_cells.specs.ValidCells.{ValidCells}
+use Rattle.filing_cells.specs.Inner.Sums.{columnSum}
+use Rattle.filing_cells.proofs.SumLaws.{column-range, column-sum, column-limit}
+use Rattle.shares.specs.declared.apportion.Row.{Row}
+use Rattle.shares.specs.Apportion.{shareBehind}
 use Rattle.shares.specs.SubBalances.{brokeredShares, penaltyShares, brokeredIn, retailIn, retailPenalized, brokeredPenalized, fourOf}
-use Rattle.apportion.specs.Inner.Rows.{RowWithin, accountShares, rowShares}
+use Rattle.shares.specs.Inner.ShareRows.{RowWithin, accountShares, rowShares}
 use Rattle.shares.specs.Inner.Rows.{rowAt}
-use Rattle.apportion.proofs.ApportionLaws.{apportion-getD}
+use Rattle.shares.proofs.ApportionLaws.{apportion-getD}
 use Rattle.shares.proofs.PartLaws.{parts-sum, parts-above, parts-through-retail, retail-part, brokered-part}
 use Rattle.shares.proofs.SubBalanceLaws.{brokered-le, brokered-length, row-balance}
 

@@ -10,15 +10,15 @@ use Rattle.lists.specs.Sums.{sum, sumWhere, everywhere}
 use Rattle.lists.specs.Tables.{those}
 use Rattle.lists.proofs.EachLaws.{each-lt}
 use Rattle.lists.proofs.SumLaws.{sum-getD-le, sumWhere-ext}
-use Rattle.schedule.specs.declared.Position.{Position}
-use Rattle.schedule.specs.Cells.{position, positions, positionAt, inColumn, brokeredCell, penaltyBalanceCell, totalCell}
-use Rattle.schedule.specs.Limits.{balanceLimit}
-use Rattle.column_sums.specs.Balances.{cellIn, columnBalances, balances}
-use Rattle.conditions.specs.ValidCells.{ValidCells}
-use Rattle.column_sums.proofs.SumLaws.{column-range}
-use Rattle.sub_balances.specs.PlaceOrder.{positionOf, subBalanceCount}
+use Rattle.form.specs.declared.Position.{Position}
+use Rattle.form.specs.Cells.{position, positions, positionAt, inColumn, brokeredCell, penaltyBalanceCell, totalCell}
+use Rattle.form.specs.Limits.{balanceLimit}
+use Rattle.filing_cells.specs.Balances.{cellIn, columnBalances, balances}
+use Rattle.filing_cells.specs.ValidCells.{ValidCells}
+use Rattle.filing_cells.proofs.SumLaws.{column-range}
+use Rattle.form.specs.PlaceOrder.{positionOf, subBalanceCount}
 use Rattle.shares.specs.SubBalances.{brokeredShares, accountParts, penaltyShares, brokeredIn, retailIn, retailPenalized, brokeredPenalized, fourOf, balanceAt}
-use Rattle.apportion.proofs.ApportionLaws.{apportion-sum, apportion-le, apportion-length}
+use Rattle.shares.proofs.ApportionLaws.{apportion-sum, apportion-le, apportion-length}
 use Rattle.shares.proofs.PartLaws.{parts-sum, retail-part, brokered-part}
 
 -- a column whose brokered balance is within its sum

@@ -1,3 +1,4 @@
 pub mod SubBalances
 pub mod Places
 pub mod Inner
+pub mod Apportion

@@ -2,9 +2,9 @@
 use Prim.Native.Nat.{ℕ}
 use mathlib.Core.List.{List}
 use Rattle.lists.specs.Tables.{table}
-use Rattle.sub_balances.specs.declared.SubBalance.{SubBalance}
-use Rattle.sub_balances.specs.Places.{noValues}
-use Rattle.sub_balances.specs.PlaceOrder.{subBalanceCount}
+use Rattle.form.specs.declared.sub_balances.SubBalance.{SubBalance}
+use Rattle.form.specs.Places.{noValues}
+use Rattle.form.specs.PlaceOrder.{subBalanceCount}
 use Rattle.shares.specs.SubBalances.{balanceAt, couponAt, monthsAt, penaltyAt}
 
 -- what a place holds: its balance, its cell's coupon and its cell's remaining months, its penalty, and no values

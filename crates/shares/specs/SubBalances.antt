@@ -3,11 +3,11 @@ use Prim.Native.Nat.{ℕ, _+_, _*_, _-_, _%_}
 use mathlib.Core.Bool.{cond}
 use mathlib.Core.List.{List, [], _∷_}
 use lib.ListN.{getD}
-use Rattle.schedule.specs.declared.Position.{Position}
-use Rattle.schedule.specs.Cells.{brokeredCell, penaltyBalanceCell, penaltyMonthsCell}
-use Rattle.sub_balances.specs.PlaceOrder.{positionOf, withPenalty}
-use Rattle.column_sums.specs.Balances.{cellIn, columnBalances}
-use Rattle.apportion.specs.Apportion.{apportion}
+use Rattle.form.specs.declared.Position.{Position}
+use Rattle.form.specs.Cells.{brokeredCell, penaltyBalanceCell, penaltyMonthsCell}
+use Rattle.form.specs.PlaceOrder.{positionOf, withPenalty}
+use Rattle.filing_cells.specs.Balances.{cellIn, columnBalances}
+use Rattle.shares.specs.Apportion.{apportion}
 
 -- a column's brokered balance, split over its rows
 unfoldable pub brokeredShares : List ℕ → ℕ → List ℕ

@@ -1,2 +1,3 @@
 // The thirty-six sub-balances of a filing.
+pub mod apportion;
 pub mod places;

@@ -1,16 +1,16 @@
 // The split of a filing's balances into the thirty-six sub-balances.
-use apportion::Row;
-use apportion::row_shares;
-use column_sums::ColumnSums;
-use column_sums::cells::cell_value;
-use positions::position;
-use schedule::CELLS;
-use sub_balances::NO_PLACE;
-use sub_balances::SubBalance;
+use crate::apportion::Row;
+use crate::apportion::row_shares;
+use filing_cells::column_sums::ColumnSums;
+use filing_cells::column_sums::cells::cell_value;
+use form::CELLS;
+use form::positions::position;
+use form::sub_balances::NO_PLACE;
+use form::sub_balances::SubBalance;
 ghost use mathlib.Core.Path.{_≡_};
 ghost use Prim.Native.Nat.{_<_};
-ghost use Rattle.conditions.specs.ValidCells.{ValidCells};
-ghost use Rattle.column_sums.specs.Inner.Sums.{columnSums};
+ghost use Rattle.filing_cells.specs.ValidCells.{ValidCells};
+ghost use Rattle.filing_cells.specs.Inner.Sums.{columnSums};
 ghost use Rattle.shares.specs.Inner.Rows.{rowAt, rowPlace};
 ghost use Rattle.shares.specs.Places.{placesOf};
 

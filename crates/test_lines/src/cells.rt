@@ -3,8 +3,8 @@ use crate::output::end_line;
 use crate::output::next_number;
 use crate::output::text;
 use crate::verdicts::print_answer;
-use filled_cells::CellValue;
-use filled_cells::Cells;
+use certificate_cells::filled_cells::CellValue;
+use certificate_cells::filled_cells::Cells;
 
 // The answer, the count and the cells with their values.
 pub fn print_cells(made: Cells) {

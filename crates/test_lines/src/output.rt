@@ -1,6 +1,6 @@
 // Lines of text and numbers on standard output.
+use form_scenarios::Scenario;
 use libc::STDOUT_FILENO;
-use scenarios::Scenario;
 
 // A piece of text as it stands.
 pub fn text(s: &[u8]) {

@@ -5,7 +5,7 @@ use crate::output::rest_of_line;
 use crate::output::text;
 use crate::verdicts::count_if;
 use crate::verdicts::print_counts;
-use sub_balances::SubBalance;
+use form::sub_balances::SubBalance;
 
 pub const SEVENS: SubBalance = SubBalance {
     balance: 7,

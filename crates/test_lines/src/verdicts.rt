@@ -8,7 +8,7 @@ use answers::Answer;
 pub fn print_answer(answer: Answer) {
     text(b"answer");
     next_number(answers::number(answer));
-    next_number(locations::location(answer) as u64);
+    next_number(answers::locations::location(answer) as u64);
     end_line();
 }
 

@@ -1,4 +1,7 @@
 // Text in a list of bytes that the caller lends: each function puts its text at an index, where it must fit, and answers the index behind it.
+pub mod answer_lines;
+pub mod lines;
+
 ghost use Prim.Native.Nat.{_+_, _≤_};
 ghost use mathlib.Core.List.{_∷_, []};
 ghost use lib.ListN.{length};

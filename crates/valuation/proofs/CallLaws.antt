@@ -10,12 +10,12 @@ use Rattle.answers.specs.declared.Answer.the-variants.{ListTooShort}
 use Rattle.answers.specs.Answers.{numberOf, verdictOf}
 use Rattle.answers.specs.Verdict.{Verdict, accepted, refused}
 use Rattle.answers.proofs.VerdictLaws.{list-short, list-long}
-use Rattle.contents.specs.Contents.{Contents}
-use Rattle.decode.specs.Contents.{contentsOf}
+use Rattle.filing_contents.specs.Contents.{Contents}
+use Rattle.filing_decode.specs.Contents.{contentsOf}
 use Rattle.filing.specs.Readings.{readOver}
 use Rattle.filing.specs.Verdict.{filingVerdict}
 use Rattle.filing.proofs.ReadingLaws.{reading-says, reading-valid}
-use Rattle.filing_numbers.specs.Numbers.{numbers, numberCount}
+use Rattle.value_numbers.specs.Numbers.{numbers, numberCount}
 use Rattle.valuation.specs.Promise.{verdictOn, listAfter, Valued}
 use Rattle.valuation.proofs.PromiseLaws.{enclosed}
 

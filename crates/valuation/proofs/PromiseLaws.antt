@@ -9,22 +9,22 @@ use Rattle.lists.specs.Sums.{sum, sumWhere, everywhere}
 use Rattle.lists.proofs.SumLaws.{sumWhere-ext}
 use Rattle.fraction.specs.Fraction.{Encloses}
 use Rattle.fraction.specs.Totals.{totalWhere}
-use Rattle.schedule.specs.declared.Position.{Position}
-use Rattle.schedule.specs.Cells.{positionAt, totalCell}
-use Rattle.decode.specs.Contents.{contentsOf}
-use Rattle.contents.specs.Contents.{Contents, cell}
-use Rattle.contents.specs.Valid.{Valid}
-use Rattle.sub_balances.specs.PlaceOrder.{positionOf, subBalanceCount, isShort, isLong}
+use Rattle.form.specs.declared.Position.{Position}
+use Rattle.form.specs.Cells.{positionAt, totalCell}
+use Rattle.filing_decode.specs.Contents.{contentsOf}
+use Rattle.filing_contents.specs.Contents.{Contents, cell}
+use Rattle.filing_contents.specs.Valid.{Valid}
+use Rattle.form.specs.PlaceOrder.{positionOf, subBalanceCount, isShort, isLong}
 use Rattle.shares.specs.SubBalances.{fourOf, balanceAt}
 use Rattle.shares.proofs.SubBalanceLaws.{four-sum, balanceAt-total}
 use Rattle.pricing.specs.Rounding.{down, up}
 use Rattle.valuation.specs.Exact.{exactValueAt}
-use Rattle.filing_numbers.specs.Run.{valueAt}
-use Rattle.filing_numbers.specs.Numbers.{scenarioTotals, numbers}
+use Rattle.value_numbers.specs.Run.{valueAt}
+use Rattle.value_numbers.specs.Numbers.{scenarioTotals, numbers}
 use Rattle.valuation.specs.Promise.{balanceIn, lowerIn, upperIn, totalNumber, Enclosed}
 use Rattle.pricing.proofs.EnclosedValuesLaws.{values-enclosed}
 use Rattle.valuation.proofs.ValueLaws.{valueAt-encloses, valueAt-width, totalBy-encloses}
-use Rattle.filing_numbers.proofs.NumberLaws.{totals, numbers-split, balance-read, lower-read, upper-read, total-read}
+use Rattle.value_numbers.proofs.NumberLaws.{totals, numbers-split, balance-read, lower-read, upper-read, total-read}
 
 -- one of a position's four places
 four-place : (k : Contents) (i r : ℕ) → r < 4 → balanceAt (k .cells) (4 * i + r) ≡ getD (fourOf (k .cells) (positionAt i)) r 0

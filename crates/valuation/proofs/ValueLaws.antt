@@ -4,16 +4,16 @@ use mathlib.Core.Bool.{Bool}
 use Rattle.fraction.specs.Fraction.{Encloses}
 use Rattle.fraction.specs.Totals.{totalWhere}
 use Rattle.fraction.proofs.EnclosureLaws.{total-encloses}
-use Rattle.contents.specs.Contents.{Contents}
-use Rattle.contents.specs.Valid.{Valid}
-use Rattle.sub_balances.specs.PlaceOrder.{subBalanceCount}
+use Rattle.filing_contents.specs.Contents.{Contents}
+use Rattle.filing_contents.specs.Valid.{Valid}
+use Rattle.form.specs.PlaceOrder.{subBalanceCount}
 use Rattle.shares.specs.SubBalances.{balanceAt}
 use Rattle.shares.specs.Places.{placeAt}
 use Rattle.pricing.specs.Rounding.{down, up}
 use Rattle.valuation.specs.Exact.{exactValueAt}
-use Rattle.filing_numbers.specs.Run.{valueAt, totalBy}
-use Rattle.place_values.proofs.PlaceTermsLaws.{deposit-limits}
-use Rattle.place_values.proofs.HeldLaws.{held-encloses, held-width}
+use Rattle.value_numbers.specs.Run.{valueAt, totalBy}
+use Rattle.value_places.proofs.PlaceTermsLaws.{deposit-limits}
+use Rattle.value_places.proofs.HeldLaws.{held-encloses, held-width}
 
 -- lower ≤ exact ≤ upper for each place and scenario
 pub valueAt-encloses : (k : Contents) (scenario place : ℕ)

@@ -7,17 +7,17 @@ use mathlib.Core.List.{List, _++_}
 use lib.Dec.{eqb}
 use lib.ListN.{length, getD, drop}
 use Rattle.lists.specs.Sums.{sumWhere, everywhere}
-use Rattle.schedule.specs.Cells.{positionAt, totalCell}
+use Rattle.form.specs.Cells.{positionAt, totalCell}
 use Rattle.answers.specs.declared.Answer.{Answer}
 use Rattle.answers.specs.Answers.{verdictOf}
 use Rattle.answers.specs.Verdict.{Verdict, accepted, firstRefusal, listVerdict}
-use Rattle.decode.specs.Contents.{contentsOf}
-use Rattle.contents.specs.Contents.{cell}
+use Rattle.filing_decode.specs.Contents.{contentsOf}
+use Rattle.filing_contents.specs.Contents.{cell}
 use Rattle.filing.specs.Verdict.{filingVerdict}
-use Rattle.sub_balances.specs.PlaceOrder.{subBalanceCount, isShort, isLong}
+use Rattle.form.specs.PlaceOrder.{subBalanceCount, isShort, isLong}
 use Rattle.pricing.specs.EnclosedValues.{EnclosedValues, EnclosedTotal}
 use Rattle.valuation.specs.Exact.{exactValueAt}
-use Rattle.filing_numbers.specs.Numbers.{numbers, numberCount}
+use Rattle.value_numbers.specs.Numbers.{numbers, numberCount}
 
 -- the verdict on a list and a filing: a list under 568 numbers is a 10, and comes first
 unfoldable pub verdictOn : List ℕ → List ℕ → Verdict

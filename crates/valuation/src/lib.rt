@@ -2,10 +2,10 @@
 use answers::Answer;
 use answers::number;
 use filing::read;
-use filing_numbers::write_numbers;
-use schedule::CELLS;
-use schedule::limits::MONTHS;
-use schedule::limits::RATES;
+use form::CELLS;
+use form::limits::MONTHS;
+use form::limits::RATES;
+use value_numbers::write_numbers;
 ghost use Rattle.valuation.specs.Promise.{Valued};
 
 // Values a filing: the 568 numbers stand in the list where the answer is acceptance, and the list is as it was on a refusal. A list under 568

@@ -15,7 +15,7 @@ use Rattle.lists.proofs.FillLaws.{Filled, fill-none, fill-more, fill-first}
 use Rattle.lists.proofs.TestLaws.{everyEntry, entries-le}
 use Rattle.withdrawal.specs.declared.WithdrawalTiers.{WithdrawalTiers}
 use Rattle.withdrawal.specs.Survival.{survival, fullSurvival}
-use Rattle.schedule.specs.Limits.{tierLimit, edgeLimit, withdrawalLimit}
+use Rattle.form.specs.Limits.{tierLimit, edgeLimit, withdrawalLimit}
 use Rattle.withdrawal.specs.declared.ReachedTier.{ReachedTier}
 use Rattle.withdrawal.specs.Tiers.{WithdrawalTier, TierTable, Falling, tier, annualWithdrawal}
 use Rattle.withdrawal.specs.Reached.{reachedTier}

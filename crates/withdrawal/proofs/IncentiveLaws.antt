@@ -3,8 +3,8 @@ use Prim.Native.Nat.{ℕ, _*_, _≤_}
 use mathlib.Core.Path.{_≡_, refl}
 use native.Mathlib.Nat.{mul-le-mul, mul-le-mul-left, sub-le}
 use native.Mathlib.Omega.{arith}
-use Rattle.schedule.specs.Limits.{couponLimit, penaltyLimit, monthsLimit}
-use Rattle.schedule.specs.Shift.{shiftedLimit}
+use Rattle.form.specs.Limits.{couponLimit, penaltyLimit, monthsLimit}
+use Rattle.form.specs.Shift.{shiftedLimit}
 use Rattle.withdrawal.specs.declared.CouponParts.{CouponParts}
 use Rattle.withdrawal.specs.Gain.{gainScale, costScale, gain, cost}
 use Rattle.withdrawal.specs.Inner.Incentives.{partsOf, incentiveFrom, gainOf, Small, PartsWithin}

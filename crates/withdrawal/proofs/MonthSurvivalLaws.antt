@@ -5,7 +5,7 @@ use borrow.Author.Tests.{lt-ltb, le-ltb}
 use native.Mathlib.Nat.{le-refl}
 use lib.Dec.{ltb}
 use lib.IntN.{ℤ}
-use Rattle.schedule.specs.Limits.{couponLimit, penaltyLimit}
+use Rattle.form.specs.Limits.{couponLimit, penaltyLimit}
 use Rattle.withdrawal.specs.declared.CouponParts.{CouponParts}
 use Rattle.withdrawal.specs.declared.Incentive.{Incentive}
 use Rattle.withdrawal.specs.Gain as of

@@ -10,7 +10,7 @@ use lib.ListN.{length, getD}
 use Rattle.lists.proofs.TableLaws.{table-getD}
 use Rattle.lists.proofs.TestLaws.{both, everyEntry, entry-passes}
 use Rattle.lists.proofs.FillLaws.{fill-all}
-use Rattle.schedule.specs.Limits.{withdrawalLimit}
+use Rattle.form.specs.Limits.{withdrawalLimit}
 use Rattle.withdrawal.specs.Survival.{fullSurvival, survives, withBits, survival, survivalFigures}
 
 -- r is the largest number that passes the test

@@ -4,7 +4,7 @@ use mathlib.Core.Bool.{Bool, cond}
 use mathlib.Core.List.{List}
 use lib.Dec.{leb}
 use Rattle.lists.specs.Tables.{table}
-use Rattle.schedule.specs.Limits.{withdrawalLimit}
+use Rattle.form.specs.Limits.{withdrawalLimit}
 
 -- nothing is withdrawn: all survives, billionths
 abbrev pub fullSurvival : ℕ

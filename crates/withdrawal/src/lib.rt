@@ -1,6 +1,6 @@
 // Early withdrawal of certificate deposits (01:49-53), with its definitions and their laws. Nothing runs here.
 
-use schedule::limits::TIER_LIMIT;
+use form::limits::TIER_LIMIT;
 
 // q where nothing is withdrawn, in billionths.
 pub const FULL_SURVIVAL: u64 = 1_000_000_000;

@@ -6,11 +6,11 @@ use Rattle.answers.specs.Verdict.{Verdict, refused}
 use Rattle.answers.specs.Answers.{numberOf, verdictOf}
 use Rattle.answers.proofs.AnswerLaws.{accepted-answer}
 use Rattle.certificate_terms.specs.Terms.{certificateCount}
-use Rattle.certificate_sums.specs.Sums.{totalsOf}
-use Rattle.certificate_sums.specs.Inner.Totals.{summedCount}
-use Rattle.certificate_sums.specs.EachVerdict.{eachVerdict}
+use Rattle.certificates.specs.Sums.{totalsOf}
+use Rattle.certificates.specs.Inner.Totals.{summedCount}
+use Rattle.certificates.specs.EachVerdict.{eachVerdict}
 use Rattle.certificates.specs.Verdict.{certificatesVerdict}
-use Rattle.certificate_sums.proofs.SumLaws.{Passed}
+use Rattle.certificates.proofs.SumLaws.{Passed}
 use Rattle.certificates.proofs.CallLaws.{each-passed, count-none, count-many, count-passes, totals-bounded, call-refused, call-accepted}
 use borrow.Author.Needs.{needs}
 use Rattle.certificates.proofs.to_cells.Statement.{statement}

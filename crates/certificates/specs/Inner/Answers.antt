@@ -1,8 +1,8 @@
 -- A refusal, which gives no cells. Definitions only.
 use mathlib.Core.List.{[]}
 use Rattle.answers.specs.declared.Answer.{Answer}
-use Rattle.filled_cells.specs.declared.Cells.{Cells}
-use Rattle.filled_cells.specs.Cells.{cellArray}
+use Rattle.certificate_cells.specs.declared.filled_cells.Cells.{Cells}
+use Rattle.certificate_cells.specs.Cells.{cellArray}
 
 -- a refusal
 unfoldable pub noCells : Answer → Cells

@@ -7,11 +7,11 @@ use borrow.Author.Needs.{needs}
 use lib.ListN.{length}
 use Rattle.answers.specs.Verdict.{Verdict}
 use Rattle.answers.specs.Answers.{verdictOf}
-use Rattle.notes.specs.Inner.Notes.{Noted, notedBefore}
+use Rattle.record_offsets.specs.Inner.Notes.{Noted, notedBefore}
 use Rattle.record_verdicts.specs.RecordVerdicts.{recordsVerdict}
-use Rattle.amendments.proofs.VerdictLaws.{plain-passed}
+use Rattle.record_checks.proofs.VerdictLaws.{plain-passed}
 use Rattle.record_verdicts.specs.Inner.PlainVerdicts.{firstPlain}
-use Rattle.required_sheets.specs.RequiredSheets.{sheetVerdict}
+use Rattle.filing.specs.RequiredSheets.{sheetVerdict}
 use Rattle.filing.proofs.ReadLaws.{records-refuse, sheets-refuse, refused-reading}
 use Rattle.filing.proofs.read.Statement.{statement}
 use Rattle.filing.proofs.read.Tie as tie

@@ -4,11 +4,11 @@ use mathlib.Core.Path.{_≡_, refl, sym, ap, subst, _∙_}
 use borrow.Author.Needs.{needs}
 use Rattle.answers.specs.Verdict.{Verdict}
 use Rattle.answers.specs.Answers.{verdictOf}
-use Rattle.scan.proofs.ProgressLaws.{records-passed}
-use Rattle.conditions.specs.CellVerdicts.{cellsVerdict}
-use Rattle.column_sums.specs.Inner.Sums.{BalancesWithin, columnSums}
-use Rattle.contents.specs.Contents.{Contents}
-use Rattle.decode.proofs.SoundLaws.{balances-within}
+use Rattle.record_checks.proofs.ProgressLaws.{records-passed}
+use Rattle.filing_cells.specs.CellVerdicts.{cellsVerdict}
+use Rattle.filing_cells.specs.Inner.Sums.{BalancesWithin, columnSums}
+use Rattle.filing_contents.specs.Contents.{Contents}
+use Rattle.filing_decode.proofs.SoundLaws.{balances-within}
 use Rattle.filing.specs.Verdict.{filingVerdict}
 use Rattle.filing.proofs.ReadLaws.{contents-decide, accepted-over, accepted-contents, refused-reading}
 use Rattle.filing.proofs.read_contents.Statement.{statement}

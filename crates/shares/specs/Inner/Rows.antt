@@ -1,12 +1,12 @@
 -- The row of a position (01:44-45), and a place of it, thousands of dollars. Definitions only.
 use Prim.Native.Nat.{ℕ}
 use mathlib.Core.List.{List}
-use Rattle.schedule.specs.Cells.{positionAt, brokeredCell, penaltyBalanceCell, penaltyMonthsCell}
-use Rattle.column_sums.specs.Balances.{cellIn}
-use Rattle.column_sums.specs.Inner.Sums.{columnSum}
-use Rattle.sub_balances.specs.declared.SubBalance.{SubBalance}
-use Rattle.sub_balances.specs.Places.{noValues}
-use Rattle.apportion.specs.declared.Row.{Row}
+use Rattle.form.specs.Cells.{positionAt, brokeredCell, penaltyBalanceCell, penaltyMonthsCell}
+use Rattle.filing_cells.specs.Balances.{cellIn}
+use Rattle.filing_cells.specs.Inner.Sums.{columnSum}
+use Rattle.form.specs.declared.sub_balances.SubBalance.{SubBalance}
+use Rattle.form.specs.Places.{noValues}
+use Rattle.shares.specs.declared.apportion.Row.{Row}
 
 -- the row of the i-th position, 0 to 8, among the cells of a filing
 unfoldable pub rowAt : List ℕ → ℕ → Row

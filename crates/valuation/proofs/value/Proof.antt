@@ -3,7 +3,7 @@ use Prim.Native.Nat.{_≤_}
 use mathlib.Core.Path.{sym, ap, _∙_}
 use lib.ListN.{length}
 use borrow.Author.Needs.{needs}
-use Rattle.column_sums.specs.Inner.Sums.{columnSums}
+use Rattle.filing_cells.specs.Inner.Sums.{columnSums}
 use Rattle.filing.proofs.ReadingLaws.{reading-valid, reading-cells}
 use Rattle.valuation.proofs.CallLaws.{short-list, refused-filing, valued-filing}
 use Rattle.valuation.proofs.value.Statement.{statement}

@@ -1,7 +1,7 @@
 -- Gain and cost as the code holds them, in whole numbers: the gain is what is earned less what is forfeited. Definitions only.
 use Prim.Native.Nat.{ℕ, _*_, _-_, _^_, _≤_}
 use lib.IntN.{ℤ, pos, _-ℤ_}
-use Rattle.schedule.specs.Limits.{couponLimit, penaltyLimit}
+use Rattle.form.specs.Limits.{couponLimit, penaltyLimit}
 use Rattle.withdrawal.specs.declared.CouponParts.{CouponParts}
 use Rattle.withdrawal.specs.declared.Incentive.{Incentive}
 use Rattle.withdrawal.specs.Gain.{gainScale, penaltyScale, costScale}

@@ -5,7 +5,7 @@ use mathlib.Core.List.{List, map}
 use lib.ListN.{length, getD}
 use Rattle.lists.specs.Tables.{table, padded}
 use Rattle.withdrawal.specs.declared.WithdrawalTiers.{WithdrawalTiers}
-use Rattle.schedule.specs.Limits.{tierLimit, edgeLimit, withdrawalLimit}
+use Rattle.form.specs.Limits.{tierLimit, edgeLimit, withdrawalLimit}
 use Rattle.withdrawal.specs.Tiers.{WithdrawalTier, TierTable, Falling, tier}
 use Rattle.withdrawal.specs.Survival.{survival}
 

@@ -6,10 +6,10 @@ use native.Mathlib.Omega.{arith}
 use lib.Dec.{lit<}
 use borrow.Author.Needs.{needs}
 use Rattle.lists.proofs.FillLaws.{Filled, fill-none, fill-all}
-use Rattle.conditions.specs.ValidCells.{ValidCells}
-use Rattle.sub_balances.specs.Places.{noPlace}
+use Rattle.filing_cells.specs.ValidCells.{ValidCells}
+use Rattle.form.specs.Places.{noPlace}
 use Rattle.shares.specs.Places.{placeAt, placesOf}
-use Rattle.apportion.specs.Inner.Rows.{RowWithin}
+use Rattle.shares.specs.Inner.ShareRows.{RowWithin}
 use Rattle.shares.proofs.RowLaws.{row-within}
 use Rattle.shares.proofs.PlaceLaws.{place-of, fill-place}
 use Rattle.shares.proofs.places.places_of.Statement.{statement}

@@ -4,11 +4,11 @@ use mathlib.Core.Path.{_≡_, ap, _∙_}
 use native.Mathlib.Omega.{arith}
 use borrow.Author.Needs.{needs}
 use lib.ListN.{getD}
-use Rattle.schedule.specs.declared.Position.{Position}
-use Rattle.schedule.specs.Cells.{positionAt, brokeredCell, penaltyBalanceCell, penaltyMonthsCell}
-use Rattle.column_sums.specs.declared.ColumnSums.{ColumnSums}
-use Rattle.column_sums.specs.Inner.Sums.{columnSum}
-use Rattle.column_sums.proofs.SumLaws.{column-range, totals-are, above-at, sum-at}
+use Rattle.form.specs.declared.Position.{Position}
+use Rattle.form.specs.Cells.{positionAt, brokeredCell, penaltyBalanceCell, penaltyMonthsCell}
+use Rattle.filing_cells.specs.declared.column_sums.ColumnSums.{ColumnSums}
+use Rattle.filing_cells.specs.Inner.Sums.{columnSum}
+use Rattle.filing_cells.proofs.SumLaws.{column-range, totals-are, above-at, sum-at}
 use Rattle.shares.specs.Inner.Rows.{rowAt}
 use Rattle.shares.proofs.places.row_at.Statement.{statement}
 use Rattle.shares.proofs.places.row_at.Tie as tie

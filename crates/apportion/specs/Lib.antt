@@ -1,2 +1,0 @@
-pub mod Apportion
-pub mod Inner

@@ -1,2 +1,0 @@
-pub mod SheetLaws
-pub mod BodyLaws

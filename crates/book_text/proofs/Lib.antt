@@ -1,4 +1,0 @@
-pub mod ReplyLaws
-pub mod ObeyLaws
-pub mod OpenLaws
-pub mod TextCases

@@ -1,1 +1,0 @@
-// Filings written byte by byte, for closed cases. Nothing runs here.

@@ -1,2 +1,0 @@
-pub mod SumLaws
-pub mod ScanLaws

@@ -1,2 +1,0 @@
-pub mod PrintingLaws
-pub mod TextCases

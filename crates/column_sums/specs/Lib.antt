@@ -1,2 +1,0 @@
-pub mod Balances
-pub mod Inner

@@ -1,2 +1,0 @@
-pub mod ConditionLaws
-pub mod CellVerdictLaws

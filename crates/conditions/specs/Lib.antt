@@ -1,3 +1,0 @@
-pub mod Conditions
-pub mod CellVerdicts
-pub mod ValidCells

@@ -1,4 +1,0 @@
-pub mod StarredProved
-pub mod HundredthsLaws
-pub mod TierCases
-pub mod MonthCases

@@ -1,0 +1,3 @@
+pub mod ConditionLaws
+pub mod CellVerdictLaws
+pub mod SumLaws

@@ -1,0 +1,5 @@
+pub mod Conditions
+pub mod CellVerdicts
+pub mod ValidCells
+pub mod Balances
+pub mod Inner

@@ -1,0 +1,32 @@
+-- What a filing says, read by cell, by month and by column. Definitions only.
+use Prim.Native.Nat.{ℕ, _-_}
+use mathlib.Core.List.{List}
+use lib.ListN.{getD}
+use Rattle.form.specs.Shift.{pathRate}
+use Rattle.filing_cells.specs.Balances.{cellIn}
+use Rattle.filing_contents.specs.declared.FiledTiers.{FiledTiers}
+
+-- what a filing says: the values of cells 601 to 661 (01:6-11), the CD yields of months 1 to 120, the retail rates of months 1 to 120 column by column
+-- (02:CR 3), and its tiers (02:CR 1). Cells are in their own units, coupons among them in thousandths of a percent a year (02:CR 4), yields and rates in
+-- hundredths
+pub record Contents : Type 0 where
+  pub cells : List ℕ
+  pub yields : List ℕ
+  pub rates : List ℕ
+  pub tiers : FiledTiers
+
+-- of its parts. Nowhere else are they put together
+abbrev pub contentsWith : List ℕ → List ℕ → List ℕ → FiledTiers → Contents
+contentsWith cells yields rates tiers = record { cells = cells; yields = yields; rates = rates; tiers = tiers }
+
+-- the value of a cell in what a filing says
+abbrev pub cell : Contents → ℕ → ℕ
+cell k n = cellIn (k .cells) n
+
+-- the secondary-market CD yield of a month, 1 to 120, hundredths of a percent a year
+unfoldable pub cdYield : Contents → ℕ → ℕ
+cdYield k month = getD (k .yields) (month - 1) 0
+
+-- the retail rate of a column, 1 to 3, in a month, 1 to 120, hundredths of a percent a year
+abbrev pub retailRate : Contents → ℕ → ℕ → ℕ
+retailRate k column month = pathRate (k .rates) column month

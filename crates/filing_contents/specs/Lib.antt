@@ -1,0 +1,4 @@
+pub mod Contents
+pub mod Valid
+pub mod Amounts
+pub mod Sheets

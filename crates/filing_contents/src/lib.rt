@@ -1,0 +1,22 @@
+// What an accepted filing says is held in arrays that a caller lends: the values of cells 601 to 661, the CD yields of months 1 to 120, and the retail rates of
+// months 1 to 120 column by column. Cells are in their own units, coupons among them in thousandths of a percent a year, yields and rates in hundredths. Its
+// tiers of annual withdrawal go by value.
+pub mod cell_amounts;
+pub mod sheet_numbers;
+
+use form::limits::TIER_LIMIT;
+
+// The tiers that a filing carries, lowest edge first: edges in hundredths, annual withdrawals in thousandths. The entries past the count are 0, and a
+// filing without tiers has count 0.
+pub struct FiledTiers {
+    pub count: usize,
+    pub edges: [u16; TIER_LIMIT],
+    pub withdrawals: [u16; TIER_LIMIT],
+}
+
+// The tiers of a filing without tiers.
+pub const NO_TIERS: FiledTiers = FiledTiers {
+    count: 0,
+    edges: [0; TIER_LIMIT],
+    withdrawals: [0; TIER_LIMIT],
+};

@@ -1,2 +1,0 @@
-pub mod FilingTiers
-pub mod Inner

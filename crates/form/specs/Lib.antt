@@ -1,0 +1,6 @@
+pub mod Cells
+pub mod Limits
+pub mod Shift
+pub mod Inner
+pub mod PlaceOrder
+pub mod Places

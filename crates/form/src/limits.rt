@@ -1,0 +1,35 @@
+// The limits of the form, inclusive (01:24, 01:51; 02:CR 1, CR 4). The code takes them from here; the lengths of sheets (`record_kinds`) and the months of the rows
+// (`form`) are figures of their own.
+
+// Of a balance, of a column's brokered balance or balance subject to penalty, and of the total, in thousands of dollars.
+pub const BALANCE_LIMIT: u64 = 999_999_999;
+
+pub const COLUMN_LIMIT: u64 = 3_999_999_996;
+
+pub const TOTAL_LIMIT: u64 = 8_999_999_991;
+
+// Of a coupon: as filed, in hundredths of a percent a year, and in what a filing says, in thousandths.
+pub const FILED_COUPON_LIMIT: u64 = 1_500;
+
+pub const COUPON_LIMIT: u64 = 15_000;
+
+// Of remaining months, also as the length of an array with an entry for each month, or for each month of the three columns, and of a penalty in hundredths
+// of a month.
+pub const MONTHS: usize = 120;
+
+pub const RATES: usize = 360;
+
+pub const MONTHS_LIMIT: u64 = MONTHS as u64;
+
+pub const PENALTY_LIMIT: u64 = 3_600;
+
+// Of a value that is accepted and not used: any of 8 bytes.
+pub const UNUSED_LIMIT: u64 = 18_446_744_073_709_551_615;
+
+// Of a yield or a retail rate, in hundredths of a percent a year.
+pub const RATE_LIMIT: u16 = 2_500;
+
+// Of tiers, and of their annual withdrawal, in thousandths.
+pub const TIER_LIMIT: usize = 16;
+
+pub const WITHDRAWAL_LIMIT: u16 = 600;

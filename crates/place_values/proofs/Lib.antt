@@ -1,4 +1,0 @@
-pub mod PlaceTermsLaws
-pub mod HeldLaws
-pub mod FlatLaws
-pub mod RowLaws

@@ -1,3 +1,0 @@
-pub mod PlaceTerms
-pub mod HeldValues
-pub mod Inner

@@ -1,0 +1,80 @@
+-- `price_factors::fill_factors` meets its contract: the months passed are written. Assumes nothing.
+use Prim.Native.Nat.{ℕ, _+_, _*_, _-_, _≤_, _<_}
+use mathlib.Core.List.{List, []}
+use mathlib.Core.Path.{_≡_, _∙_}
+use native.Mathlib.Omega.{arith}
+use lib.ListN.{replicate}
+use Rattle.lists.specs.Runs.{written}
+use Rattle.lists.specs.Tables.{tableFrom, table, joined}
+use Rattle.lists.proofs.RunLaws.{Overwritten, overwritten-none, overwritten-row, overwritten-all}
+use Rattle.pricing.specs.Rounding.{Rounding, down, up}
+use Rattle.price_factors.specs.Inner.Factors.{yieldFactors, monthFactors, factorsBy}
+use Rattle.price_factors.proofs.FactorLaws.{month-length, month-within, factors-left}
+use Rattle.price_factors.proofs.fill_factors.Statement.{statement}
+use Rattle.price_factors.proofs.fill_factors.Tie as tie
+
+-- a table with the factors of some months
+abbrev Written : Rounding → List ℕ → ℕ → ℕ → List ℕ → Type 0
+Written ρ yields longest month factors = Overwritten (joined (table month (monthFactors ρ yields longest))) (7 * month) (replicate 840 0) factors
+
+abbrev Inv-loop : tie.InvT-loop
+Inv-loop yields longest lower₀ upper₀ month₀ lower upper month = (month ≤ 120) × Written down yields longest month lower × Written up yields longest month upper
+
+abbrev μ-loop : tie.MeasureT-loop
+μ-loop yields longest lower₀ upper₀ month₀ lower upper month = 120 - month
+
+loop-holds : tie.Need-loop-holds Inv-loop μ-loop
+unfolding tableFrom joined
+loop-holds c = rw (c .pre .1, c .pre .2) (omega arith, overwritten-none _, overwritten-none _)
+
+returns : tie.Need-returns Inv-loop μ-loop
+returns c =
+    let inv = c .before .before .loop .inv in
+    (inv .1 .is ∙ factors-left _ _ _ _ (c .if1 .taken) (inv .0), inv .2 .is ∙ factors-left _ _ _ _ (c .if1 .taken) (inv .0))
+
+fill-month-requires : tie.Need-fill-month-requires Inv-loop μ-loop
+fill-month-requires c κs = (c .before .before .before .before .before .pre .0, omega arith)
+
+add-month : tie.Need-add-month Inv-loop μ-loop
+add-month c = omega arith
+
+loop-less : tie.Need-loop-less Inv-loop μ-loop
+loop-less c = omega arith
+
+-- one month more
+month-written : (ρ : Rounding) (yields : List ℕ) (longest month : ℕ) (factors after : List ℕ) → month < 120 → month < longest
+    → Written ρ yields longest month factors → after ≡ written factors (7 * month) (yieldFactors ρ yields month) → Written ρ yields longest (month + 1) after
+month-written ρ yields longest month factors after h l w e =
+    rw e
+    (overwritten-row [] (monthFactors ρ yields longest) 7 (month-length ρ yields longest) month (7 * month) (7 * (month + 1)) (replicate 840 0) factors
+    (yieldFactors ρ yields month) w (month-within ρ yields longest month l) (omega arith) (omega arith))
+
+loop-again : tie.Need-loop-again Inv-loop μ-loop
+loop-again c =
+    let within = c .before .before .before in
+    let at = within .before .before in (
+      omega arith,
+      month-written down _ _ (at .loop .month) (at .loop .lower) _ (omega arith) (omega (arith, within .if1 .left)) (at .loop .inv .1) (c .fill-month .ensures .0),
+      month-written up _ _ (at .loop .month) (at .loop .upper) _ (omega arith) (omega (arith, within .if1 .left)) (at .loop .inv .2) (c .fill-month .ensures .1),
+    )
+
+returns-2 : tie.Need-returns-2 Inv-loop μ-loop
+unfolding factorsBy
+returns-2 c =
+    let e : c .before .loop .month ≡ 120 = omega arith in
+    let inv = c .before .loop .inv in
+    (overwritten-all _ _ _ _ (inv .1) (omega arith) ∙ rw e, overwritten-all _ _ _ _ (inv .2) (omega arith) ∙ rw e)
+
+pub fill-factors-spec : {M : Type 1} → statement M
+fill-factors-spec =
+    tie.close
+    (tie.spec
+    Inv-loop
+    μ-loop
+    loop-holds
+    returns
+    fill-month-requires
+    add-month
+    loop-less
+    loop-again
+    returns-2)

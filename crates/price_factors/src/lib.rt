@@ -1,0 +1,61 @@
+// Discount factors of every month and scenario, written into two lists.
+pub mod factor_chains;
+pub mod month_factors;
+pub mod rate_multipliers;
+
+use crate::month_factors::lower_factors;
+use crate::month_factors::upper_factors;
+use crate::rate_multipliers::upper_multipliers;
+use form::limits::MONTHS;
+use form_scenarios::shifted_rates;
+use lists::write;
+ghost use mathlib.Core.Path.{_≡_};
+ghost use Prim.Native.Nat.{_*_, _<_};
+ghost use lib.ListN.{replicate};
+ghost use Rattle.lists.specs.Runs.{written};
+ghost use Rattle.form.specs.Limits.{monthsLimit};
+ghost use Rattle.pricing.specs.Rounding.{down, up};
+ghost use Rattle.price_factors.specs.Inner.Factors.{yieldFactors, factorsBy, WithinRates};
+
+// Seven factors for each month, in billionths: month t and scenario s stand at index 7 (t - 1) + s.
+pub type FactorTable = [u64; 840];
+
+// The lower and the upper factors of a sheet of CD yields, written into tables of zeros. Months past the longest term are left 0.
+pub fn fill_factors(
+    yields: &[u16; MONTHS],
+    longest: u64,
+    lower: &mut FactorTable,
+    upper: &mut FactorTable,
+)
+    requires { ⌜ WithinRates (now yields) × (now lower ≡ replicate 840 0) × (now upper ≡ replicate 840 0) ⌝ }
+    ensures { λ _. ⌜ (now (lower .exit) ≡ factorsBy down (now (yields .entry)) longest) × (now (upper .exit) ≡ factorsBy up (now (yields .entry)) longest) ⌝ }
+{
+    let mut month: usize = 0;
+    while month < MONTHS {
+        if longest <= month as u64 {
+            return;
+        }
+        fill_month(yields, month, lower, upper);
+        month += 1;
+    }
+}
+
+// The factors of a month, counted from 0, in the seven scenarios. The lower ones are written before the upper ones are made, so that both are made in registers.
+fn fill_month(
+    yields: &[u16; MONTHS],
+    month: usize,
+    lower: &mut FactorTable,
+    upper: &mut FactorTable,
+)
+    requires { ⌜ WithinRates (now yields) × (month < monthsLimit) ⌝ }
+    ensures { λ _. ⌜ (now (lower .exit) ≡ written (now (lower .entry)) (7 * month) (yieldFactors down (now (yields .entry)) month))
+        × (now (upper .exit) ≡ written (now (upper .entry)) (7 * month) (yieldFactors up (now (yields .entry)) month)) ⌝ }
+{
+    let n = month as u64 + 1;
+    let rates = shifted_rates(yields[month]);
+    let above = upper_multipliers(&rates);
+    let below = lower_factors(&rates, &above, n);
+    write(lower, 7 * month, &below);
+    let seven = upper_factors(&above, n);
+    write(upper, 7 * month, &seven);
+}

@@ -1,0 +1,2 @@
+pub mod Multipliers
+pub mod Inner

@@ -1,0 +1,3 @@
+pub mod SheetLaws
+pub mod BodyLaws
+pub mod TierLaws

@@ -1,2 +1,0 @@
-pub mod RefusalCases
-pub mod AmendmentCases

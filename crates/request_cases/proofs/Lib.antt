@@ -1,2 +1,0 @@
-pub mod RequestCases
-pub mod PlaceCases

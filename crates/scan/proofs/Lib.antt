@@ -1,2 +1,0 @@
-pub mod NotingLaws
-pub mod ProgressLaws

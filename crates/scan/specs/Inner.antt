@@ -1,2 +1,0 @@
--- Definitions for the contracts of inner functions. What a record means does not rest on them.
-pub mod Scans

@@ -1,4 +1,0 @@
-pub mod Cells
-pub mod Limits
-pub mod Shift
-pub mod Inner

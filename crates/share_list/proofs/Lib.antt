@@ -1,0 +1,4 @@
+pub mod OverwriteLaws
+pub mod PlaceRows
+pub mod SplitLaws
+pub mod OutcomeLaws

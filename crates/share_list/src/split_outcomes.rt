@@ -1,0 +1,56 @@
+// What is made of a filing and a list of places: the answer, and the places to be written.
+use answers::Answer;
+use answers::number;
+use filing::read;
+use form::CELLS;
+use form::limits::MONTHS;
+use form::limits::RATES;
+use form::sub_balances::NO_PLACE;
+use form::sub_balances::SubBalance;
+use shares::places::places_of;
+ghost use mathlib.Core.Path.{_≡_};
+ghost use lib.ListN.{replicate};
+ghost use Rattle.form.specs.Places.{noPlace};
+ghost use Rattle.share_list.specs.Outcomes.{OutcomeOf};
+
+// What is made of a filing and a list: the answer, the places to be written, and how many of them are, 36 or none.
+pub struct Outcome {
+    pub answer: Answer,
+    pub places: [SubBalance; 36],
+    pub count: usize,
+}
+
+// What is made of a filing and a list of `size` places: a short list is refused before the filing is read.
+pub fn outcome_of(filing: &[u8], size: usize) -> Outcome
+    ensures { λ r. ⌜ OutcomeOf (now (filing .entry)) size r ⌝ }
+{
+    if size < 36 {
+        return refusal(Answer::ListTooShort(size));
+    }
+    let mut cells = [0; CELLS];
+    let mut yields = [0; MONTHS];
+    let mut rates = [0; RATES];
+    let reading = read(filing, &mut cells, &mut yields, &mut rates);
+    let answer = reading.answer;
+    if number(answer) != 0 {
+        return refusal(answer);
+    }
+    let sums = reading.sums;
+    let places = places_of(&cells, sums);
+    Outcome {
+        answer,
+        places,
+        count: 36,
+    }
+}
+
+// A refusal writes no place.
+fn refusal(answer: Answer) -> Outcome
+    ensures { λ r. ⌜ (r .answer ≡ answer) × (r .places ≡ replicate 36 noPlace) × (r .count ≡ 0) ⌝ }
+{
+    Outcome {
+        answer,
+        places: [NO_PLACE; 36],
+        count: 0,
+    }
+}

@@ -1,2 +1,0 @@
-pub mod LimitLaws
-pub mod NamedLaws

@@ -1,3 +1,0 @@
-pub mod OverwriteLaws
-pub mod PlaceRows
-pub mod SplitLaws

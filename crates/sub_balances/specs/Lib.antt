@@ -1,2 +1,0 @@
-pub mod PlaceOrder
-pub mod Places

@@ -1,0 +1,4 @@
+pub mod Replies
+pub mod Commands
+pub mod Inner
+pub mod BookLines

@@ -1,0 +1,4 @@
+pub mod Printed
+pub mod Lines
+pub mod Texts
+pub mod CellLines

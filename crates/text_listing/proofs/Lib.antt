@@ -1,0 +1,4 @@
+pub mod ListingLaws
+pub mod TextCases
+pub mod TotalLineLaws
+pub mod LineCases

@@ -1,0 +1,3 @@
+pub mod Starred
+pub mod Hundredths
+pub mod Filings

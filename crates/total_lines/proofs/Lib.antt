@@ -1,2 +1,0 @@
-pub mod TotalLineLaws
-pub mod TextCases

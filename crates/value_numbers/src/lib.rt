@@ -1,0 +1,83 @@
+// The 568 numbers of what an accepted filing says, written into a list. Its cells, yields and rates are lent: in the contracts k is the filing's contents,
+// with these arrays and the tiers passed.
+use filing_cells::column_sums::ColumnSums;
+use filing_contents::FiledTiers;
+use form::CELLS;
+use form::limits::MONTHS;
+use form::limits::RATES;
+use lists::write;
+use price_multipliers::discount_tables::discount_tables;
+use shares::places::places_of;
+use value_places::longest_term::longest_term;
+use value_places::place_row::row_of;
+use value_places::totals::totals_of;
+use withdrawal_filing::tiers_of;
+ghost use mathlib.Core.Path.{_≡_};
+ghost use mathlib.Core.List.{_++_};
+ghost use Prim.Native.Nat.{_≤_};
+ghost use lib.ListN.{length, drop};
+ghost use Rattle.lists.specs.Tables.{table, joined};
+ghost use Rattle.filing_cells.specs.Inner.Sums.{columnSums};
+ghost use Rattle.filing_contents.specs.Contents.{Contents, contentsWith};
+ghost use Rattle.filing_contents.specs.Valid.{Valid};
+ghost use Rattle.form.specs.PlaceOrder.{subBalanceCount};
+ghost use Rattle.value_numbers.specs.Numbers.{placeNumbers, numbers, numberCount};
+
+// The rows of the places, and then the totals, which are taken from the rows. The rest of the list is left as it was.
+pub fn write_numbers<'a>(
+    cells: &'a [u64; CELLS],
+    sums: ColumnSums,
+    yields: &'a [u16; MONTHS],
+    rates: &'a [u16; RATES],
+    tiers: FiledTiers,
+    list: &mut [u64],
+)
+    ghost { Contents }
+    requires { λ k. ⌜ k ≡ contentsWith (now cells) (now yields) (now rates) tiers ⌝ }
+    requires { λ k. ⌜ Valid k × (sums ≡ columnSums (k .cells)) × (numberCount ≤ length (now list)) ⌝ }
+    ensures { λ k _. ⌜ now (list .exit) ≡ numbers k ++ drop numberCount (now (list .entry)) ⌝ }
+{
+    write_rows(cells, sums, yields, rates, tiers, list);
+    let totals = totals_of(list);
+    write(list, 540, &totals);
+}
+
+// The fifteen numbers of each place, one place after the other.
+fn write_rows(
+    cells: &[u64; CELLS],
+    sums: ColumnSums,
+    yields: &[u16; MONTHS],
+    rates: &[u16; RATES],
+    filed: FiledTiers,
+    list: &mut [u64],
+)
+    ghost { Contents }
+    requires { λ k. ⌜ k ≡ contentsWith (now cells) (now yields) (now rates) filed ⌝ }
+    requires { λ k. ⌜ Valid k × (sums ≡ columnSums (k .cells)) × (540 ≤ length (now list)) ⌝ }
+    ensures { λ k _. ⌜ now (list .exit) ≡ joined (table subBalanceCount (placeNumbers k)) ++ drop 540 (now (list .entry)) ⌝ }
+{
+    let tiers = tiers_of(filed);
+    let places = places_of(cells, sums);
+    let longest = longest_term(places);
+    let mut lower = [0u64; 840];
+    let mut upper = [0u64; 840];
+    discount_tables(yields, longest, &mut lower, &mut upper);
+    let mut months = [[0u8; 7]; MONTHS];
+    let mut place: usize = 0;
+    while place < 36 {
+        let row = row_of(
+            places[place],
+            place,
+            rates,
+            tiers.count,
+            &tiers.edges,
+            &tiers.survivals,
+            tiers.retained,
+            &lower,
+            &upper,
+            &mut months,
+        );
+        write(list, 15 * place, &row);
+        place += 1;
+    }
+}

@@ -1,0 +1,5 @@
+pub mod PlaceTermsLaws
+pub mod HeldLaws
+pub mod FlatLaws
+pub mod RowLaws
+pub mod TotalLaws

@@ -1,0 +1,76 @@
+-- `value_places::totals::totals_of` meets its contract: the scenarios passed are written. Assumes nothing.
+use Prim.Native.Nat.{_+_, _*_, _-_, _≤_}
+use mathlib.Core.List.{[]}
+use mathlib.Core.Path.{_≡_, _∙_}
+use native.Mathlib.Omega.{arith}
+use lib.ListN.{replicate}
+use Rattle.lists.specs.Tables.{tableFrom, table, joined}
+use Rattle.lists.proofs.RunLaws.{Overwritten, overwritten-none, overwritten-row, overwritten-all}
+use Rattle.value_places.specs.RowTotals.{rowTotals}
+use Rattle.value_places.proofs.TotalLaws.{rowTotals-length}
+use Rattle.value_places.proofs.totals.totals_of.Statement.{statement}
+use Rattle.value_places.proofs.totals.totals_of.Tie as tie
+
+abbrev Inv-loop : tie.InvT-loop
+Inv-loop list totals₀ scenario₀ totals scenario = (scenario ≤ 7) × Overwritten (joined (table scenario (rowTotals list))) (4 * scenario) (replicate 28 0) totals
+
+abbrev μ-loop : tie.MeasureT-loop
+μ-loop list totals₀ scenario₀ totals scenario = 7 - scenario
+
+loop-holds : tie.Need-loop-holds Inv-loop μ-loop
+unfolding tableFrom joined
+loop-holds c = (omega arith, overwritten-none _)
+
+scenario-totals-requires : tie.Need-scenario-totals-requires Inv-loop μ-loop
+scenario-totals-requires c κs = (c .before .before .before .pre, omega arith)
+
+slice-aggregate-write : tie.Need-slice-aggregate-write Inv-loop μ-loop
+slice-aggregate-write c = omega arith
+
+mul-write : tie.Need-mul-write Inv-loop μ-loop
+mul-write c = omega arith
+
+slice-aggregate-write-2 : tie.Need-slice-aggregate-write-2 Inv-loop μ-loop
+slice-aggregate-write-2 c = omega arith
+
+write-requires : tie.Need-write-requires Inv-loop μ-loop
+write-requires c κs = omega arith
+
+add-scenario : tie.Need-add-scenario Inv-loop μ-loop
+add-scenario c = omega arith
+
+loop-less : tie.Need-loop-less Inv-loop μ-loop
+loop-less c = omega arith
+
+loop-again : tie.Need-loop-again Inv-loop μ-loop
+loop-again c =
+    let four = c .before .before .before .before in
+    let at = four .before .before in
+    let state = at .loop in (
+      omega arith,
+      rw (c .before .write .ensures) (overwritten-row [] (rowTotals (at .before .before .args .list .now)) 4 (rowTotals-length _) (state .scenario)
+          (4 * state .scenario) (4 * (state .scenario + 1)) (replicate 28 0) (state .totals) (four .scenario-totals .result) (state .inv .1)
+          (four .scenario-totals .ensures) (omega arith) (omega arith)),
+    )
+
+returns : tie.Need-returns Inv-loop μ-loop
+returns c =
+    let e : c .before .loop .scenario ≡ 7 = omega arith in
+    overwritten-all _ _ _ _ (c .before .loop .inv .1) (omega arith) ∙ rw e
+
+pub totals-of-spec : {M : Type 1} → statement M
+totals-of-spec =
+    tie.close
+    (tie.spec
+    Inv-loop
+    μ-loop
+    loop-holds
+    scenario-totals-requires
+    slice-aggregate-write
+    mul-write
+    slice-aggregate-write-2
+    write-requires
+    add-scenario
+    loop-less
+    loop-again
+    returns)

@@ -1,0 +1,4 @@
+pub mod PlaceTerms
+pub mod HeldValues
+pub mod Inner
+pub mod RowTotals

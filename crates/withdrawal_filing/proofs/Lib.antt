@@ -1,0 +1,2 @@
+pub mod FilingTierLaws
+pub mod TierAnswerLaws

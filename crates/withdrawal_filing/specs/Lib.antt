@@ -1,0 +1,3 @@
+pub mod FilingTiers
+pub mod Inner
+pub mod TierAnswers
