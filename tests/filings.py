@@ -66,7 +66,7 @@ def print_names():
 
 def write_corpus():
     corpus = b"".join(data for _, data in entries())
-    for program in ("figures_test", "second"):
+    for program in ("test_figures", "test_second"):
         (CRATES / program / "stdin").write_bytes(corpus)
 
 

@@ -2,7 +2,7 @@
 """Random filings, sound, faulty and damaged, through the two test programs and the plain C versions, and random calls on the book of every fourth:
 random_check.py [COUNT [SEED]].
 
-Needs target/bin/second and target/bin/figures_test (`rt check`) and target/bench/check (`bench/run check`); what is missing is left out. Not run by
+Needs target/bin/test_second and target/bin/test_figures (`rt check`) and target/bench/check (`bench/run check`); what is missing is left out. Not run by
 the gate."""
 import random
 import struct
@@ -21,7 +21,7 @@ from records import (
 )
 
 TARGET = Path(__file__).resolve().parent.parent / "target"
-PROGRAMS = "second", "figures_test"
+PROGRAMS = "test_second", "test_figures"
 PLAIN = TARGET / "bench" / "check"
 
 
