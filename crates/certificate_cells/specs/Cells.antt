@@ -1,6 +1,6 @@
 -- The cells that sums of positions fill (02:CR 5), by ascending number: balance, WAC and WARM of each position that does not sum to 0, and the total.
 -- Definitions only.
-use Prim.Native.Nat.{ℕ}
+use Prim.Native.Nat.{ℕ, suc, _-_}
 use mathlib.Core.Bool.{Bool, cond, not, _||_}
 use mathlib.Core.List.{List, map}
 use lib.Dec.{eqb}
@@ -20,7 +20,7 @@ isFilled cell = within 1 3 (cellClass cell) || eqb (cellClass cell) 6
 
 -- so many numbers of cells go from the first to the total
 abbrev pub formCount : ℕ
-formCount = 45
+formCount = suc totalCell - firstCell
 
 -- a cell is the balance, the WAC or the WARM of the position at an index
 unfoldable pub isOfPosition : ℕ → ℕ → Bool

@@ -8,7 +8,7 @@ use mathlib.Core.List.{List}
 use borrow.Author.Tests.{ltb-false, eqb-true, ne-eqb, not-false}
 use lib.Dec.{T, eqb}
 use Rattle.lists.specs.Sums.{sum}
-use Rattle.form.specs.Cells.{positionAt, withinRow, totalCell}
+use Rattle.form.specs.Cells.{positionAt, withinRow, totalCell, firstColumnCell}
 use Rattle.answers.specs.Verdict.{Verdict, firstRefusal}
 use Rattle.answers.proofs.VerdictLaws.{first-none, tried-none, condition-fails}
 use Rattle.filing_cells.specs.Balances.{cellIn, columnBalances, balances}
@@ -51,12 +51,12 @@ module _ (cells : List ℕ) (passed : cellsVerdict cells .number ≡ 0) where
       (ne-eqb (cellIn cells (positionAt i .balance)) 0 (λ e. omega arith)) (months-inside i l)
 
   -- 8 holds at none of cells 650 to 655: each is at most its column's sum
-  pub column-holds : (i : ℕ) → i < 6 → cellIn cells (i + 650) ≤ sum (columnBalances cells (i % 3 + 1))
+  pub column-holds : (i : ℕ) → i < 6 → cellIn cells (i + firstColumnCell) ≤ sum (columnBalances cells (i % 3 + 1))
   unfolding columnVerdict aboveColumn
   column-holds i l =
       let none = first-none (columnsVerdict cells) (totalVerdict cells) columns-passed .0 in
-      ltb-false (sum (columnBalances cells (i % 3 + 1))) (cellIn cells (i + 650))
-      (condition-fails (aboveColumn cells (i % 3 + 1) (i + 650)) 7 (i + 650)
+      ltb-false (sum (columnBalances cells (i % 3 + 1))) (cellIn cells (i + firstColumnCell))
+      (condition-fails (aboveColumn cells (i % 3 + 1) (i + firstColumnCell)) 7 (i + firstColumnCell)
       (tried-none (columnsAt cells) 6 (ap (λ (v : Verdict). v .number) (sym (columns-in-turn cells)) ∙ none) i l))
 
   -- 9 does not hold: the total is the sum of the nine balances

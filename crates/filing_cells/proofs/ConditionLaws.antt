@@ -10,7 +10,7 @@ use lib.Dec.{ltb}
 use lib.ListN.{getD}
 use Rattle.lists.specs.Tables.{tableFrom, table}
 use Rattle.form.specs.declared.Position.{Position}
-use Rattle.form.specs.Cells.{position, positions, positionAt, withinRow, brokeredCell, penaltyBalanceCell}
+use Rattle.form.specs.Cells.{position, positions, positionAt, withinRow, brokeredCell, penaltyBalanceCell, firstColumnCell}
 use Rattle.answers.specs.Verdict.{Verdict, firstOf}
 use Rattle.filing_cells.specs.Balances.{cellIn}
 use Rattle.filing_cells.specs.Conditions.{monthsOutside, aboveColumn}
@@ -38,7 +38,7 @@ module _ (cells : List ℕ) where
   monthsAt i = positionVerdict cells (positionAt i)
 
   abbrev pub columnsAt : ℕ → Verdict
-  columnsAt i = columnVerdict cells (i % 3 + 1) (i + 650)
+  columnsAt i = columnVerdict cells (i % 3 + 1) (i + firstColumnCell)
 
   -- 7 is the first of nine, 8 the first of six
   pub months-in-turn : monthsVerdict cells ≡ firstOf (table 9 monthsAt)

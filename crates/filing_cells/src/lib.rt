@@ -7,6 +7,7 @@ use crate::column_sums::sums::column_sums;
 use answers::Answer;
 use answers::first_refusals::first_refusal;
 use form::CELLS;
+use form::FIRST_COLUMN_CELL;
 use form::Position;
 use form::TOTAL_CELL;
 use form::positions::position;
@@ -65,7 +66,7 @@ fn months_outside(cells: &[u64; CELLS], p: Position) -> bool
     !within_row(p.row, months)
 }
 
-// 8, by ascending cell: the brokered balances 650 to 652, then the balances subject to penalty 653 to 655.
+// 8, by ascending cell: the brokered balances of the three columns, then their balances subject to penalty.
 fn check_columns(cells: &[u64; CELLS], totals: &[u64; 3]) -> Answer
     requires { ⌜ now totals ≡ columnSums (now cells) .totals ⌝ }
     ensures { λ r. ⌜ verdictOf r ≡ columnsVerdict (now (cells .entry)) ⌝ }
@@ -73,8 +74,8 @@ fn check_columns(cells: &[u64; CELLS], totals: &[u64; 3]) -> Answer
     let mut i = 0;
     while i < 6 {
         let column = i % 3;
-        if totals[column] < cell_value(cells, i + 650) {
-            return Answer::AboveColumnSum(i + 650);
+        if totals[column] < cell_value(cells, i + FIRST_COLUMN_CELL) {
+            return Answer::AboveColumnSum(i + FIRST_COLUMN_CELL);
         }
         i += 1;
     }

@@ -10,7 +10,7 @@ use lib.Dec.{ltb, eqb}
 use lib.ListN.{length, getD}
 use Rattle.lists.specs.Tables.{table}
 use Rattle.lists.proofs.TableLaws.{tableFrom-getD, table-getD, table-le}
-use Rattle.form.specs.Cells.{positionAt}
+use Rattle.form.specs.Cells.{positionAt, firstCell, lastCell, cellCount}
 use Rattle.form.specs.Limits.{couponClass, couponLimit, cellClass, classLimit, heldLimit, tierLimit, withdrawalLimit}
 use Rattle.form.proofs.CellLaws.{CellOf, balance-cell}
 use Rattle.record_kinds.specs.declared.items.Item.{Item}
@@ -39,11 +39,11 @@ use Rattle.filing_contents.proofs.AmountLaws.{amount-past}
 use Rattle.filing_cells.specs.Inner.Sums.{BalancesWithin}
 
 -- a cell of 601 to 661, as read from the contents
-cell-read : (s : List ℕ) (n : ℕ) → 601 ≤ n → n ≤ 661 → cell (contentsOf s) n ≡ cellValue s n
+cell-read : (s : List ℕ) (n : ℕ) → firstCell ≤ n → n ≤ lastCell → cell (contentsOf s) n ≡ cellValue s n
 unfolding cellIn contentsOf
 cell-read s n l u =
-    let e : 601 + (n - 601) ≡ n = omega arith in
-    simp (le-leb 601 n l, le-leb n 661 u) (tableFrom-getD 601 61 (cellValue s) (n - 601) 0 (omega arith) ∙ ap (cellValue s) e)
+    let e : firstCell + (n - firstCell) ≡ n = omega arith in
+    simp (le-leb firstCell n l, le-leb n lastCell u) (tableFrom-getD firstCell cellCount (cellValue s) (n - firstCell) 0 (omega arith) ∙ ap (cellValue s) e)
 
 module _ (s : List ℕ) (none : firstFaulty s ≡ length s) where
   -- a record without a fault
@@ -146,7 +146,7 @@ module _ (s : List ℕ) (none : firstFaulty s ≡ length s) where
 
   -- a cell is within the limit of its class
   pub cell-within : (n class : ℕ) → CellOf n class → cell (contentsOf s) n ≤ heldLimit class
-  cell-within n class c = rw (cell-read s n (c .from-601) (c .to-661), ← c .in-class) (cell-limit n)
+  cell-within n class c = rw (cell-read s n (c .from-first) (c .to-last), ← c .in-class) (cell-limit n)
 
   -- so no sum of balances wraps
   pub balances-within : BalancesWithin (contentsOf s .cells)

@@ -7,25 +7,25 @@ use mathlib.Core.Bool.{Bool, true, false, _&&_}
 use lib.Dec.{T, leb, eqb, leb→le, eqb→eq}
 use Rattle.lists.specs.Tables.{contains}
 use Rattle.lists.proofs.TestLaws.{allFrom, all-at}
-use Rattle.form.specs.Cells.{position, positions, positionAt, brokeredCell, penaltyBalanceCell, penaltyMonthsCell}
+use Rattle.form.specs.Cells.{position, positions, positionAt, brokeredCell, penaltyBalanceCell, penaltyMonthsCell, firstCell, lastCell}
 use Rattle.form.specs.Limits.{cellClass}
 
 -- a cell is one of 601 to 661, and of a class
 pub record CellOf (n class : ℕ) : Type 0 where
-  pub from-601 : 601 ≤ n
-  pub to-661 : n ≤ 661
+  pub from-first : firstCell ≤ n
+  pub to-last : n ≤ lastCell
   pub in-class : cellClass n ≡ class
 
 abbrev isCellOf : ℕ → ℕ → Bool
-isCellOf n class = leb 601 n && (leb n 661 && eqb (cellClass n) class)
+isCellOf n class = leb firstCell n && (leb n lastCell && eqb (cellClass n) class)
 
 cell-of-tests : (n class : ℕ) (a b c : Bool)
-    → (T a → 601 ≤ n)
-    → (T b → n ≤ 661)
+    → (T a → firstCell ≤ n)
+    → (T b → n ≤ lastCell)
     → (T c → cellClass n ≡ class)
     → T (a && (b && c))
     → CellOf n class
-cell-of-tests n class true true true f g h t = record { from-601 = f tt; to-661 = g tt; in-class = h tt }
+cell-of-tests n class true true true f g h t = record { from-first = f tt; to-last = g tt; in-class = h tt }
 cell-of-tests n class true true false f g h t = absurd t
 cell-of-tests n class true false c f g h t = absurd t
 cell-of-tests n class false b c f g h t = absurd t
@@ -33,7 +33,7 @@ cell-of-tests n class false b c f g h t = absurd t
 -- cells that are numbered by f are of one class where the test passes at each number
 cells-of : (f : ℕ → ℕ) (class i n : ℕ) → T (allFrom i n (λ (m : ℕ). isCellOf (f m) class)) → (j : ℕ) → i ≤ j → j < i + n → CellOf (f j) class
 cells-of f class i n t j l u =
-    cell-of-tests (f j) class (leb 601 (f j)) (leb (f j) 661) (eqb (cellClass (f j)) class) (leb→le 601 (f j)) (leb→le (f j) 661)
+    cell-of-tests (f j) class (leb firstCell (f j)) (leb (f j) lastCell) (eqb (cellClass (f j)) class) (leb→le firstCell (f j)) (leb→le (f j) lastCell)
     (eqb→eq (cellClass (f j)) class) (all-at i n (λ (m : ℕ). isCellOf (f m) class) t j l u)
 
 -- the cells of the nine positions: balance, coupon and remaining months

@@ -10,22 +10,22 @@ use borrow.Author.Tests.{ltb-true, ltb-false, ne-eqb}
 use lib.Dec.{T, leb, ltb, eqb, leb→le}
 use Rattle.lists.specs.Tables.{contains}
 use Rattle.form.specs.declared.Position.{Position}
-use Rattle.form.specs.Cells.{position, positions, brokeredCell, penaltyBalanceCell, penaltyMonthsCell, totalCell, unusedCells}
+use Rattle.form.specs.Cells.{position, positions, brokeredCell, penaltyBalanceCell, penaltyMonthsCell, totalCell, unusedCells, firstCell, lastCell}
 use Rattle.form.specs.Limits.{cellClass}
 
 -- each number of the list is one of 601 to 661
 abbrev inRange : List ℕ → Bool
 inRange [] = true
-inRange (x ∷ xs) = leb 601 x && (leb x 661 && inRange xs)
+inRange (x ∷ xs) = leb firstCell x && (leb x lastCell && inRange xs)
 
 abbrev Outside : ℕ → Type 0
-Outside x = (x < 601) ⊎ (661 < x)
+Outside x = (x < firstCell) ⊎ (lastCell < x)
 
-outside-ne : (x y : ℕ) → Outside x → 601 ≤ y → y ≤ 661 → eqb x y ≡ false
+outside-ne : (x y : ℕ) → Outside x → firstCell ≤ y → y ≤ lastCell → eqb x y ≡ false
 outside-ne x y o l u = ne-eqb x y (λ e. ⊎-elim (λ h. omega arith) (λ h. omega arith) o)
 
 -- the tests on one number y of the list, with `rest` the test on the others and `found` whether x is among them
-one-outside : (x y : ℕ) (low high rest found : Bool) → (T low → 601 ≤ y) → (T high → y ≤ 661) → (T rest → found ≡ false)
+one-outside : (x y : ℕ) (low high rest found : Bool) → (T low → firstCell ≤ y) → (T high → y ≤ lastCell) → (T rest → found ≡ false)
     → T (low && (high && rest)) → Outside x → (eqb x y || found) ≡ false
 one-outside x y true true true found l u r t o = rw (outside-ne x y o (l tt) (u tt)) (r tt)
 one-outside x y true true false found l u r t o = absurd t
@@ -36,7 +36,7 @@ contains-outside : (xs : List ℕ) (x : ℕ) → T (inRange xs) → Outside x �
 unfolding contains
 contains-outside [] x t o = refl
 contains-outside (y ∷ ys) x t o =
-    one-outside x y (leb 601 y) (leb y 661) (inRange ys) (contains ys x) (leb→le 601 y) (leb→le y 661)
+    one-outside x y (leb firstCell y) (leb y lastCell) (inRange ys) (contains ys x) (leb→le firstCell y) (leb→le y lastCell)
     (λ r. contains-outside ys x r o) t o
 
 -- a cell outside 601 to 661 is not listed
@@ -55,13 +55,13 @@ class-outside x o =
     )
 
 -- a listed cell is one of 601 to 661
-pub class-listed : (x : ℕ) → (cellClass x ≡ 0 → ⊥) → (601 ≤ x) × (x ≤ 661)
-class-listed x h = (from (ltb x 601) refl, to (ltb 661 x) refl)
+pub class-listed : (x : ℕ) → (cellClass x ≡ 0 → ⊥) → (firstCell ≤ x) × (x ≤ lastCell)
+class-listed x h = (from (ltb x firstCell) refl, to (ltb lastCell x) refl)
   where
-    from : (b : Bool) → ltb x 601 ≡ b → 601 ≤ x
-    from true e = absurd (h (class-outside x (inl (ltb-true x 601 e))))
-    from false e = ltb-false x 601 e
+    from : (b : Bool) → ltb x firstCell ≡ b → firstCell ≤ x
+    from true e = absurd (h (class-outside x (inl (ltb-true x firstCell e))))
+    from false e = ltb-false x firstCell e
 
-    to : (b : Bool) → ltb 661 x ≡ b → x ≤ 661
-    to true e = absurd (h (class-outside x (inr (ltb-true 661 x e))))
-    to false e = ltb-false 661 x e
+    to : (b : Bool) → ltb lastCell x ≡ b → x ≤ lastCell
+    to true e = absurd (h (class-outside x (inr (ltb-true lastCell x e))))
+    to false e = ltb-false lastCell x e

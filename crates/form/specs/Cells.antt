@@ -1,5 +1,5 @@
 -- The cells of Schedule CMR that a filing of certificate deposits may carry (01:13-22). Definitions only.
-use Prim.Native.Nat.{ℕ, _+_}
+use Prim.Native.Nat.{ℕ, suc, _+_, _-_}
 use mathlib.Core.Bool.{Bool, _&&_}
 use mathlib.Core.List.{List, [], _∷_}
 use lib.ListN.{getD}
@@ -15,7 +15,7 @@ abbrev pub lastCell : ℕ
 lastCell = 661
 
 abbrev pub cellCount : ℕ
-cellCount = 61
+cellCount = suc lastCell - firstCell
 
 -- One of the nine balances is a `Position`: its row (remaining months, 1 to 4), its column (original maturity, 1 to 3), and the numbers of its
 -- cells: balance (thousands of dollars), WAC (hundredths of a percent a year as filed) and WARM (months). This one from those five, in that order
@@ -66,6 +66,10 @@ penaltyBalanceCell column = 652 + column
 
 unfoldable pub penaltyMonthsCell : ℕ → ℕ
 penaltyMonthsCell column = 655 + column
+
+-- the first of the six balances of columns
+abbrev pub firstColumnCell : ℕ
+firstColumnCell = 650
 
 -- the total of the nine balances (01:22), thousands of dollars
 abbrev pub totalCell : ℕ

@@ -1,4 +1,5 @@
 pub mod Cells
+pub mod Counts
 pub mod Limits
 pub mod Shift
 pub mod Inner

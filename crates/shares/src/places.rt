@@ -3,9 +3,14 @@ use crate::apportion::Row;
 use crate::apportion::row_shares;
 use filing_cells::column_sums::ColumnSums;
 use filing_cells::column_sums::cells::cell_value;
+use form::BROKERED_CELLS;
 use form::CELLS;
+use form::PENALTY_BALANCE_CELLS;
+use form::PENALTY_MONTHS_CELLS;
 use form::positions::position;
 use form::sub_balances::NO_PLACE;
+use form::sub_balances::PLACE_VALUES;
+use form::sub_balances::SUB_BALANCES;
 use form::sub_balances::SubBalance;
 ghost use mathlib.Core.Path.{_≡_};
 ghost use Prim.Native.Nat.{_<_};
@@ -15,11 +20,11 @@ ghost use Rattle.shares.specs.Inner.Rows.{rowAt, rowPlace};
 ghost use Rattle.shares.specs.Places.{placesOf};
 
 // The thirty-six places of a filing, by its cells and the sums of their columns: nine positions ascending, four places each.
-pub fn places_of(cells: &[u64; CELLS], sums: ColumnSums) -> [SubBalance; 36]
+pub fn places_of(cells: &[u64; CELLS], sums: ColumnSums) -> [SubBalance; SUB_BALANCES]
     requires { ⌜ ValidCells (now cells) × (sums ≡ columnSums (now cells)) ⌝ }
     ensures { λ r. ⌜ r ≡ placesOf (now (cells .entry)) ⌝ }
 {
-    let mut places = [NO_PLACE; 36];
+    let mut places = [NO_PLACE; SUB_BALANCES];
     let mut i = 0;
     while i < 9 {
         let row = row_at(cells, sums, i);
@@ -43,7 +48,7 @@ fn place_in(row: Row, balance: u64, penalty: u64) -> SubBalance
         coupon: row.coupon,
         remaining_months: row.remaining_months,
         penalty,
-        values: [0; 14],
+        values: [0; PLACE_VALUES],
     }
 }
 
@@ -58,10 +63,10 @@ fn row_at(cells: &[u64; CELLS], sums: ColumnSums, i: usize) -> Row
         total: sums.totals[column],
         above: sums.above[i],
         balance: cell_value(cells, p.balance),
-        brokered: cell_value(cells, 649 + p.column),
-        penalized: cell_value(cells, 652 + p.column),
+        brokered: cell_value(cells, BROKERED_CELLS + p.column),
+        penalized: cell_value(cells, PENALTY_BALANCE_CELLS + p.column),
         coupon: cell_value(cells, p.coupon),
         remaining_months: cell_value(cells, p.months),
-        penalty: cell_value(cells, 655 + p.column),
+        penalty: cell_value(cells, PENALTY_MONTHS_CELLS + p.column),
     }
 }

@@ -10,7 +10,7 @@ use Rattle.lists.specs.Sums.{sum}
 use Rattle.lists.specs.Tables.{tableFrom, table, contains}
 use Rattle.lists.proofs.TableLaws.{table-ext}
 use Rattle.form.specs.declared.Position.{Position}
-use Rattle.form.specs.Cells.{position, positions, positionAt, withinRow, totalCell, brokeredCell, penaltyBalanceCell, penaltyMonthsCell}
+use Rattle.form.specs.Cells.{position, positions, positionAt, withinRow, totalCell, brokeredCell, penaltyBalanceCell, penaltyMonthsCell, lastCell}
 use Rattle.form.specs.Limits.{cellClass, rateLimit}
 use Rattle.form.proofs.CellLaws.{CellOf, balance-cell, months-cell}
 use Rattle.answers.specs.Verdict.{Verdict, accepted, refusedIf, firstRefusal, firstOf}
@@ -51,7 +51,7 @@ unfolding positions positionAt position tableFrom
 by-position f = refl
 
 module _ (cells : List CellValue) (yields rates : ℕ → ℕ) (fileable : Fileable 0 cells) (ys : (t : ℕ) → yields t ≤ rateLimit) (rs : (j : ℕ) → rates j ≤ rateLimit)
-    (fit : Fit cells) (past : (n : ℕ) → 646 ≤ n → valueIn cells n ≡ 0) where
+    (fit : Fit cells) (past : (n : ℕ) → totalCell < n → valueIn cells n ≡ 0) where
   abbrev told : List ℕ
   told = saidCells cells yields rates fileable ys rs
 
@@ -79,10 +79,10 @@ module _ (cells : List CellValue) (yields rates : ℕ → ℕ) (fileable : Filea
   months-pass = ap firstOf (by-position (positionVerdict told)) ∙ none-refuses (λ (i : ℕ). positionVerdict told (positionAt i)) 0 9 month-passes
 
   -- 8: nothing is brokered or subject to penalty
-  column-passes : (column n : ℕ) → 646 ≤ n → n ≤ 661 → cellClass n ≡ 4 → columnVerdict told column n ≡ accepted
+  column-passes : (column n : ℕ) → totalCell < n → n ≤ lastCell → cellClass n ≡ 4 → columnVerdict told column n ≡ accepted
   unfolding columnVerdict aboveColumn refusedIf
   column-passes column n l u e =
-      let none : cellIn told n ≡ 0 = says n 4 (record { from-601 = omega arith; to-661 = u; in-class = e }) refl ∙ past n l in
+      let none : cellIn told n ≡ 0 = says n 4 (record { from-first = omega arith; to-last = u; in-class = e }) refl ∙ past n l in
       rw (none, le-ltb (sum (columnBalances told column)) 0 (omega arith))
 
   columns-pass : columnsVerdict told ≡ accepted
@@ -100,7 +100,7 @@ module _ (cells : List CellValue) (yields rates : ℕ → ℕ) (fileable : Filea
   -- 9: the total is the sum
   total-cell : CellOf totalCell 6
   unfolding cellClass contains positions position brokeredCell penaltyBalanceCell penaltyMonthsCell
-  total-cell = record { from-601 = omega arith; to-661 = omega arith; in-class = refl }
+  total-cell = record { from-first = omega arith; to-last = omega arith; in-class = refl }
 
   balances-told : balances told ≡ map (λ (p : Position). valueIn cells (p .balance)) positions
   unfolding balances

@@ -13,19 +13,19 @@ use Rattle.lists.specs.Ranges.{within}
 use Rattle.lists.specs.Sums.{sum}
 use Rattle.lists.specs.Tables.{tableFrom, those, contains}
 use Rattle.lists.proofs.RangeLaws.{within-both}
-use Rattle.form.specs.Cells.{position, positions, totalCell, brokeredCell, penaltyBalanceCell, penaltyMonthsCell}
+use Rattle.form.specs.Cells.{position, positions, totalCell, brokeredCell, penaltyBalanceCell, penaltyMonthsCell, firstCell}
 use Rattle.form.specs.Limits.{filedCouponLimit, monthsLimit, totalLimit, cellClass, classLimit}
 use Rattle.certificate_cells.specs.declared.filled_cells.Totals.{Totals}
 use Rattle.certificate_cells.specs.declared.filled_cells.CellValue.{CellValue}
 use Rattle.certificate_cells.specs.Means.{balanceAt, couponAt, monthsAt}
-use Rattle.certificate_cells.specs.Cells.{isFilled, positionWith, formCell, formCells, isPresent, valueOf, cellValue, cellsOf}
+use Rattle.certificate_cells.specs.Cells.{isFilled, positionWith, formCell, formCells, isPresent, valueOf, cellValue, cellsOf, formCount}
 use Rattle.certificate_cells.specs.Inner.Listing.{Bounded}
 use Rattle.theorem_certificates.proofs.WeightedLaws.{mean-le}
 
 -- a cell above m that is listed, with a value within its limit
 pub record Entry (m : ℕ) (c : CellValue) : Type 0 where
   pub above : m < c .cell
-  pub to-645 : c .cell ≤ 645
+  pub to-total : c .cell ≤ totalCell
   pub listed : eqb (cellClass (c .cell)) 0 ≡ false
   pub limit : c .value ≤ classLimit (cellClass (c .cell))
 
@@ -41,7 +41,7 @@ module _ (d : CellValue) where
   fileable-at m (c ∷ cs) l zero h = l .0
   fileable-at m (c ∷ cs) l (suc i) h =
       let e = fileable-at (c .cell) cs (l .1) i (le-of-suc-le-suc h) in
-      record { above = lt-trans (l .0 .above) (e .above); to-645 = e .to-645; listed = e .listed; limit = e .limit }
+      record { above = lt-trans (l .0 .above) (e .above); to-total = e .to-total; listed = e .listed; limit = e .limit }
 
   pub fileable-rising : (m : ℕ) (cells : List CellValue) → Fileable m cells → (i j : ℕ) → i < j → j < length cells
       → getD cells i d .cell < getD cells j d .cell
@@ -114,7 +114,7 @@ module _ (t : Totals) (b : Bounded t) (total : sum (t .balance) ≤ totalLimit) 
         (either-true (within 1 3 (cellClass n)) (eqb (cellClass n) 6) f)
 
   -- the cells of the table from number i on
-  from-listed : (i n m : ℕ) → m < i → i + n ≤ 646
+  from-listed : (i n m : ℕ) → m < i → i + n ≤ suc totalCell
       → Fileable m (map (cellValue t) (those (isPresent t) (map formCell (those isFilled (tableFrom i n (λ (k : ℕ). k))))))
   unfolding those tableFrom cellValue formCell
   from-listed i zero m l u = tt
@@ -129,8 +129,8 @@ module _ (t : Totals) (b : Bounded t) (total : sum (t .balance) ≤ totalLimit) 
       by false y e f next same = same
       by true false e f next same = rw f same
       by true true e f next same =
-          rw f (record { above = l; to-645 = omega arith; listed = filled-listed i e; limit = entry-limit i f e }, next)
+          rw f (record { above = l; to-total = omega arith; listed = filled-listed i e; limit = entry-limit i f e }, next)
 
   pub cells-fileable : Fileable 0 (cellsOf t)
   unfolding cellsOf formCells
-  cells-fileable = from-listed 601 45 0 (omega arith) (omega arith)
+  cells-fileable = from-listed firstCell formCount 0 (omega arith) (omega arith)

@@ -93,7 +93,7 @@ module _ (cells : List CellValue) (yields rates : ℕ → ℕ) where
         record {
           length-is = record-length bodies i (rw filed-length all) (omega (arith, long)) ∙ long;
           kind-is = field-at i (at + 2) 0 2 all (omega arith) (omega (arith, long)) ∙ rw body (cell-body-kind (cellAt i));
-          cell-is = field-at i (at + 4) 2 2 all (omega arith) (omega (arith, long)) ∙ rw body (cell-body-cell (cellAt i) (omega (arith, e .to-645)));
+          cell-is = field-at i (at + 4) 2 2 all (omega arith) (omega (arith, long)) ∙ rw body (cell-body-cell (cellAt i) (omega (arith, e .to-total)));
           value-is =
               field-at i (at + 6) 4 8 all (omega arith) (omega (arith, long))
               ∙ rw body (cell-body-value (cellAt i) (omega (arith, e .limit, class-limit-le (cellClass (cellAt i .cell)))));

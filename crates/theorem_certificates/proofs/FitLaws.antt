@@ -5,14 +5,14 @@ use mathlib.Core.Path.{_≡_, refl, sym, ap, _∙_}
 use mathlib.Core.Bool.{Bool, true, false, cond, not, _&&_, _||_}
 use mathlib.Core.List.{List, map}
 use borrow.Author.Tests.{ne-eqb, eqb-true, eqb-false}
-use lib.Dec.{T, leb, eqb, leb→le, eqb→eq}
+use lib.Dec.{T, leb, eqb, leb→le, eqb→eq, ltb, ltb→lt}
 use Rattle.lists.specs.Ranges.{within, firstFrom}
 use Rattle.lists.specs.Sums.{sum}
 use Rattle.lists.specs.Tables.{tableFrom, table, contains}
 use Rattle.lists.proofs.TestLaws.{both, allFrom, all-at}
 use Rattle.lists.proofs.TableLaws.{table-ext, table-getD}
 use Rattle.form.specs.declared.Position.{Position}
-use Rattle.form.specs.Cells.{position, positions, positionAt, totalCell, brokeredCell, penaltyBalanceCell, penaltyMonthsCell}
+use Rattle.form.specs.Cells.{position, positions, positionAt, totalCell, brokeredCell, penaltyBalanceCell, penaltyMonthsCell, firstCell}
 use Rattle.form.specs.Limits.{filedCouponLimit, monthsLimit, cellClass}
 use Rattle.certificate_calendar.specs.declared.Date.{Date}
 use Rattle.certificate_terms.specs.Terms.{certificateCount}
@@ -30,22 +30,22 @@ use Rattle.theorem_certificates.proofs.TotalLaws.{filled-total-le}
 
 -- cell m, below the total, is of a class and belongs to the position at index i
 record Belongs (m class i : ℕ) : Type 0 where
-  from-601 : 601 ≤ m
-  to-644 : m ≤ 644
+  from-first : firstCell ≤ m
+  below-total : m < totalCell
   in-class : cellClass m ≡ class
   in-position : positionWith m ≡ i
 
 abbrev belongs : ℕ → ℕ → ℕ → Bool
-belongs m class i = leb 601 m && (leb m 644 && (eqb (cellClass m) class && eqb (positionWith m) i))
+belongs m class i = leb firstCell m && (ltb m totalCell && (eqb (cellClass m) class && eqb (positionWith m) i))
 
 belonging : (cell : ℕ → ℕ) (class : ℕ) → T (allFrom 0 9 (λ (i : ℕ). belongs (cell i) class i)) → (i : ℕ) → i < 9 → Belongs (cell i) class i
 belonging cell class t i h =
-    let a = both (leb 601 (cell i)) _ (all-at 0 9 (λ (j : ℕ). belongs (cell j) class j) t i (omega arith) h) in
-    let b = both (leb (cell i) 644) _ (a .1) in
+    let a = both (leb firstCell (cell i)) _ (all-at 0 9 (λ (j : ℕ). belongs (cell j) class j) t i (omega arith) h) in
+    let b = both (ltb (cell i) totalCell) _ (a .1) in
     let c = both (eqb (cellClass (cell i)) class) _ (b .1) in
     record {
-      from-601 = leb→le 601 (cell i) (a .0);
-      to-644 = leb→le (cell i) 644 (b .0);
+      from-first = leb→le firstCell (cell i) (a .0);
+      below-total = ltb→lt (cell i) totalCell (b .0);
       in-class = eqb→eq (cellClass (cell i)) class (c .0);
       in-position = eqb→eq (positionWith (cell i)) i (c .1);
     }
@@ -89,8 +89,8 @@ module _ (t : Totals) where
       → valueIn (cellsOf t) m ≡ cond (eqb (balanceAt t i) 0) 0 (valueOf t (record { cell = m; class = class; position = i }))
   unfolding isPresent formCell
   value-at m class i b f =
-      value-filled t m (b .from-601) (omega (arith, b .to-644)) f
-      ∙ rw (b .in-class, b .in-position, ne-eqb m totalCell (λ e. omega (arith, b .to-644)))
+      value-filled t m (b .from-first) (omega (arith, b .below-total)) f
+      ∙ rw (b .in-class, b .in-position, ne-eqb m totalCell (λ e. omega (arith, b .below-total)))
       (shown (eqb (balanceAt t i) 0) (valueOf t (record { cell = m; class = class; position = i })))
 
   pub balance-value : (i : ℕ) → i < 9 → valueIn (cellsOf t) (positionAt i .balance) ≡ balanceAt t i

@@ -9,8 +9,9 @@ use mathlib.Core.List.{List, [], _∷_, map}
 use borrow.Author.Tests.{eq-eqb, ne-eqb}
 use lib.Dec.{eqb}
 use Rattle.lists.specs.Tables.{tableFrom, those}
+use Rattle.form.specs.Cells.{firstCell, totalCell}
 use Rattle.certificate_cells.specs.declared.filled_cells.Totals.{Totals}
-use Rattle.certificate_cells.specs.Cells.{isFilled, formCell, formCells, isPresent, valueOf, cellValue, cellsOf}
+use Rattle.certificate_cells.specs.Cells.{isFilled, formCell, formCells, isPresent, valueOf, cellValue, cellsOf, formCount}
 use Rattle.theorem_certificates.specs.Fit.{valueIn}
 
 module _ (t : Totals) where
@@ -77,9 +78,9 @@ module _ (t : Totals) where
           (saying-here i n (subst (λ (k : ℕ). isFilled k ≡ true) (sym e) f))
 
   -- what the filled cells say of a cell that certificates can fill
-  pub value-filled : (m : ℕ) → 601 ≤ m → m < 646 → isFilled m ≡ true → valueIn (cellsOf t) m ≡ cond (isPresent t (formCell m)) (valueOf t (formCell m)) 0
+  pub value-filled : (m : ℕ) → firstCell ≤ m → m ≤ totalCell → isFilled m ≡ true → valueIn (cellsOf t) m ≡ cond (isPresent t (formCell m)) (valueOf t (formCell m)) 0
   unfolding cellsOf formCells saying
-  value-filled m l u f = saying-among m 601 45 l u f
+  value-filled m l u f = saying-among m firstCell formCount l (omega arith) f
 
   -- a cell past the table is absent
   saying-above : (m i n : ℕ) → i + n ≤ m → saying m (those isFilled (tableFrom i n (λ (k : ℕ). k))) ≡ 0
@@ -89,6 +90,6 @@ module _ (t : Totals) where
       saying-other m i (those isFilled (tableFrom (suc i) n (λ (k : ℕ). k))) (isFilled i) (λ e. omega arith)
       ∙ saying-above m (suc i) n (omega arith)
 
-  pub value-past : (m : ℕ) → 646 ≤ m → valueIn (cellsOf t) m ≡ 0
+  pub value-past : (m : ℕ) → totalCell < m → valueIn (cellsOf t) m ≡ 0
   unfolding cellsOf formCells saying
-  value-past m h = saying-above m 601 45 h
+  value-past m h = saying-above m firstCell formCount h

@@ -16,6 +16,7 @@ use Rattle.lists.proofs.RangeLaws.{least-passes, least-fails}
 use Rattle.lists.proofs.TableLaws.{tableFrom-getD}
 use Rattle.form.specs.Limits.{couponClass, cellClass, rateLimit}
 use Rattle.form.proofs.CellLaws.{CellOf}
+use Rattle.form.specs.Cells.{firstCell, lastCell, cellCount}
 use Rattle.record_kinds.specs.Kinds.{flatRatesKind, givesCell, dueLength, sheetLength, sheetKind, sheetKinds, sheetOf}
 use Rattle.record_kinds.specs.declared.items.Item.{Item}
 use Rattle.record_kinds.specs.declared.items.Item.the-variants.{Sheet}
@@ -155,11 +156,11 @@ module _ (cells : List CellValue) (yields rates : ℕ → ℕ) (fileable : Filea
       (λ h. absent n (λ j l. least-fails (isCell n) 0 (length cells) j (omega arith) (omega arith))) (lt-or-le i (length cells))
 
   abbrev pub saidCells : List ℕ
-  saidCells = tableFrom 601 61 (cellValue made)
+  saidCells = tableFrom firstCell cellCount (cellValue made)
 
   pub said : (n class : ℕ) → CellOf n class → eqb class couponClass ≡ false → cellIn saidCells n ≡ valueIn cells n
   unfolding cellIn
   said n class c other =
-      let index : 601 + (n - 601) ≡ n = omega (arith, c .from-601) in
-      rw (le-leb 601 n (c .from-601), le-leb n 661 (c .to-661), tableFrom-getD 601 61 (cellValue made) (n - 601) 0 (omega (arith, c .to-661, c .from-601)), index)
+      let index : firstCell + (n - firstCell) ≡ n = omega (arith, c .from-first) in
+      rw (le-leb firstCell n (c .from-first), le-leb n lastCell (c .to-last), tableFrom-getD firstCell cellCount (cellValue made) (n - firstCell) 0 (omega (arith, c .to-last, c .from-first)), index)
       (cell-said n (rw (c .in-class) other))

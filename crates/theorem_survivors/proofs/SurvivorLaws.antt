@@ -11,7 +11,7 @@ use lib.Dec.{ltb, eqb, lit<}
 use lib.ListN.{length}
 use Rattle.lists.proofs.TestLaws.{and-true}
 use Rattle.lists.proofs.TableLaws.{tableFrom-ext}
-use Rattle.form.specs.Cells.{firstCell, lastCell}
+use Rattle.form.specs.Cells.{firstCell, lastCell, cellCount}
 use Rattle.form.specs.Limits.{couponClass, cellClass, monthsLimit, tierLimit}
 use Rattle.record_fields.specs.Records.{recordKind, recordCell, amendmentState, sheetNumber, tierCount}
 use Rattle.record_fields.proofs.ByteLaws.{number-past}
@@ -120,7 +120,7 @@ module _ (s t : List ℕ) (u : Surviving s t) where
   unfolding contentsOf tiersAt
   survivors-say =
       rw (
-        tableFrom-ext firstCell 61 (cellValue t) (cellValue s) (λ n l m. cell-same n l (omega arith)),
+        tableFrom-ext firstCell cellCount (cellValue t) (cellValue s) (λ n l m. cell-same n l (omega arith)),
         tableFrom-ext 1 monthsLimit (sheetNumber t (sheetOffset t yieldsKind)) (sheetNumber s (sheetOffset s yieldsKind)) (λ i l m. yield-same i l (omega arith)),
         tableFrom-ext 0 rateCount (rateNumber t) (rateNumber s) (λ i l m. rate-same i m),
         tableFrom-ext 0 tierLimit _ _ (λ i l m. tier-same 2 i (omega arith) (omega arith)),

@@ -7,6 +7,7 @@ use mathlib.Core.Bool.{true}
 use borrow.Author.Tests.{lt-ltb, le-ltb}
 use lib.Dec.{ltb}
 use lib.ListN.{getD}
+use Rattle.form.specs.Cells.{firstColumnCell}
 use Rattle.answers.specs.Verdict.{accepted, refused}
 use Rattle.answers.specs.Answers.{verdictOf}
 use Rattle.answers.proofs.VerdictLaws.{Untried, tried-start, tried-here, tried-next, tried-all, condition-holds, condition-refuses, condition-none}
@@ -41,11 +42,11 @@ cell-value-requires c κs = tt
 -- what the code tests is 8 at the i-th cell
 tested : (c : tie.After-cell-value Inv-loop μ-loop)
     → ltb (getD (c .before .before .before .before .args .totals .now) (c .before .before .before .loop .i % 3) 0) (c .cell-value .result)
-    ≡ aboveColumn (c .before .before .before .before .args .cells .now) (c .before .before .before .loop .i % 3 + 1) (c .before .before .before .loop .i + 650)
+    ≡ aboveColumn (c .before .before .before .before .args .cells .now) (c .before .before .before .loop .i % 3 + 1) (c .before .before .before .loop .i + firstColumnCell)
 tested c =
     let i = c .before .before .before .loop .i in
     rw (c .before .before .before .before .pre, totals-are, c .cell-value .ensures)
-    (above-sum (c .before .before .before .before .args .cells .now) (i % 3) (i + 650) (omega arith))
+    (above-sum (c .before .before .before .before .args .cells .now) (i % 3) (i + firstColumnCell) (omega arith))
 
 add-t12 : tie.Need-add-t12 Inv-loop μ-loop
 add-t12 c = omega arith
@@ -56,10 +57,10 @@ returns c =
     let cells = c .before .before .before .before .before .args .cells .now in
     let loop = c .before .before .before .before .loop in
     let i = loop .i in
-    let above : aboveColumn cells (i % 3 + 1) (i + 650) ≡ true = sym (tested (c .before)) ∙ lt-ltb _ _ (c .if1 .taken) in
-    condition-holds (aboveColumn cells (i % 3 + 1) (i + 650)) 8 (i + 650) above
+    let above : aboveColumn cells (i % 3 + 1) (i + firstColumnCell) ≡ true = sym (tested (c .before)) ∙ lt-ltb _ _ (c .if1 .taken) in
+    condition-holds (aboveColumn cells (i % 3 + 1) (i + firstColumnCell)) 8 (i + firstColumnCell) above
     ∙ tried-here (columnsAt cells) 6 i (loop .inv) (c .before .before .before .loop-test .taken)
-    (condition-refuses (aboveColumn cells (i % 3 + 1) (i + 650)) 7 (i + 650) above)
+    (condition-refuses (aboveColumn cells (i % 3 + 1) (i + firstColumnCell)) 7 (i + firstColumnCell) above)
     ∙ sym (columns-in-turn cells)
 
 add-i : tie.Need-add-i Inv-loop μ-loop
@@ -73,7 +74,7 @@ unfolding columnVerdict
 loop-again c =
     let loop = c .before .before .before .before .loop in
     tried-next (columnsAt (c .before .before .before .before .before .args .cells .now)) 6 (loop .i) (loop .inv) (c .before .before .before .loop-test .taken)
-    (condition-none _ 8 (loop .i + 650) (sym (tested (c .before)) ∙ le-ltb _ _ (c .if1 .left)))
+    (condition-none _ 8 (loop .i + firstColumnCell) (sym (tested (c .before)) ∙ le-ltb _ _ (c .if1 .left)))
 
 returns-2 : tie.Need-returns-2 Inv-loop μ-loop
 unfolding verdictOf accepted

@@ -8,7 +8,7 @@ use borrow.Author.Needs.{needs}
 use lib.Dec.{eqb, eqb→eq}
 use Rattle.lists.specs.Tables.{tableFrom, contains}
 use Rattle.lists.proofs.TestLaws.{allFrom, all-at}
-use Rattle.form.specs.Cells.{position, positions, brokeredCell, penaltyBalanceCell, penaltyMonthsCell, unusedCells}
+use Rattle.form.specs.Cells.{position, positions, brokeredCell, penaltyBalanceCell, penaltyMonthsCell, unusedCells, firstCell, cellCount}
 use Rattle.form.specs.Limits.{cellClass}
 use Rattle.form.specs.Inner.Classes.{hexadecimal, sixteenClasses}
 use Rattle.form.proofs.ClassLaws.{class-outside}
@@ -34,15 +34,15 @@ shr-result c = search needs
 abbrev digit : ℕ → ℕ
 digit i = sixteenClasses (i / 16) / 2 ^ (4 * (i % 16)) % 16
 
-digits-are : (i : ℕ) → i < 61 → digit i ≡ cellClass (601 + i)
+digits-are : (i : ℕ) → i < cellCount → digit i ≡ cellClass (firstCell + i)
 unfolding allFrom sixteenClasses hexadecimal tableFrom cellClass contains positions position brokeredCell penaltyBalanceCell penaltyMonthsCell unusedCells
-digits-are i h = eqb→eq _ _ (all-at 0 61 (λ (j : ℕ). eqb (digit j) (cellClass (601 + j))) tt i zero-le h)
+digits-are i h = eqb→eq _ _ (all-at 0 cellCount (λ (j : ℕ). eqb (digit j) (cellClass (firstCell + j))) tt i zero-le h)
 
 returns-3 : tie.Need-returns-3
 returns-3 c =
     let n = c .before .before .before .args .cell in
-    let e : 601 + (n - 601) ≡ n = omega arith in
-    ap (λ (x : ℕ). x / 2 ^ (4 * ((n - 601) % 16)) % 16) (c .sixteen-classes .ensures) ∙ digits-are (n - 601) (omega arith) ∙ ap cellClass e
+    let e : firstCell + (n - firstCell) ≡ n = omega arith in
+    ap (λ (x : ℕ). x / 2 ^ (4 * ((n - firstCell) % 16)) % 16) (c .sixteen-classes .ensures) ∙ digits-are (n - firstCell) (omega arith) ∙ ap cellClass e
 
 pub cell-class-spec : {M : Type 1} → statement M
 cell-class-spec =

@@ -2,19 +2,20 @@
 -- Assumes nothing.
 use borrow.Author.Needs.{needs}
 use borrow.Author.Tests.{le-leb, lt-leb}
+use Rattle.form.specs.Cells.{firstCell, lastCell}
 use Rattle.filing_cells.specs.Balances.{cellIn}
 use Rattle.filing_cells.proofs.column_sums.cells.cell_value.Statement.{statement}
 use Rattle.filing_cells.proofs.column_sums.cells.cell_value.Tie as tie
 
 returns : tie.Need-returns
 unfolding cellIn
-returns c = simp (lt-leb 601 (c .before .args .n) (c .if1 .taken))
+returns c = simp (lt-leb firstCell (c .before .args .n) (c .if1 .taken))
 
 returns-2 : tie.Need-returns-2
 unfolding cellIn
 returns-2 c =
     let n = c .before .before .args .n in
-    simp (le-leb 601 n (c .before .if1 .left), lt-leb n 661 (c .if2 .taken))
+    simp (le-leb firstCell n (c .before .if1 .left), lt-leb n lastCell (c .if2 .taken))
 
 mul-result : tie.Need-mul-result
 mul-result c = search needs
@@ -26,7 +27,7 @@ returns-3 : tie.Need-returns-3
 unfolding cellIn
 returns-3 c =
     let n = c .before .before .before .args .n in
-    simp (le-leb 601 n (c .before .before .if1 .left), le-leb n 661 (c .before .if2 .left))
+    simp (le-leb firstCell n (c .before .before .if1 .left), le-leb n lastCell (c .before .if2 .left))
 
 pub cell-value-spec : {M : Type 1} → statement M
 cell-value-spec = tie.close (tie.spec returns returns-2 mul-result element-copy-out-result returns-3)
