@@ -15,7 +15,10 @@ use form::limits::MONTHS;
 use form::limits::MONTHS_LIMIT;
 use form::limits::RATES;
 use form::sub_balances::NO_PLACE;
+use form::sub_balances::PLACE_VALUES;
+use form::sub_balances::SUB_BALANCES;
 use form::sub_balances::SubBalance;
+use price_factors::FACTORS;
 use price_factors::fill_factors;
 ghost use Rattle.book_promise.specs.Changes.{setPlace, clearPlace};
 ghost use Rattle.book_promise.specs.Promise.{OpenedOf, ChangedOf};
@@ -28,8 +31,8 @@ pub fn open(filing: &[u8]) -> Answered
     let mut yields = [0; MONTHS];
     let mut rates = [0; RATES];
     let reading = read(filing, &mut cells, &mut yields, &mut rates);
-    let mut lower = [0u64; 840];
-    let mut upper = [0u64; 840];
+    let mut lower = [0u64; FACTORS];
+    let mut upper = [0u64; FACTORS];
     fill_factors(&yields, MONTHS_LIMIT, &mut lower, &mut upper);
     let tiers = reading.tiers;
     let answer = reading.answer;
@@ -58,7 +61,7 @@ pub fn set(
         coupon,
         remaining_months: months,
         penalty,
-        values: [0; 14],
+        values: [0; PLACE_VALUES],
     };
     let values = values_in(held, place, &book.rates, tiers, &book.lower, &book.upper);
     let valued = SubBalance {
@@ -78,7 +81,7 @@ pub fn set(
 pub fn clear(book: Book, place: usize) -> Answered
     ensures { λ r. ⌜ ChangedOf book (clearPlace place) r ⌝ }
 {
-    if 36 <= place {
+    if SUB_BALANCES <= place {
         return refusal(book, place);
     }
     Answered {

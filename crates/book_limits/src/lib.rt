@@ -4,6 +4,7 @@ use form::limits::COUPON_LIMIT;
 use form::limits::PENALTY_LIMIT;
 use form::positions::position;
 use form::positions::within_row;
+use form::sub_balances::SUB_BALANCES;
 ghost use mathlib.Core.Path.{_≡_};
 ghost use Rattle.book_limits.specs.PlaceLimits.{fitsPlace, penaltyWithin};
 
@@ -11,7 +12,7 @@ ghost use Rattle.book_limits.specs.PlaceLimits.{fitsPlace, penaltyWithin
 pub fn fits(place: usize, balance: u64, coupon: u64, months: u64, penalty: u64) -> bool
     ensures { λ r. ⌜ r ≡ fitsPlace place balance coupon months penalty ⌝ }
 {
-    if 36 <= place {
+    if SUB_BALANCES <= place {
         return false;
     }
     if balance < 1 {

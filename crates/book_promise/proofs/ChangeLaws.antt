@@ -6,6 +6,7 @@ use mathlib.Core.Bool.{Bool, true, false, cond}
 use mathlib.Core.List.{List, [], _∷_}
 use native.Mathlib.Omega.{arith}
 use borrow.Author.Tests.{ltb-true}
+use Rattle.form.specs.PlaceOrder.{subBalanceCount}
 use Rattle.answers.specs.declared.Answer.the-variants.{Accepted, OutsidePlaceLimits}
 use Rattle.answers.specs.Answers.{verdictOf}
 use Rattle.answers.specs.Verdict.{Verdict, accepted, refused, refusedIf}
@@ -26,10 +27,10 @@ use Rattle.book_promise.proofs.StandingLaws.{empty-stands, changed-stan
 use Rattle.book_promise.proofs.KeptLaws.{standing-kept}
 
 -- a change that the place takes is at one of the thirty-six places, and the place then holds nothing or a deposit that it takes
-fits-at : (c : Change) → fitsChange c ≡ true → changedPlace c < 36
+fits-at : (c : Change) → fitsChange c ≡ true → changedPlace c < subBalanceCount
 unfolding fitsChange changedPlace
 fits-at (setPlace place balance coupon months penalty) h = fits-place place balance coupon months penalty h
-fits-at (clearPlace place) h = ltb-true place 36 h
+fits-at (clearPlace place) h = ltb-true place subBalanceCount h
 fits-at (neitherAt place) h = let never : _≡_ {A = ℕ} 0 1 = cc in omega arith
 
 holds-change : (k : Contents) (b : Book) → Standing k b → (c : Change) → fitsChange c ≡ true → Holds k (changedPlace c) (heldAfter b c)

@@ -16,6 +16,7 @@ use Rattle.fraction.proofs.EnclosureLaws.{total-encloses}
 use Rattle.filing_contents.specs.Contents.{Contents}
 use Rattle.filing_decode.specs.Contents.{contentsOf}
 use Rattle.form.specs.PlaceOrder.{subBalanceCount, isShort, isLong}
+use Rattle.form.specs.Shift.{scenarioCount}
 use Rattle.pricing.specs.Rounding.{down, up}
 use Rattle.value_places.specs.HeldValues.{valueHeld, boundsHeld, valuesHeld}
 use Rattle.value_places.proofs.HeldLaws.{held-encloses, held-width}
@@ -28,7 +29,7 @@ use Rattle.book_promise.proofs.PlaceLaws.{holds-within}
 use Rattle.book_promise.specs.Promise.{balanceIn, lowerIn, upperIn, totalIn, exactIn, Kept}
 
 -- total r of a scenario's four, short lower, short upper, long lower, long upper, is a fresh sum
-module _ (k : Contents) (b : Book) (stands : Standing k b) (scenario : ℕ) (h : scenario < 7) where
+module _ (k : Contents) (b : Book) (stands : Standing k b) (scenario : ℕ) (h : scenario < scenarioCount) where
   -- of the places that pass a test, value j of the fourteen
   fresh : (r j : ℕ) (test : ℕ → Bool) → r < 4 → sumsPlace (4 * scenario + r) ≡ test → valueOfTotal (4 * scenario + r) ≡ j
       → totalIn b r scenario ≡ sumWhere test (λ (place : ℕ). getD (heldIn b place .values) j 0) subBalanceCount
@@ -56,47 +57,47 @@ module _ (k : Contents) (b : Book) (stands : Standing k b) (scenario : ℕ) (h :
   bounds-length place s = refl
 
   -- number r of a place's two values in the scenario
-  bound-is : (place r : ℕ) → place < 36 → r < 2 → getD (heldIn b place .values) (2 * scenario + r) 0 ≡ getD (boundsHeld k place (heldIn b place) scenario) r 0
+  bound-is : (place r : ℕ) → place < subBalanceCount → r < 2 → getD (heldIn b place .values) (2 * scenario + r) 0 ≡ getD (boundsHeld k place (heldIn b place) scenario) r 0
   unfolding valuesHeld
   bound-is place r hp hr =
-      rw (holds-within k place (heldIn b place) (stands .places place hp) .values-are) (joined-getD 2 7 (boundsHeld k place (heldIn b place)) (bounds-length place) scenario r 0 h hr)
+      rw (holds-within k place (heldIn b place) (stands .places place hp) .values-are) (joined-getD 2 scenarioCount (boundsHeld k place (heldIn b place)) (bounds-length place) scenario r 0 h hr)
 
-  pub lower-is : (place : ℕ) → place < 36 → lowerIn b scenario place ≡ valueHeld down k scenario place (heldIn b place)
+  pub lower-is : (place : ℕ) → place < subBalanceCount → lowerIn b scenario place ≡ valueHeld down k scenario place (heldIn b place)
   unfolding lowerIn boundsHeld
   lower-is place hp =
       let e : 2 * scenario ≡ 2 * scenario + 0 = omega arith in
       ap (λ (i : ℕ). getD (heldIn b place .values) i 0) e ∙ bound-is place 0 hp (lit< tt)
 
-  pub upper-is : (place : ℕ) → place < 36 → upperIn b scenario place ≡ valueHeld up k scenario place (heldIn b place)
+  pub upper-is : (place : ℕ) → place < subBalanceCount → upperIn b scenario place ≡ valueHeld up k scenario place (heldIn b place)
   unfolding upperIn boundsHeld
   upper-is place hp = bound-is place 1 hp (lit< tt)
 
   -- sums of lower and upper values
-  lower-sum : (test : ℕ → Bool) → sumWhere test (lowerIn b scenario) 36 ≡ sumWhere test (λ (place : ℕ). valueHeld down k scenario place (heldIn b place)) 36
-  lower-sum test = sumWhere-ext test (lowerIn b scenario) (λ (place : ℕ). valueHeld down k scenario place (heldIn b place)) 36 lower-is
+  lower-sum : (test : ℕ → Bool) → sumWhere test (lowerIn b scenario) subBalanceCount ≡ sumWhere test (λ (place : ℕ). valueHeld down k scenario place (heldIn b place)) subBalanceCount
+  lower-sum test = sumWhere-ext test (lowerIn b scenario) (λ (place : ℕ). valueHeld down k scenario place (heldIn b place)) subBalanceCount lower-is
 
-  upper-sum : (test : ℕ → Bool) → sumWhere test (upperIn b scenario) 36 ≡ sumWhere test (λ (place : ℕ). valueHeld up k scenario place (heldIn b place)) 36
-  upper-sum test = sumWhere-ext test (upperIn b scenario) (λ (place : ℕ). valueHeld up k scenario place (heldIn b place)) 36 upper-is
+  upper-sum : (test : ℕ → Bool) → sumWhere test (upperIn b scenario) subBalanceCount ≡ sumWhere test (λ (place : ℕ). valueHeld up k scenario place (heldIn b place)) subBalanceCount
+  upper-sum test = sumWhere-ext test (upperIn b scenario) (λ (place : ℕ). valueHeld up k scenario place (heldIn b place)) subBalanceCount upper-is
 
-  width-is : (place : ℕ) → place < 36 → 250 * upperIn b scenario place ≤ 250 * lowerIn b scenario place + (balanceIn b place + 500)
+  width-is : (place : ℕ) → place < subBalanceCount → 250 * upperIn b scenario place ≤ 250 * lowerIn b scenario place + (balanceIn b place + 500)
   unfolding balanceIn
   width-is place hp = rw (lower-is place hp, upper-is place hp) (held-width k place (heldIn b place) (holds-within k place (heldIn b place) (stands .places place hp) .limits) scenario)
 
 -- under an accepted filing
 module _ (s : List ℕ) (b : Book) (stands : Standing (contentsOf s) b) where
-  place-encloses : (scenario place : ℕ) → scenario < 7 → place < 36
+  place-encloses : (scenario place : ℕ) → scenario < scenarioCount → place < subBalanceCount
       → Encloses (lowerIn b scenario place) (exactIn s b scenario place) (upperIn b scenario place)
   unfolding exactIn
   place-encloses scenario place h hp =
       rw (lower-is (contentsOf s) b stands scenario h place hp, upper-is (contentsOf s) b stands scenario h place hp)
       (held-encloses (contentsOf s) place (heldIn b place) scenario)
 
-  sums-enclose : (test : ℕ → Bool) (scenario : ℕ) → scenario < 7
-      → Encloses (sumWhere test (lowerIn b scenario) 36) (totalWhere test (exactIn s b scenario) 36) (sumWhere test (upperIn b scenario) 36)
+  sums-enclose : (test : ℕ → Bool) (scenario : ℕ) → scenario < scenarioCount
+      → Encloses (sumWhere test (lowerIn b scenario) subBalanceCount) (totalWhere test (exactIn s b scenario) subBalanceCount) (sumWhere test (upperIn b scenario) subBalanceCount)
   unfolding exactIn
   sums-enclose test scenario h =
       rw (lower-sum (contentsOf s) b stands scenario h test, upper-sum (contentsOf s) b stands scenario h test)
-      (total-encloses test _ _ _ 36 (λ place. held-encloses (contentsOf s) place (heldIn b place) scenario))
+      (total-encloses test _ _ _ subBalanceCount (λ place. held-encloses (contentsOf s) place (heldIn b place) scenario))
 
   balance-sum : b .balance ≡ sumWhere everywhere (balanceIn b) subBalanceCount
   unfolding balanceIn

@@ -17,6 +17,7 @@ use Rattle.filing_contents.specs.Contents.{Contents}
 use Rattle.form.specs.declared.sub_balances.SubBalance.{SubBalance}
 use Rattle.form.specs.PlaceOrder.{subBalanceCount, positionOf, withPenalty}
 use Rattle.form.specs.Places.{noPlace, noValues}
+use Rattle.form.specs.Shift.{scenarioCount}
 use Rattle.pricing.specs.Scales.{valueScale}
 use Rattle.pricing.specs.Rounding.{down, up}
 use Rattle.pricing.specs.Run.{worthBy, valueBy}
@@ -38,7 +39,7 @@ use Rattle.book_values.proofs.SheetLaws.{limits-usable, filing-limits, values-t
 none-valued : (k : Contents) (place : ℕ) → noValues ≡ valuesHeld k place noPlace
 unfolding valuesHeld boundsHeld valueHeld valueBy worthBy tableFrom joined
 none-valued k place =
-    ap joined (table-ext 7 (λ (s : ℕ). 0 ∷ 0 ∷ []) (boundsHeld k place noPlace)
+    ap joined (table-ext scenarioCount (λ (s : ℕ). 0 ∷ 0 ∷ []) (boundsHeld k place noPlace)
     (λ s h. rw (quotient-zero down _ valueScale (lit< tt), quotient-zero up _ valueScale (lit< tt))))
 
 -- what follows of what a place holds: its limits as those of a deposit, and its values

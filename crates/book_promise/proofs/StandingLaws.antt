@@ -17,6 +17,9 @@ use Rattle.filing_contents.specs.Contents.{Contents}
 use Rattle.filing_contents.specs.Valid.{Valid}
 use Rattle.form.specs.declared.sub_balances.SubBalance.{SubBalance}
 use Rattle.form.specs.Places.{noPlace}
+use Rattle.form.specs.PlaceOrder.{subBalanceCount}
+use Rattle.form.specs.Shift.{scenarioCount}
+use Rattle.form.specs.Counts.{placeValueCount, totalCount}
 use Rattle.value_places.specs.RowTotals.{valueLimit}
 use Rattle.pricing.specs.Rounding.{down, up}
 use Rattle.value_places.specs.HeldValues.{boundsHeld, valuesHeld}
@@ -39,32 +42,32 @@ module _ (k : Contents) (place : ℕ) (held : SubBalance) (w : Within k place he
 
   value-small : (i : ℕ) → getD (held .values) i 0 ≤ valueLimit
   unfolding valuesHeld
-  value-small i = rw (w .values-are) (joined-le 0 7 (boundsHeld k place held) valueLimit (λ s j l u. bound-small s j) i)
+  value-small i = rw (w .values-are) (joined-le 0 scenarioCount (boundsHeld k place held) valueLimit (λ s j l u. bound-small s j) i)
 
 module _ (k : Contents) (v : Valid k) where
   -- every place of the empty book holds nothing
-  none-held : (place : ℕ) → place < 36 → heldIn (emptyBook k) place ≡ noPlace
+  none-held : (place : ℕ) → place < subBalanceCount → heldIn (emptyBook k) place ≡ noPlace
   unfolding emptyBook
-  none-held place h = getD-replicate 36 place noPlace _ h
+  none-held place h = getD-replicate subBalanceCount place noPlace _ h
 
-  none-value : (i place : ℕ) → place < 36 → getD (heldIn (emptyBook k) place .values) (valueOfTotal i) 0 ≡ 0
-  none-value i place h = rw (none-held place h) (zeros-getD 14 (valueOfTotal i))
+  none-value : (i place : ℕ) → place < subBalanceCount → getD (heldIn (emptyBook k) place .values) (valueOfTotal i) 0 ≡ 0
+  none-value i place h = rw (none-held place h) (zeros-getD placeValueCount (valueOfTotal i))
 
   pub empty-stands : Standing k (emptyBook k)
   unfolding emptyBook
   empty-stands =
       record {
         under = record { valid = v; rates-are = refl; tiers-are = refl; lower-is = refl; upper-is = refl };
-        size = length-replicate 36 noPlace;
-        totals-size = length-replicate {A = ℕ} 28 0;
+        size = length-replicate subBalanceCount noPlace;
+        totals-size = length-replicate {A = ℕ} totalCount 0;
         places = λ place h. inl (none-held place h);
-        balance-is = sym (sumWhere-ext everywhere _ (λ _. 0) 36 (λ place h. ap (λ (p : SubBalance). p .balance) (none-held place h)) ∙ zeros-sum everywhere 36);
+        balance-is = sym (sumWhere-ext everywhere _ (λ _. 0) subBalanceCount (λ place h. ap (λ (p : SubBalance). p .balance) (none-held place h)) ∙ zeros-sum everywhere subBalanceCount);
         total-is = λ i h.
-            getD-replicate 28 i 0 0 h ∙ sym (sumWhere-ext (sumsPlace i) _ (λ _. 0) 36 (λ place l. none-value i place l) ∙ zeros-sum (sumsPlace i) 36);
+            getD-replicate totalCount i 0 0 h ∙ sym (sumWhere-ext (sumsPlace i) _ (λ _. 0) subBalanceCount (λ place l. none-value i place l) ∙ zeros-sum (sumsPlace i) subBalanceCount);
       }
 
 -- a standing book with something else at a place
-module _ (k : Contents) (b : Book) (stands : Standing k b) (place : ℕ) (at : place < 36) (held : SubBalance) (w : Holds k place held) where
+module _ (k : Contents) (b : Book) (stands : Standing k b) (place : ℕ) (at : place < subBalanceCount) (held : SubBalance) (w : Holds k place held) where
   abbrev after : Book
   after = withPlace b place held
 
@@ -77,46 +80,46 @@ module _ (k : Contents) (b : Book) (stands : Standing k b) (place : ℕ) (at : p
   unfolding withPlace
   elsewhere i other = sym (getD-set-other (b .places) place i held _ other)
 
-  holds-after : (i : ℕ) → i < 36 → Holds k i (heldIn after i)
+  holds-after : (i : ℕ) → i < subBalanceCount → Holds k i (heldIn after i)
   holds-after i h = by (eqb i place) refl
     where
       by : (t : Bool) → eqb i place ≡ t → Holds k i (heldIn after i)
       by true e = let same = eqb-true i place e in rw (same, here) w
       by false e = rw (← elsewhere i (eqb-false i place e)) (stands .places i h)
 
-  within-after : (i : ℕ) → i < 36 → Within k i (heldIn after i)
+  within-after : (i : ℕ) → i < subBalanceCount → Within k i (heldIn after i)
   within-after i h = holds-within k i (heldIn after i) (holds-after i h)
 
   -- a sum over the places of one of their figures, moved by the difference
-  module _ (test : ℕ → Bool) (figure : SubBalance → ℕ) (limit : ℕ) (small : limit * 36 ≤ 2 ^ 64 - 1)
-      (each : (i : ℕ) → i < 36 → figure (heldIn after i) ≤ limit) where
-    figure-moved : (total : ℕ) → total ≡ sumWhere test (λ (i : ℕ). figure (heldIn b i)) 36
-        → cond (test place) (moved total (figure (heldIn b place)) (figure held)) total ≡ sumWhere test (λ (i : ℕ). figure (heldIn after i)) 36
+  module _ (test : ℕ → Bool) (figure : SubBalance → ℕ) (limit : ℕ) (small : limit * subBalanceCount ≤ 2 ^ 64 - 1)
+      (each : (i : ℕ) → i < subBalanceCount → figure (heldIn after i) ≤ limit) where
+    figure-moved : (total : ℕ) → total ≡ sumWhere test (λ (i : ℕ). figure (heldIn b i)) subBalanceCount
+        → cond (test place) (moved total (figure (heldIn b place)) (figure held)) total ≡ sumWhere test (λ (i : ℕ). figure (heldIn after i)) subBalanceCount
     figure-moved total e =
-        moved-is (test place) total (figure (heldIn b place)) (figure held) (sumWhere test (λ (i : ℕ). figure (heldIn after i)) 36)
-        (rw e changed) (rw e (place-in-sum test (λ (i : ℕ). figure (heldIn b i)) 36 place at))
-        (le-trans (sum-small test (λ (i : ℕ). figure (heldIn after i)) limit 36 each) small)
+        moved-is (test place) total (figure (heldIn b place)) (figure held) (sumWhere test (λ (i : ℕ). figure (heldIn after i)) subBalanceCount)
+        (rw e changed) (rw e (place-in-sum test (λ (i : ℕ). figure (heldIn b i)) subBalanceCount place at))
+        (le-trans (sum-small test (λ (i : ℕ). figure (heldIn after i)) limit subBalanceCount each) small)
       where
-        changed : sumWhere test (λ (i : ℕ). figure (heldIn after i)) 36 + cond (test place) (figure (heldIn b place)) 0
-            ≡ sumWhere test (λ (i : ℕ). figure (heldIn b i)) 36 + cond (test place) (figure held) 0
+        changed : sumWhere test (λ (i : ℕ). figure (heldIn after i)) subBalanceCount + cond (test place) (figure (heldIn b place)) 0
+            ≡ sumWhere test (λ (i : ℕ). figure (heldIn b i)) subBalanceCount + cond (test place) (figure held) 0
         changed =
-            sum-changed test (λ (i : ℕ). figure (heldIn b i)) (λ (i : ℕ). figure (heldIn after i)) 36 place at (λ i other. ap figure (elsewhere i other))
-            ∙ ap (λ (p : SubBalance). sumWhere test (λ (i : ℕ). figure (heldIn b i)) 36 + cond (test place) (figure p) 0) here
+            sum-changed test (λ (i : ℕ). figure (heldIn b i)) (λ (i : ℕ). figure (heldIn after i)) subBalanceCount place at (λ i other. ap figure (elsewhere i other))
+            ∙ ap (λ (p : SubBalance). sumWhere test (λ (i : ℕ). figure (heldIn b i)) subBalanceCount + cond (test place) (figure p) 0) here
 
-  total-after : (i : ℕ) → i < 28
+  total-after : (i : ℕ) → i < totalCount
       → getD (totalsAfter (b .totals) place (heldIn b place .values) (held .values)) i 0
-      ≡ sumWhere (sumsPlace i) (λ (p : ℕ). getD (heldIn after p .values) (valueOfTotal i) 0) 36
+      ≡ sumWhere (sumsPlace i) (λ (p : ℕ). getD (heldIn after p .values) (valueOfTotal i) 0) subBalanceCount
   unfolding totalsAfter totalAfter
   total-after i h =
-      table-getD 28 _ i 0 h
+      table-getD totalCount _ i 0 h
       ∙ figure-moved (sumsPlace i) (λ (p : SubBalance). getD (p .values) (valueOfTotal i) 0) valueLimit (omega arith)
       (λ p l. value-small k p (heldIn after p) (within-after p l) (valueOfTotal i)) (getD (b .totals) i 0) (stands .total-is i h)
 
-  totals-length : length (totalsAfter (b .totals) place (heldIn b place .values) (held .values)) ≡ 28
+  totals-length : length (totalsAfter (b .totals) place (heldIn b place .values) (held .values)) ≡ totalCount
   unfolding totalsAfter
-  totals-length = table-length 0 28 _
+  totals-length = table-length 0 totalCount _
 
-  balance-after : moved (b .balance) (heldIn b place .balance) (held .balance) ≡ sumWhere everywhere (λ (p : ℕ). heldIn after p .balance) 36
+  balance-after : moved (b .balance) (heldIn b place .balance) (held .balance) ≡ sumWhere everywhere (λ (p : ℕ). heldIn after p .balance) subBalanceCount
   balance-after =
       figure-moved everywhere (λ (p : SubBalance). p .balance) balanceLimit (omega arith) (λ p l. within-after p l .balance-le) (b .balance) (stands .balance-is)
 

@@ -11,6 +11,7 @@ use Rattle.answers.specs.Verdict.{accepted}
 use Rattle.filing_decode.specs.Contents.{contentsOf}
 use Rattle.filing.specs.Verdict.{filingVerdict}
 use Rattle.form.specs.PlaceOrder.{subBalanceCount, isShort, isLong}
+use Rattle.form.specs.Shift.{scenarioCount}
 use Rattle.pricing.specs.EnclosedValues.{EnclosedValues, EnclosedTotal}
 use Rattle.value_places.specs.HeldValues.{exactHeld}
 use Rattle.book_state.specs.declared.Book.{Book}
@@ -43,10 +44,10 @@ pub record Kept (s : List ℕ) (b : Book) : Type 0 where
   pub standing : Standing (contentsOf s) b
   -- the totals equal fresh sums over the places
   pub balance-total : b .balance ≡ sumWhere everywhere (balanceIn b) subBalanceCount
-  pub short-lower : (scenario : ℕ) → scenario < 7 → totalIn b 0 scenario ≡ sumWhere isShort (lowerIn b scenario) subBalanceCount
-  pub short-upper : (scenario : ℕ) → scenario < 7 → totalIn b 1 scenario ≡ sumWhere isShort (upperIn b scenario) subBalanceCount
-  pub long-lower : (scenario : ℕ) → scenario < 7 → totalIn b 2 scenario ≡ sumWhere isLong (lowerIn b scenario) subBalanceCount
-  pub long-upper : (scenario : ℕ) → scenario < 7 → totalIn b 3 scenario ≡ sumWhere isLong (upperIn b scenario) subBalanceCount
+  pub short-lower : (scenario : ℕ) → scenario < scenarioCount → totalIn b 0 scenario ≡ sumWhere isShort (lowerIn b scenario) subBalanceCount
+  pub short-upper : (scenario : ℕ) → scenario < scenarioCount → totalIn b 1 scenario ≡ sumWhere isShort (upperIn b scenario) subBalanceCount
+  pub long-lower : (scenario : ℕ) → scenario < scenarioCount → totalIn b 2 scenario ≡ sumWhere isLong (lowerIn b scenario) subBalanceCount
+  pub long-upper : (scenario : ℕ) → scenario < scenarioCount → totalIn b 3 scenario ≡ sumWhere isLong (upperIn b scenario) subBalanceCount
   -- lower never above and upper never below the exact value of each place, the width of each, and the width over all thirty-six against the balance total
   pub values-enclosed : EnclosedValues subBalanceCount (balanceIn b) (lowerIn b) (upperIn b) (exactIn s b) (b .balance) 18000
   -- the short and the long total enclose theirs

@@ -11,6 +11,7 @@ use Rattle.filing_contents.specs.Valid.{Valid}
 use Rattle.form.specs.declared.sub_balances.SubBalance.{SubBalance}
 use Rattle.form.specs.PlaceOrder.{subBalanceCount}
 use Rattle.form.specs.Places.{noPlace}
+use Rattle.form.specs.Counts.{totalCount}
 use Rattle.pricing.specs.Rounding.{down, up}
 use Rattle.value_places.specs.HeldValues.{valuesHeld}
 use Rattle.book_limits.specs.PlaceLimits.{fitsPlace}
@@ -40,7 +41,7 @@ Holds k place held = (held ≡ noPlace) ⊎ Deposited k place held
 pub record Standing (k : Contents) (b : Book) : Type 0 where
   pub under : Under k b
   pub size : length (b .places) ≡ subBalanceCount
-  pub totals-size : length (b .totals) ≡ 28
+  pub totals-size : length (b .totals) ≡ totalCount
   pub places : (place : ℕ) → place < subBalanceCount → Holds k place (heldIn b place)
   pub balance-is : b .balance ≡ sumWhere everywhere (λ (place : ℕ). heldIn b place .balance) subBalanceCount
-  pub total-is : (i : ℕ) → i < 28 → getD (b .totals) i 0 ≡ sumWhere (sumsPlace i) (λ (place : ℕ). getD (heldIn b place .values) (valueOfTotal i) 0) subBalanceCount
+  pub total-is : (i : ℕ) → i < totalCount → getD (b .totals) i 0 ≡ sumWhere (sumsPlace i) (λ (place : ℕ). getD (heldIn b place .values) (valueOfTotal i) 0) subBalanceCount

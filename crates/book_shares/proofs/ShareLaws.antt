@@ -23,9 +23,11 @@ use Rattle.filing_contents.specs.Contents.{Contents, cell}
 use Rattle.filing.specs.Verdict.{filingVerdict}
 use Rattle.filing_contents.specs.Valid.{Valid}
 use Rattle.form.specs.declared.sub_balances.SubBalance.{SubBalance}
-use Rattle.form.specs.PlaceOrder.{positionOf, withPenalty, isShort, isLong}
+use Rattle.form.specs.PlaceOrder.{positionOf, withPenalty, isShort, isLong, subBalanceCount}
 use Rattle.shares.specs.SubBalances.{balanceAt, couponAt, monthsAt, penaltyAt}
 use Rattle.form.specs.Places.{noPlace}
+use Rattle.form.specs.Shift.{scenarioCount}
+use Rattle.form.specs.Counts.{totalCount}
 use Rattle.shares.specs.Places.{placeAt}
 use Rattle.shares.proofs.SubBalanceLaws.{balanceAt-le, balanceAt-limit, balanceAt-total}
 use Rattle.pricing.specs.Scales.{valueScale}
@@ -71,7 +73,7 @@ abbrev share : Contents → ℕ → SubBalance
 share k place = unvalued (balanceAt (k .cells) place) (couponAt (k .cells) place) (monthsAt (k .cells) place) (penaltyAt (k .cells) place)
 
 -- a place takes its share
-module _ (k : Contents) (v : Valid k) (place : ℕ) (h : place < 36) (pos : 0 < balanceAt (k .cells) place) where
+module _ (k : Contents) (v : Valid k) (place : ℕ) (h : place < subBalanceCount) (pos : 0 < balanceAt (k .cells) place) where
   penalty-fits : penaltyWithin place (penaltyAt (k .cells) place) ≡ true
   unfolding penaltyWithin penaltyAt
   penalty-fits = le-leb _ _ (none-or-limit (withPenalty place) _ (penalty-le k v place h))
@@ -90,7 +92,7 @@ module _ (k : Contents) (v : Valid k) (place : ℕ) (h : place < 36) (pos : 0 < 
   unfolding fitsPlace
   share-fits =
       rw (
-        lt-ltb place 36 h,
+        lt-ltb place subBalanceCount h,
         le-leb 1 (balanceAt (k .cells) place) pos,
         le-leb (balanceAt (k .cells) place) balanceLimit (balanceAt-limit (k .cells) (v .of-cells) place h),
         le-leb (couponAt (k .cells) place) couponLimit coupon-fits,
@@ -115,9 +117,9 @@ set-shows k b place = (refl, λ ρ scenario. refl)
 -- the first n places show their shares, and the others hold nothing
 record Shown (k : Contents) (b : Book) (n : ℕ) : Type 0 where
   first : (i : ℕ) → i < n → Shows k i (heldIn b i)
-  others : (i : ℕ) → n ≤ i → i < 36 → heldIn b i ≡ noPlace
+  others : (i : ℕ) → n ≤ i → i < subBalanceCount → heldIn b i ≡ noPlace
 
-module _ (k : Contents) (b : Book) (stands : Standing k b) (n : ℕ) (h : n < 36) (shown : Shown k b n) where
+module _ (k : Contents) (b : Book) (stands : Standing k b) (n : ℕ) (h : n < subBalanceCount) (shown : Shown k b n) where
   -- no change where the share has no balance
   shown-none : balanceAt (k .cells) n ≡ 0 → Shown k b (suc n)
   shown-none e =
@@ -156,9 +158,9 @@ module _ (s : List ℕ) (a : filingVerdict s ≡ accepted) where
   unfolding BookPromise
   kept n = book-promise s a (shareChanges (k .cells) n)
 
-  shown : (n : ℕ) → n ≤ 36 → Shown k (book n) n
+  shown : (n : ℕ) → n ≤ subBalanceCount → Shown k (book n) n
   unfolding shareChanges shareChange bookAfterAll openedBook emptyBook
-  shown zero l = record { first = λ i h. absurd (not-suc-le-zero h); others = λ i h u. getD-replicate 36 i noPlace _ u }
+  shown zero l = record { first = λ i h. absurd (not-suc-le-zero h); others = λ i h u. getD-replicate subBalanceCount i noPlace _ u }
   shown (suc n) l = rw (after-more (openedBook s) (shareChanges (k .cells) n) (shareChange (k .cells) n)) (by (shown n (le-of-lt l)) (eqb (balanceAt (k .cells) n) 0) refl)
     where
       by : Shown k (book n) n → (t : Bool) → eqb (balanceAt (k .cells) n) 0 ≡ t
@@ -168,45 +170,45 @@ module _ (s : List ℕ) (a : filingVerdict s ≡ accepted) where
 
   -- the book with all shares set
   abbrev full : Book
-  full = book 36
+  full = book subBalanceCount
 
-  lower-share : (scenario : ℕ) → scenario < 7 → (place : ℕ) → place < 36 → lowerIn full scenario place ≡ valueAt down k scenario place
-  lower-share scenario h place hp = lower-is k full (kept 36 .standing) scenario h place hp ∙ shown 36 (le-refl 36) .first place hp .1 down scenario
+  lower-share : (scenario : ℕ) → scenario < scenarioCount → (place : ℕ) → place < subBalanceCount → lowerIn full scenario place ≡ valueAt down k scenario place
+  lower-share scenario h place hp = lower-is k full (kept subBalanceCount .standing) scenario h place hp ∙ shown subBalanceCount (le-refl subBalanceCount) .first place hp .1 down scenario
 
-  upper-share : (scenario : ℕ) → scenario < 7 → (place : ℕ) → place < 36 → upperIn full scenario place ≡ valueAt up k scenario place
-  upper-share scenario h place hp = upper-is k full (kept 36 .standing) scenario h place hp ∙ shown 36 (le-refl 36) .first place hp .1 up scenario
+  upper-share : (scenario : ℕ) → scenario < scenarioCount → (place : ℕ) → place < subBalanceCount → upperIn full scenario place ≡ valueAt up k scenario place
+  upper-share scenario h place hp = upper-is k full (kept subBalanceCount .standing) scenario h place hp ∙ shown subBalanceCount (le-refl subBalanceCount) .first place hp .1 up scenario
 
   -- the four totals of a scenario
-  total-share : (scenario : ℕ) → scenario < 7 → (r : ℕ) → r < 4 → totalIn full r scenario ≡ getD (scenarioTotals k scenario) r 0
+  total-share : (scenario : ℕ) → scenario < scenarioCount → (r : ℕ) → r < 4 → totalIn full r scenario ≡ getD (scenarioTotals k scenario) r 0
   unfolding scenarioTotals totalBy
   total-share scenario h =
-      let now = kept 36 in
+      let now = kept subBalanceCount in
       each-lt 4 (λ r. totalIn full r scenario ≡ getD (scenarioTotals k scenario) r 0) (
-        now .short-lower scenario h ∙ sumWhere-ext isShort _ _ 36 (lower-share scenario h),
+        now .short-lower scenario h ∙ sumWhere-ext isShort _ _ subBalanceCount (lower-share scenario h),
         (
-          now .short-upper scenario h ∙ sumWhere-ext isShort _ _ 36 (upper-share scenario h),
+          now .short-upper scenario h ∙ sumWhere-ext isShort _ _ subBalanceCount (upper-share scenario h),
           (
-            now .long-lower scenario h ∙ sumWhere-ext isLong _ _ 36 (lower-share scenario h),
-            (now .long-upper scenario h ∙ sumWhere-ext isLong _ _ 36 (upper-share scenario h), tt),
+            now .long-lower scenario h ∙ sumWhere-ext isLong _ _ subBalanceCount (lower-share scenario h),
+            (now .long-upper scenario h ∙ sumWhere-ext isLong _ _ subBalanceCount (upper-share scenario h), tt),
           ),
         ),
       )
 
-  totals-shown : full .totals ≡ joined (table 7 (scenarioTotals k))
+  totals-shown : full .totals ≡ joined (table scenarioCount (scenarioTotals k))
   unfolding totalIn
   totals-shown =
-      ext-getD 0 (full .totals) (joined (table 7 (scenarioTotals k))) (kept 36 .standing .totals-size ∙ sym (joined-length 4 0 7 (scenarioTotals k) (scenarioTotals-length k)))
+      ext-getD 0 (full .totals) (joined (table scenarioCount (scenarioTotals k))) (kept subBalanceCount .standing .totals-size ∙ sym (joined-length 4 0 scenarioCount (scenarioTotals k) (scenarioTotals-length k)))
       (λ i h.
-      let small : i < 28 = rw (kept 36 .standing .totals-size) at h in
+      let small : i < totalCount = rw (kept subBalanceCount .standing .totals-size) at h in
       let e : 4 * (i / 4) + i % 4 ≡ i = omega arith in
-      rw e at (total-share (i / 4) (omega arith) (i % 4) (omega arith) ∙ sym (joined-getD 4 7 (scenarioTotals k) (scenarioTotals-length k) (i / 4) (i % 4) 0 (omega arith) (omega arith))))
+      rw e at (total-share (i / 4) (omega arith) (i % 4) (omega arith) ∙ sym (joined-getD 4 scenarioCount (scenarioTotals k) (scenarioTotals-length k) (i / 4) (i % 4) 0 (omega arith) (omega arith))))
 
   balance-shown : full .balance ≡ cell k totalCell
   unfolding balanceIn
   balance-shown =
-      kept 36 .balance-total
-      ∙ sumWhere-ext everywhere _ (balanceAt (k .cells)) 36 (λ place hp. shown 36 (le-refl 36) .first place hp .0)
-      ∙ balanceAt-total (k .cells) (kept 36 .standing .under .valid .of-cells)
+      kept subBalanceCount .balance-total
+      ∙ sumWhere-ext everywhere _ (balanceAt (k .cells)) subBalanceCount (λ place hp. shown subBalanceCount (le-refl subBalanceCount) .first place hp .0)
+      ∙ balanceAt-total (k .cells) (kept subBalanceCount .standing .under .valid .of-cells)
 
 pub shows-totals : ShowsTotals
 unfolding ShowsTotals bookOfShares

@@ -6,6 +6,7 @@ use Rattle.filing_contents.specs.declared.FiledTiers.{FiledTiers}
 use Rattle.form.specs.declared.sub_balances.SubBalance.{SubBalance}
 use Rattle.form.specs.PlaceOrder.{subBalanceCount}
 use Rattle.form.specs.Places.{noPlace, placeIn}
+use Rattle.form.specs.Counts.{totalCount}
 use Rattle.book_totals.specs.KeptTotals.{moved, totalsAfter}
 use Rattle.book_state.specs.declared.Book.{Book}
 
@@ -15,7 +16,7 @@ emptyUnder rates tiers lower upper =
     record {
       places = replicate subBalanceCount noPlace;
       balance = 0;
-      totals = replicate 28 0;
+      totals = replicate totalCount 0;
       rates = rates;
       tiers = tiers;
       lower = lower;

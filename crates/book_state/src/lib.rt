@@ -4,7 +4,9 @@ use book_totals::moved;
 use book_totals::totals_after;
 use filing_contents::FiledTiers;
 use form::sub_balances::NO_PLACE;
+use form::sub_balances::SUB_BALANCES;
 use form::sub_balances::SubBalance;
+use form::sub_balances::TOTALS;
 use price_deposits::RatePaths;
 use price_factors::FactorTable;
 ghost use mathlib.Core.Path.{_≡_};
@@ -17,9 +19,9 @@ ghost use Rattle.book_state.specs.BookPlaces.{emptyUnder, withPlace};
 // upper by scenario. Then the filing that the book was opened from: its retail rates in hundredths of a percent a year, its tiers, and the lower and
 // the upper discount factors of its CD yields.
 pub struct Book {
-    pub places: [SubBalance; 36],
+    pub places: [SubBalance; SUB_BALANCES],
     pub balance: u64,
-    pub totals: [u64; 28],
+    pub totals: [u64; TOTALS],
     pub rates: RatePaths,
     pub tiers: FiledTiers,
     pub lower: FactorTable,
@@ -42,9 +44,9 @@ pub fn empty_book(
     ensures { λ r. ⌜ r ≡ emptyUnder rates tiers lower upper ⌝ }
 {
     Book {
-        places: [NO_PLACE; 36],
+        places: [NO_PLACE; SUB_BALANCES],
         balance: 0,
-        totals: [0; 28],
+        totals: [0; TOTALS],
         rates,
         tiers,
         lower,

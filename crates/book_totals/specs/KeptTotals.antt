@@ -6,6 +6,7 @@ use lib.Dec.{leb}
 use lib.ListN.{getD}
 use Rattle.lists.specs.Tables.{table}
 use Rattle.form.specs.PlaceOrder.{isShort, isLong}
+use Rattle.form.specs.Counts.{totalCount}
 
 -- a total that loses the old figure and gains the new one, within 64 bits
 unfoldable pub moved : ℕ → ℕ → ℕ → ℕ
@@ -24,4 +25,4 @@ totalAfter total place old new i =
     cond (sumsPlace i place) (moved total (getD old (valueOfTotal i) 0) (getD new (valueOfTotal i) 0)) total
 
 unfoldable pub totalsAfter : List ℕ → ℕ → List ℕ → List ℕ → List ℕ
-totalsAfter totals place old new = table 28 (λ (i : ℕ). totalAfter (getD totals i 0) place old new i)
+totalsAfter totals place old new = table totalCount (λ (i : ℕ). totalAfter (getD totals i 0) place old new i)

@@ -1,17 +1,25 @@
 // The totals of a book, moved by the difference of a place's values.
 use form::positions::position;
+use form::sub_balances::PLACE_VALUES;
+use form::sub_balances::TOTALS;
 ghost use mathlib.Core.Path.{_≡_};
 ghost use Prim.Native.Nat.{_-_, _<_};
+ghost use Rattle.form.specs.Counts.{totalCount};
 ghost use Rattle.book_totals.specs.KeptTotals as kept;
 ghost use Rattle.book_totals.specs.KeptTotals.{sumsPlace, totalAfter, totalsAfter};
 
 // The twenty-eight totals after the values of a place changed: the short or the long ones move, by the row of the place.
-pub fn totals_after(totals: &[u64; 28], place: usize, old: &[u64; 14], new: &[u64; 14]) -> [u64; 28]
+pub fn totals_after(
+    totals: &[u64; TOTALS],
+    place: usize,
+    old: &[u64; PLACE_VALUES],
+    new: &[u64; PLACE_VALUES],
+) -> [u64; TOTALS]
     ensures { λ r. ⌜ r ≡ totalsAfter (now (totals .entry)) place (now (old .entry)) (now (new .entry)) ⌝ }
 {
-    let mut after = [0u64; 28];
+    let mut after = [0u64; TOTALS];
     let mut i: usize = 0;
-    while i < 28 {
+    while i < TOTALS {
         after[i] = total_after(totals[i], place, old, new, i);
         i += 1;
     }
@@ -19,8 +27,14 @@ pub fn totals_after(totals: &[u64; 28], place: usize, old: &[u64; 14], new: &[u6
 }
 
 // Total i of the twenty-eight: short lower, short upper, long lower, long upper by scenario.
-fn total_after(total: u64, place: usize, old: &[u64; 14], new: &[u64; 14], i: usize) -> u64
-    requires { ⌜ i < 28 ⌝ }
+fn total_after(
+    total: u64,
+    place: usize,
+    old: &[u64; PLACE_VALUES],
+    new: &[u64; PLACE_VALUES],
+    i: usize,
+) -> u64
+    requires { ⌜ i < totalCount ⌝ }
     ensures { λ r. ⌜ r ≡ totalAfter total place (now (old .entry)) (now (new .entry)) i ⌝ }
 {
     if !sums_place(i, place) {

@@ -18,6 +18,7 @@ use Rattle.filing_contents.specs.Contents.{Contents}
 use Rattle.filing_contents.specs.declared.FiledTiers.{FiledTiers}
 use Rattle.filing_contents.specs.Valid.{Valid}
 use Rattle.form.specs.declared.sub_balances.SubBalance.{SubBalance}
+use Rattle.form.specs.Counts.{factorCount}
 use Rattle.pricing.specs.Scales.{par}
 use Rattle.pricing.specs.Rounding.{down, up}
 use Rattle.price_factors.specs.Inner.Factors.{factorsBy, factorIn, AtMostPar}
@@ -51,13 +52,13 @@ unfolding noneAbove aboveLimit
 above-none limit numbers h = ap not (none-below _ (length numbers) (λ i l. le-ltb limit (getD numbers i 0) (h i)))
 
 -- no number of a table 0: each is above it
-none-zero : (numbers : List ℕ) → noneZero numbers ≡ true → (i : ℕ) → i < 840 → 0 < getD numbers i 0
+none-zero : (numbers : List ℕ) → noneZero numbers ≡ true → (i : ℕ) → i < factorCount → 0 < getD numbers i 0
 unfolding noneZero isZero
-none-zero numbers e i h = pos-of-ne-zero (eqb-false (getD numbers i 0) 0 (any-fails _ 840 (not-true _ e) i h))
+none-zero numbers e i h = pos-of-ne-zero (eqb-false (getD numbers i 0) 0 (any-fails _ factorCount (not-true _ e) i h))
 
-zero-none : (numbers : List ℕ) → ((i : ℕ) → i < 840 → 0 < getD numbers i 0) → noneZero numbers ≡ true
+zero-none : (numbers : List ℕ) → ((i : ℕ) → i < factorCount → 0 < getD numbers i 0) → noneZero numbers ≡ true
 unfolding noneZero isZero
-zero-none numbers h = ap not (none-below _ 840 (λ i l. ne-eqb (getD numbers i 0) 0 (ne-of-gt (h i l))))
+zero-none numbers h = ap not (none-below _ factorCount (λ i l. ne-eqb (getD numbers i 0) 0 (ne-of-gt (h i l))))
 
 -- edges of which none is not above the one before it rise
 rising : (t : FiledTiers) → anyBelow (notRising (t .edges)) (t .count - 1) ≡ false
@@ -76,7 +77,7 @@ pub record Limits (rates : List ℕ) (tiers : FiledTiers) (lower upper : List �
   pub tiers-within : FiledLimits tiers
   pub lower-le : AtMostPar lower
   pub upper-le : AtMostPar upper
-  pub upper-pos : (i : ℕ) → i < 840 → 0 < getD upper i 0
+  pub upper-pos : (i : ℕ) → i < factorCount → 0 < getD upper i 0
 
 module _ (rates : List ℕ) (tiers : FiledTiers) (lower upper : List ℕ) where
   pub usable-limits : sheetsUsable rates tiers lower upper ≡ true → Limits rates tiers lower upper

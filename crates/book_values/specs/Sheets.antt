@@ -12,6 +12,7 @@ use Rattle.filing_contents.specs.declared.FiledTiers.{FiledTiers}
 use Rattle.form.specs.declared.sub_balances.SubBalance.{SubBalance}
 use Rattle.form.specs.PlaceOrder.{positionOf}
 use Rattle.form.specs.Places.{noValues}
+use Rattle.form.specs.Counts.{factorCount}
 use Rattle.pricing.specs.Scales.{par, valueScale}
 use Rattle.pricing.specs.Terms.{Terms}
 use Rattle.pricing.specs.Rounding.{Rounding, down, up, quotient}
@@ -33,7 +34,7 @@ unfoldable pub isZero : List ℕ → ℕ → Bool
 isZero numbers i = eqb (getD numbers i 0) 0
 
 unfoldable pub noneZero : List ℕ → Bool
-noneZero numbers = not (anyBelow (isZero numbers) 840)
+noneZero numbers = not (anyBelow (isZero numbers) factorCount)
 
 -- edge i + 1 is not above edge i
 unfoldable pub notRising : List ℕ → ℕ → Bool

@@ -4,8 +4,11 @@ use form::limits::MONTHS;
 use form::limits::RATE_LIMIT;
 use form::limits::TIER_LIMIT;
 use form::limits::WITHDRAWAL_LIMIT;
+use form::sub_balances::PLACE_VALUES;
+use form::sub_balances::SCENARIOS;
 use form::sub_balances::SubBalance;
 use price_deposits::RatePaths;
+use price_factors::FACTORS;
 use price_factors::FactorTable;
 use price_multipliers::discount_tables::to_multipliers;
 use pricing::PAR;
@@ -17,6 +20,7 @@ ghost use lib.ListN.{length};
 ghost use Rattle.lists.specs.Tables.{anyBelow};
 ghost use Rattle.form.specs.Limits.{balanceLimit, tierLimit};
 ghost use Rattle.form.specs.PlaceOrder.{subBalanceCount};
+ghost use Rattle.form.specs.Counts.{factorCount};
 ghost use Rattle.pricing.specs.Scales.{par};
 ghost use Rattle.price_deposits.specs.Inner.Prices.{DepositLimits};
 ghost use Rattle.value_places.specs.PlaceTerms.{depositAt};
@@ -30,19 +34,19 @@ pub fn values_in<'a>(
     tiers: FiledTiers,
     lower: &'a FactorTable,
     upper: &'a FactorTable,
-) -> [u64; 14]
+) -> [u64; PLACE_VALUES]
     requires { ⌜ (place < subBalanceCount) × (held .balance ≤ balanceLimit) × DepositLimits (depositAt place held) ⌝ }
     ensures { λ r. ⌜ r ≡ valuesUnder (now (rates .entry)) tiers (now (lower .entry)) (now (upper .entry)) place held ⌝ }
 {
     if !usable(rates, tiers, lower, upper) {
-        return [0; 14];
+        return [0; PLACE_VALUES];
     }
     let own = tiers_of(tiers);
     let mut below = *lower;
     let mut above = *upper;
     to_multipliers(&mut below, held.remaining_months, false);
     to_multipliers(&mut above, held.remaining_months, true);
-    let mut months = [[0u8; 7]; MONTHS];
+    let mut months = [[0u8; SCENARIOS]; MONTHS];
     held_values(
         held,
         place,
@@ -136,10 +140,10 @@ fn above_par(factors: &[u64]) -> bool
 
 // One of the factors is 0.
 fn some_zero(factors: &FactorTable) -> bool
-    ensures { λ r. ⌜ r ≡ anyBelow (isZero (now (factors .entry))) 840 ⌝ }
+    ensures { λ r. ⌜ r ≡ anyBelow (isZero (now (factors .entry))) factorCount ⌝ }
 {
     let mut i: usize = 0;
-    while i < 840 {
+    while i < FACTORS {
         if factors[i] == 0 {
             return true;
         }

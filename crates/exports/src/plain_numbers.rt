@@ -4,6 +4,7 @@ use answers::locations::location;
 use answers::number;
 use certificate_cells::filled_cells::CellValue;
 use certificate_cells::filled_cells::Cells;
+use form::sub_balances::TOTALS;
 use lists::write;
 ghost use mathlib.Core.Path.{_≡_};
 ghost use mathlib.Core.Bool.{cond};
@@ -46,7 +47,7 @@ fn cell_numbers(cells: [CellValue; 28]) -> [u64; 56]
 }
 
 // Writes the totals of a book where nothing is refused: the number of the answer is 0.
-pub fn write_totals(refused: u64, balance: u64, totals: &[u64; 28], list: &mut [u64; 29])
+pub fn write_totals(refused: u64, balance: u64, totals: &[u64; TOTALS], list: &mut [u64; 29])
     ensures { λ _. ⌜ now (list .exit) ≡ cond (eqb refused 0) (balance ∷ now (totals .entry)) (now (list .entry)) ⌝ }
 {
     if refused == 0 {
@@ -55,7 +56,7 @@ pub fn write_totals(refused: u64, balance: u64, totals: &[u64; 28], list: &mut [
 }
 
 // The balance total, and then the totals.
-fn shown(balance: u64, totals: &[u64; 28]) -> [u64; 29]
+fn shown(balance: u64, totals: &[u64; TOTALS]) -> [u64; 29]
     ensures { λ r. ⌜ r ≡ balance ∷ now (totals .entry) ⌝ }
 {
     let mut numbers = [balance; 29];

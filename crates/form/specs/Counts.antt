@@ -1,5 +1,6 @@
--- How many numbers a valued filing has (01:61), and where its totals begin. Definitions only.
+-- How many numbers a valued filing has (01:61), where its totals begin, and how many factors there are. Definitions only.
 use Prim.Native.Nat.{ℕ, suc, _+_, _*_}
+use Rattle.form.specs.Limits.{monthsLimit}
 use Rattle.form.specs.Shift.{scenarioCount}
 use Rattle.form.specs.PlaceOrder.{subBalanceCount}
 
@@ -21,3 +22,7 @@ totalCount = 4 * scenarioCount
 -- all of them
 abbrev pub numberCount : ℕ
 numberCount = totalsStart + totalCount
+
+-- the discount factors, one for each month and scenario
+abbrev pub factorCount : ℕ
+factorCount = scenarioCount * monthsLimit

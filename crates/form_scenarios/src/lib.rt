@@ -1,4 +1,5 @@
 // The rate scenarios (01:48).
+use form::sub_balances::SCENARIOS;
 ghost use mathlib.Core.Path.{_≡_};
 ghost use Rattle.form.specs.Shift.{shiftedRate, shiftedRates};
 
@@ -9,7 +10,7 @@ pub struct Scenario {
 
 impl Scenario {
     // How many scenarios there are.
-    pub const COUNT: u64 = 7;
+    pub const COUNT: u64 = SCENARIOS as u64;
     // From one scenario's shift to the next, in hundredths of a percent a year.
     pub const STEP: u64 = 100;
 
@@ -30,10 +31,10 @@ impl Scenario {
 }
 
 // A yield or retail rate under each of the scenarios.
-pub fn shifted_rates(rate: u16) -> [u64; 7]
+pub fn shifted_rates(rate: u16) -> [u64; SCENARIOS]
     ensures { λ r. ⌜ r ≡ shiftedRates rate ⌝ }
 {
-    let mut rates = [0; 7];
+    let mut rates = [0; SCENARIOS];
     let mut i: u8 = 0;
     while (i as u64) < Scenario::COUNT {
         rates[i as usize] = Scenario::new(i).shifted(rate);

@@ -4,6 +4,7 @@ use mathlib.Core.Path.{_≡_, refl, ap}
 use mathlib.Core.List.{List}
 use native.Mathlib.Nat.{le-trans}
 use Rattle.form.specs.Limits.{tierLimit}
+use Rattle.form.specs.Shift.{scenarioCount}
 use Rattle.withdrawal.specs.declared.WithdrawalTiers.{WithdrawalTiers}
 use Rattle.withdrawal.specs.MonthSurvival.{accountOf, monthSurvival}
 use Rattle.withdrawal.specs.Inner.TierArrays.{tierTable, Usable}
@@ -25,7 +26,7 @@ lent t u = record { withdrawals = t .withdrawals; otherwise = t .otherwise; usab
 
 -- a month before the last, counted from 0, in a scenario
 module _ (t : WithdrawalTiers) (d : Deposit) (rates : List ℕ) (column : ℕ) (levels : List (List ℕ)) (scenario month : ℕ) (u : Usable t)
-    (levelled : Levelled t d rates column levels) (hs : scenario < 7) (hm : suc month < d .months) where
+    (levelled : Levelled t d rates column levels) (hs : scenario < scenarioCount) (hm : suc month < d .months) where
   -- its level
   level-here : LevelFor (d .brokered) (t .count) (t .edges)
       (incentiveFrom (partsOf (d .coupon) (d .penalty)) (shiftedPath scenario rates column (suc month)) (d .months - suc month)) (levelAt levels month scenario)

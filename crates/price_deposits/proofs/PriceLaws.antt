@@ -8,6 +8,7 @@ use lib.Dec.{eqb}
 use lib.ListN.{getD}
 use native.Mathlib.Nat.{le-refl, ne-of-lt}
 use native.Mathlib.Omega.{arith}
+use Rattle.form.specs.Shift.{scenarioCount}
 use Rattle.withdrawal.specs.Tiers.{TierTable}
 use Rattle.withdrawal.specs.MonthSurvival.{accountOf, monthSurvival}
 use Rattle.withdrawal.proofs.MonthSurvivalLaws.{last-month}
@@ -24,13 +25,13 @@ use Rattle.price_factors.specs.Inner.Factors.{factorIn, AtMostPar}
 use Rattle.price_deposits.specs.Inner.Prices.{tabledPrice, DepositLimits}
 use Rattle.price_deposits.proofs.TermsLaws.{terms-of-bounded}
 
-pub factor-in-suc : (factors : List ℕ) (scenario t : ℕ) → factorIn factors scenario (suc t) ≡ getD factors (7 * t + scenario) 0
+pub factor-in-suc : (factors : List ℕ) (scenario t : ℕ) → factorIn factors scenario (suc t) ≡ getD factors (scenarioCount * t + scenario) 0
 unfolding factorIn
 factor-in-suc factors scenario t = let e : suc t - 1 ≡ t = omega arith in rw e
 
 factor-in-le : (factors : List ℕ) (scenario : ℕ) → AtMostPar factors → (t : ℕ) → factorIn factors scenario t ≤ par
 unfolding factorIn
-factor-in-le factors scenario h t = h (7 * (t - 1) + scenario)
+factor-in-le factors scenario h t = h (scenarioCount * (t - 1) + scenario)
 
 -- the price of a deposit within the limits
 pub tabled-price-limit : (ρ : Rounding) (tiers : TierTable) (d : Deposit) (rate : ℕ → ℕ) (factors : List ℕ) (scenario : ℕ) → DepositLimits d
@@ -45,7 +46,7 @@ module _ (ρ : Rounding) (tiers : TierTable) (d : Deposit) (rate : ℕ → ℕ) 
     (growth : g ≡ couponGrowth * d .coupon)
     (servicing : s ≡ servicingCost (accountOf (d .brokered)))
     (survival : q ≡ monthSurvival tiers (accountOf (d .brokered)) (d .coupon) (d .penalty) (rate (suc t)) (d .months) (suc t))
-    (factor : f ≡ getD factors (7 * t + scenario) 0)
+    (factor : f ≡ getD factors (scenarioCount * t + scenario) 0)
     (here : run ≡ runBy ρ (termsOf tiers d rate) (factorIn factors scenario) t)
   where
     -- the run after it

@@ -10,6 +10,7 @@ use Rattle.lists.specs.Tables.{tableFrom, table, joined}
 use Rattle.lists.proofs.TableLaws.{table-ext, joined-length}
 use Rattle.form.specs.Limits.{monthsLimit}
 use Rattle.form.specs.Shift.{scenarioCount}
+use Rattle.form.specs.Counts.{placeValueCount}
 use Rattle.withdrawal.specs.Tiers.{TierTable}
 use Rattle.pricing.specs.Scales.{valueScale}
 use Rattle.pricing.specs.Rounding.{Rounding, down, up}
@@ -30,24 +31,24 @@ unfolding valueBounds
 bounds-length tiers balance d rate lower upper scenario = refl
 
 pub values-length : (tiers : TierTable) (balance : ℕ) (d : Deposit) (rates : List ℕ) (column : ℕ) (lower upper : List ℕ)
-    → length (tabledValues tiers balance d rates column lower upper) ≡ 14
+    → length (tabledValues tiers balance d rates column lower upper) ≡ placeValueCount
 unfolding tabledValues
 values-length tiers balance d rates column lower upper =
-    joined-length 2 0 7 _ (λ s. bounds-length tiers balance d (shiftedPath s rates column) lower upper s)
+    joined-length 2 0 scenarioCount _ (λ s. bounds-length tiers balance d (shiftedPath s rates column) lower upper s)
 
 -- the values of a zero balance
 pub no-values : (tiers : TierTable) (d : Deposit) (rates : List ℕ) (column : ℕ) (lower upper : List ℕ)
-    → replicate 14 0 ≡ tabledValues tiers 0 d rates column lower upper
+    → replicate placeValueCount 0 ≡ tabledValues tiers 0 d rates column lower upper
 unfolding tabledValues valueBounds tabledValue tableFrom joined
 no-values tiers d rates column lower upper =
-    ap joined (table-ext 7 (λ (s : ℕ). 0 ∷ 0 ∷ []) (λ (s : ℕ). valueBounds tiers 0 d (shiftedPath s rates column) lower upper s)
+    ap joined (table-ext scenarioCount (λ (s : ℕ). 0 ∷ 0 ∷ []) (λ (s : ℕ). valueBounds tiers 0 d (shiftedPath s rates column) lower upper s)
     (λ s h. rw (quotient-zero down _ valueScale (lit< tt), quotient-zero up _ valueScale (lit< tt))))
 
 -- a deposit of at most 120 months under a sheet of yields, whose factors reach as far as its months do if it has a balance
 module _ (tiers : TierTable) (yields : List ℕ) (longest balance : ℕ) (d : Deposit) (rates : List ℕ) (column : ℕ) (months-le : d .months ≤ monthsLimit)
     (reach : 0 < balance → d .months ≤ longest) where
   -- the price by the list is the price by the yields
-  price-is : (ρ : Rounding) (scenario : ℕ) → scenario < 7 → 0 < balance
+  price-is : (ρ : Rounding) (scenario : ℕ) → scenario < scenarioCount → 0 < balance
       → tabledPrice ρ tiers d (shiftedPath scenario rates column) (factorsBy ρ yields longest) scenario
       ≡ priceBy ρ (termsOf tiers d (shiftedPath scenario rates column)) (sheetYield yields scenario)
   unfolding tabledPrice priceBy termsOf
@@ -57,7 +58,7 @@ module _ (tiers : TierTable) (yields : List ℕ) (longest balance : ℕ) (d : De
       (λ t l. factor-is ρ yields longest scenario t hs (lt-of-lt-of-le l months-le) (lt-of-lt-of-le l (reach pos)))
 
   -- and so the value
-  value-is : (ρ : Rounding) (scenario : ℕ) → scenario < 7
+  value-is : (ρ : Rounding) (scenario : ℕ) → scenario < scenarioCount
       → tabledValue ρ tiers balance d (shiftedPath scenario rates column) (factorsBy ρ yields longest) scenario
       ≡ valueBy ρ balance (termsOf tiers d (shiftedPath scenario rates column)) (sheetYield yields scenario)
   unfolding tabledValue valueBy worthBy
@@ -70,4 +71,4 @@ module _ (tiers : TierTable) (yields : List ℕ) (longest balance : ℕ) (d : De
       ≡ joined (table scenarioCount (λ (s : ℕ). valueBy down balance (termsOf tiers d (shiftedPath s rates column)) (sheetYield yields s)
       ∷ valueBy up balance (termsOf tiers d (shiftedPath s rates column)) (sheetYield yields s) ∷ []))
   unfolding tabledValues valueBounds
-  values-are = ap joined (table-ext 7 _ _ (λ s h. rw (value-is down s h, value-is up s h)))
+  values-are = ap joined (table-ext scenarioCount _ _ (λ s h. rw (value-is down s h, value-is up s h)))

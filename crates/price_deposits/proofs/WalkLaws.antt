@@ -7,6 +7,7 @@ use native.Mathlib.Nat.{le-refl, le-of-lt}
 use native.Mathlib.Omega.{arith}
 use lib.ListN.{getD}
 use Rattle.lists.proofs.TableLaws.{table-getD, table-le}
+use Rattle.form.specs.Shift.{scenarioCount}
 use Rattle.withdrawal.specs.declared.WithdrawalTiers.{WithdrawalTiers}
 use Rattle.withdrawal.specs.MonthSurvival.{accountOf, monthSurvival}
 use Rattle.withdrawal.specs.Inner.TierArrays.{tierTable, Usable}
@@ -35,7 +36,7 @@ use Rattle.price_deposits.proofs.PriceLaws.{tabled-price-limit, early-o
 
 module _ (ρ : Rounding) (t : WithdrawalTiers) (d : Deposit) (rates : List ℕ) (column : ℕ) (paid left carried : List ℕ) (whole : List Bool) (levels : List (List ℕ))
     (discounts : List ℕ) (scenario : ℕ) (l : DepositLimits d) (u : Usable t) (levelled : Levelled t d rates column levels) (multiplied : Multiplied t d paid left carried whole)
-    (hs : scenario < 7) (table-of : Discounting ρ (d .months) discounts) where
+    (hs : scenario < scenarioCount) (table-of : Discounting ρ (d .months) discounts) where
   -- the factors of the table, and the run of the definitions with them
   abbrev factors : List ℕ
   factors = factorsOf ρ (d .months) discounts
@@ -45,18 +46,18 @@ module _ (ρ : Rounding) (t : WithdrawalTiers) (d : Deposit) (rates : List ℕ) 
 
   -- what the table holds of a month's factor
   abbrev held : ℕ → ℕ
-  held month = getD discounts (7 * month + scenario) 0
+  held month = getD discounts (scenarioCount * month + scenario) 0
 
-  index-lt : (month : ℕ) → month < d .months → 7 * month + scenario < 7 * d .months
+  index-lt : (month : ℕ) → month < d .months → scenarioCount * month + scenario < scenarioCount * d .months
   index-lt month h = omega (arith, h, hs)
 
-  factor-here : (month : ℕ) → month < d .months → factorOf ρ (held month) ≡ getD factors (7 * month + scenario) 0
+  factor-here : (month : ℕ) → month < d .months → factorOf ρ (held month) ≡ getD factors (scenarioCount * month + scenario) 0
   unfolding factorsOf
-  factor-here month h = sym (table-getD (7 * d .months) (λ (i : ℕ). factorOf ρ (getD discounts i 0)) (7 * month + scenario) 0 (index-lt month h))
+  factor-here month h = sym (table-getD (scenarioCount * d .months) (λ (i : ℕ). factorOf ρ (getD discounts i 0)) (scenarioCount * month + scenario) 0 (index-lt month h))
 
   within-par : AtMostPar factors
   unfolding factorsOf
-  within-par = table-le 0 (7 * d .months) _ par (λ i g h. table-of .at-most-par i (omega arith))
+  within-par = table-le 0 (scenarioCount * d .months) _ par (λ i g h. table-of .at-most-par i (omega arith))
 
   -- a month with a survival of the definitions: its sizes
   small : (month q : ℕ) → month < d .months
@@ -127,7 +128,7 @@ module _ (ρ : Rounding) (t : WithdrawalTiers) (d : Deposit) (rates : List ℕ) 
 -- a deposit in a scenario, at both roundings
 module _ (t : WithdrawalTiers) (d : Deposit) (rates : List ℕ) (column : ℕ) (paid left carried : List ℕ) (whole : List Bool) (levels : List (List ℕ))
     (lower upper : List ℕ) (scenario : ℕ) (l : DepositLimits d) (u : Usable t) (levelled : Levelled t d rates column levels) (multiplied : Multiplied t d paid left carried whole)
-    (hs : scenario < 7) (below : Discounting down (d .months) lower) (above : Discounting up (d .months) upper) {last : MonthMultipliers}
+    (hs : scenario < scenarioCount) (below : Discounting down (d .months) lower) (above : Discounting up (d .months) upper) {last : MonthMultipliers}
     (last-is : last ≡ multipliersOf (couponGrowth * d .coupon) (servicingCost (accountOf (d .brokered))) par) where
   pub priceable : Priceable paid left carried whole levels last lower upper scenario (d .months)
   unfolding multipliersOf

@@ -1,4 +1,5 @@
 // One deposit in a scenario: its price, from its months walked once, with the lower and the upper run side by side, and the value of a balance at it.
+use form::sub_balances::SCENARIOS;
 use price_months::month_steps::last_lower;
 use price_months::month_steps::last_upper;
 use price_months::walk::early_months;
@@ -90,7 +91,7 @@ fn price_of<'a>(
         upper,
         scenario,
     );
-    let i = 7 * (months as usize - 1) + scenario;
+    let i = SCENARIOS * (months as usize - 1) + scenario;
     Bounds {
         lower: last_lower(runs.lower, last, lower[i]),
         upper: last_upper(runs.upper, last, upper[i]),

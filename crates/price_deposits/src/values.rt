@@ -4,6 +4,7 @@ use crate::RatePaths;
 use crate::deposit_prices::coupon_growth;
 use crate::deposit_prices::value_bounds;
 use form::limits::TIER_LIMIT;
+use form::sub_balances::PLACE_VALUES;
 use form_scenarios::Scenario;
 use lists::write;
 use price_multipliers::discount_tables::MultiplierTable;
@@ -40,13 +41,13 @@ pub fn values_of<'a>(
     lower: &MultiplierTable,
     upper: &MultiplierTable,
     levels: &mut Levels,
-) -> [u64; 14]
+) -> [u64; PLACE_VALUES]
     requires { ⌜ (balance ≤ balanceLimit) × DepositLimits d × ColumnRates (now rates) column × TiersLent count (now edges) (now survivals) retained ⌝ }
     requires { ⌜ (0 < balance → Discounting down (d .months) (now lower) × Discounting up (d .months) (now upper)) ⌝ }
     ensures { λ r. ⌜ ((t : TiersLent count (now (edges .entry)) (now (survivals .entry)) retained) → r ≡ tabledValues (tierTable (lentTiers t)) balance d (now (rates .entry)) column (factorsOf down (d .months) (now (lower .entry))) (factorsOf up (d .months) (now (upper .entry)))) ⌝ }
     ensures { λ r. ⌜ LevelsLeft count (now (edges .entry)) balance d (now (rates .entry)) column (now (levels .entry)) (now (levels .exit)) ⌝ }
 {
-    let mut values = [0u64; 14];
+    let mut values = [0u64; PLACE_VALUES];
     if balance == 0 {
         return values;
     }

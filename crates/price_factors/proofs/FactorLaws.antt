@@ -11,7 +11,9 @@ use borrow.Author.Tests.{lt-ltb, le-ltb}
 use Rattle.lists.specs.Tables.{table, joined}
 use Rattle.lists.proofs.TableLaws.{table-length, table-getD, table-le, joined-getD, joined-suc, joined-le}
 use Rattle.lists.proofs.TestLaws.{either, entries-le}
-use Rattle.form.specs.Shift.{shiftedRate, shiftedRates}
+use Rattle.form.specs.Shift.{shiftedRate, shiftedRates, scenarioCount}
+use Rattle.form.specs.Limits.{monthsLimit}
+use Rattle.form.specs.Counts.{factorCount}
 use Rattle.pricing.specs.Scales.{par}
 use Rattle.pricing.specs.Rounding.{Rounding, up}
 use Rattle.pricing.specs.Run.{discountFactorBy}
@@ -21,23 +23,23 @@ use Rattle.pricing.proofs.MultiplierLaws.{discount-pos}
 use Rattle.price_factors.specs.Inner.Factors.{sheetYield, yieldFactors, monthFactors, factorsBy, factorIn, AtMostPar}
 
 -- a rate of the seven scenarios
-pub shifted-at : (rate scenario : ℕ) → scenario < 7 → getD (shiftedRates rate) scenario 0 ≡ shiftedRate scenario rate
+pub shifted-at : (rate scenario : ℕ) → scenario < scenarioCount → getD (shiftedRates rate) scenario 0 ≡ shiftedRate scenario rate
 unfolding shiftedRates
-shifted-at rate scenario h = table-getD 7 (λ (s : ℕ). shiftedRate s rate) scenario 0 h
+shifted-at rate scenario h = table-getD scenarioCount (λ (s : ℕ). shiftedRate s rate) scenario 0 h
 
-discounts-length : (ρ : Rounding) (rates : List ℕ) (n : ℕ) → length (discountsBy ρ rates n) ≡ 7
+discounts-length : (ρ : Rounding) (rates : List ℕ) (n : ℕ) → length (discountsBy ρ rates n) ≡ scenarioCount
 unfolding discountsBy
-discounts-length ρ rates n = table-length 0 7 _
+discounts-length ρ rates n = table-length 0 scenarioCount _
 
 discounts-at-most : (ρ : Rounding) (rates : List ℕ) (n : ℕ) → AtMost par (discountsBy ρ rates n)
 unfolding discountsBy
-discounts-at-most ρ rates n = table-le 0 7 _ par (λ i l u. discount-limit _ n ρ)
+discounts-at-most ρ rates n = table-le 0 scenarioCount _ par (λ i l u. discount-limit _ n ρ)
 
 module _ (ρ : Rounding) (yields : List ℕ) (longest : ℕ) where
   -- a month has seven factors
-  pub month-length : (month : ℕ) → length (monthFactors ρ yields longest month) ≡ 7
+  pub month-length : (month : ℕ) → length (monthFactors ρ yields longest month) ≡ scenarioCount
   unfolding monthFactors yieldFactors
-  month-length month = either (λ (l : List ℕ). length l ≡ 7) (ltb month longest) (discounts-length ρ _ (suc month)) refl
+  month-length month = either (λ (l : List ℕ). length l ≡ scenarioCount) (ltb month longest) (discounts-length ρ _ (suc month)) refl
 
   -- a month within the longest term
   pub month-within : (month : ℕ) → month < longest → yieldFactors ρ yields month ≡ monthFactors ρ yields longest month
@@ -45,55 +47,55 @@ module _ (ρ : Rounding) (yields : List ℕ) (longest : ℕ) where
   month-within month h = rw (lt-ltb month longest h)
 
   months-past : (month more : ℕ) → longest ≤ month
-      → joined (table (month + more) (monthFactors ρ yields longest)) ≡ joined (table month (monthFactors ρ yields longest)) ++ replicate (7 * more) 0
+      → joined (table (month + more) (monthFactors ρ yields longest)) ≡ joined (table month (monthFactors ρ yields longest)) ++ replicate (scenarioCount * more) 0
   unfolding monthFactors
   months-past month zero h = rw (add-zero, append-nil)
   months-past month (suc more) h =
       let past : longest ≤ month + more = omega arith in
       let e : month + suc more ≡ (month + more) + 1 = omega arith in
-      let n : 7 * more + 7 ≡ 7 * suc more = omega arith in
+      let n : scenarioCount * more + scenarioCount ≡ scenarioCount * suc more = omega arith in
       ap (λ (i : ℕ). joined (table i (monthFactors ρ yields longest))) e
       ∙ joined-suc (month + more) (monthFactors ρ yields longest)
-      ∙ rw (months-past month more h, le-ltb (month + more) longest past, append-assoc, replicate-append-replicate {A = ℕ} (7 * more) 7 0, n)
+      ∙ rw (months-past month more h, le-ltb (month + more) longest past, append-assoc, replicate-append-replicate {A = ℕ} (scenarioCount * more) scenarioCount 0, n)
 
   -- from the longest term on the list is left 0
-  pub factors-left : (month : ℕ) → longest ≤ month → month ≤ 120
-      → joined (table month (monthFactors ρ yields longest)) ++ drop (7 * month) (replicate 840 0) ≡ factorsBy ρ yields longest
+  pub factors-left : (month : ℕ) → longest ≤ month → month ≤ monthsLimit
+      → joined (table month (monthFactors ρ yields longest)) ++ drop (scenarioCount * month) (replicate factorCount 0) ≡ factorsBy ρ yields longest
   unfolding factorsBy
   factors-left month h m =
-      let e : month + (120 - month) ≡ 120 = omega arith in
-      let n : 7 * month + 7 * (120 - month) ≡ 840 = omega arith in
-      let zeros : replicate {A = ℕ} (7 * month) 0 ++ replicate (7 * (120 - month)) 0 ≡ replicate {A = ℕ} 840 0 =
-      replicate-append-replicate (7 * month) (7 * (120 - month)) 0 ∙ ap (λ (i : ℕ). replicate i 0) n in
-      let left : drop {A = ℕ} (7 * month) (replicate 840 0) ≡ replicate (7 * (120 - month)) 0 =
-      rw (← zeros) (drop-at (replicate (7 * month) 0) (replicate (7 * (120 - month)) 0) (7 * month) (length-replicate (7 * month) 0)) in
+      let e : month + (monthsLimit - month) ≡ monthsLimit = omega arith in
+      let n : scenarioCount * month + scenarioCount * (monthsLimit - month) ≡ factorCount = omega arith in
+      let zeros : replicate {A = ℕ} (scenarioCount * month) 0 ++ replicate (scenarioCount * (monthsLimit - month)) 0 ≡ replicate {A = ℕ} factorCount 0 =
+      replicate-append-replicate (scenarioCount * month) (scenarioCount * (monthsLimit - month)) 0 ∙ ap (λ (i : ℕ). replicate i 0) n in
+      let left : drop {A = ℕ} (scenarioCount * month) (replicate factorCount 0) ≡ replicate (scenarioCount * (monthsLimit - month)) 0 =
+      rw (← zeros) (drop-at (replicate (scenarioCount * month) 0) (replicate (scenarioCount * (monthsLimit - month)) 0) (scenarioCount * month) (length-replicate (scenarioCount * month) 0)) in
       ap (λ (l : List ℕ). joined (table month (monthFactors ρ yields longest)) ++ l) left
-      ∙ sym (months-past month (120 - month) h)
+      ∙ sym (months-past month (monthsLimit - month) h)
       ∙ ap (λ (i : ℕ). joined (table i (monthFactors ρ yields longest))) e
 
   -- none is above par
   month-at-most : (month : ℕ) → AtMost par (monthFactors ρ yields longest month)
   unfolding monthFactors yieldFactors
-  month-at-most month = either (AtMost par) (ltb month longest) (discounts-at-most ρ _ (suc month)) (entries-le (replicate 7 0) par tt)
+  month-at-most month = either (AtMost par) (ltb month longest) (discounts-at-most ρ _ (suc month)) (entries-le (replicate scenarioCount 0) par tt)
 
   pub factors-at-most-par : AtMostPar (factorsBy ρ yields longest)
   unfolding factorsBy
-  factors-at-most-par = joined-le 0 120 (monthFactors ρ yields longest) par (λ month i l u. month-at-most month i)
+  factors-at-most-par = joined-le 0 monthsLimit (monthFactors ρ yields longest) par (λ month i l u. month-at-most month i)
 
   -- the factor of scenario s and month t + 1 within the longest term is the discount factor of the definitions
-  pub factor-is : (scenario t : ℕ) → scenario < 7 → t < 120 → t < longest
+  pub factor-is : (scenario t : ℕ) → scenario < scenarioCount → t < monthsLimit → t < longest
       → factorIn (factorsBy ρ yields longest) scenario (suc t) ≡ discountFactorBy ρ (sheetYield yields scenario) (suc t)
   unfolding factorIn factorsBy monthFactors yieldFactors discountsBy discountFactorBy sheetYield
   factor-is scenario t hs ht hl =
       let before : suc t - 1 ≡ t = omega arith in
-      rw (before, joined-getD 7 120 (monthFactors ρ yields longest) month-length t scenario 0 ht hs, lt-ltb t longest hl)
-      (table-getD 7 _ scenario 0 hs ∙ rw (shifted-at (getD yields t 0) scenario hs))
+      rw (before, joined-getD scenarioCount monthsLimit (monthFactors ρ yields longest) month-length t scenario 0 ht hs, lt-ltb t longest hl)
+      (table-getD scenarioCount _ scenario 0 hs ∙ rw (shifted-at (getD yields t 0) scenario hs))
 
 -- an upper factor within the longest term is above 0
-pub upper-factor-pos : (yields : List ℕ) (longest i : ℕ) → longest ≤ 120 → i < 7 * longest → 0 < getD (factorsBy up yields longest) i 0
+pub upper-factor-pos : (yields : List ℕ) (longest i : ℕ) → longest ≤ monthsLimit → i < scenarioCount * longest → 0 < getD (factorsBy up yields longest) i 0
 unfolding factorIn discountFactorBy
 upper-factor-pos yields longest i hl h =
-    let before : suc (i / 7) - 1 ≡ i / 7 = omega arith in
-    let same : 7 * (i / 7) + i % 7 ≡ i = omega arith in
-    rw same at (rw before at (subst (λ (n : ℕ). 0 < n) (sym (factor-is up yields longest (i % 7) (i / 7) (omega arith) (omega arith) (omega arith)))
-    (discount-pos (sheetYield yields (i % 7) (suc (i / 7))) (suc (i / 7)))))
+    let before : suc (i / scenarioCount) - 1 ≡ i / scenarioCount = omega arith in
+    let same : scenarioCount * (i / scenarioCount) + i % scenarioCount ≡ i = omega arith in
+    rw same at (rw before at (subst (λ (n : ℕ). 0 < n) (sym (factor-is up yields longest (i % scenarioCount) (i / scenarioCount) (omega arith) (omega arith) (omega arith)))
+    (discount-pos (sheetYield yields (i % scenarioCount) (suc (i / scenarioCount))) (suc (i / scenarioCount)))))

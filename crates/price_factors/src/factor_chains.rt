@@ -1,4 +1,5 @@
 // Chains of discount factors, seven rates in step: each division by 120,000 + rate is a multiplication by the rate's multiplier.
+use form::sub_balances::SCENARIOS;
 use form_scenarios::Scenario;
 use price_rounding::products::upper_half;
 use pricing::PAR;
@@ -10,12 +11,12 @@ ghost use Rattle.pricing.specs.Inner.Multipliers.{nextBy, nextAllBy, firstBy, c
 
 // Seven chains of n multiplications each: of lower factors, from par, or of one less than upper factors, so that 1 is added before a multiplication and not
 // after it.
-pub fn chained(multipliers: &[u64; 7], n: u64, up: bool) -> [u64; 7]
+pub fn chained(multipliers: &[u64; SCENARIOS], n: u64, up: bool) -> [u64; SCENARIOS]
     requires { ⌜ ((i : ℕ) → AtMost par (chainedBy (roundingOf up) (now multipliers) i)) ⌝ }
     ensures { λ r. ⌜ r ≡ chainedBy (roundingOf up) (now (multipliers .entry)) n ⌝ }
 {
     let first = first_held(up);
-    let mut chain = [first; 7];
+    let mut chain = [first; SCENARIOS];
     for _ in 0..n {
         chain = next_in_chain(&chain, multipliers, up);
     }
@@ -30,11 +31,15 @@ fn first_held(up: bool) -> u64
 }
 
 // The next of each of seven chains.
-fn next_in_chain(chain: &[u64; 7], multipliers: &[u64; 7], up: bool) -> [u64; 7]
+fn next_in_chain(
+    chain: &[u64; SCENARIOS],
+    multipliers: &[u64; SCENARIOS],
+    up: bool,
+) -> [u64; SCENARIOS]
     requires { ⌜ AtMost par (now chain) ⌝ }
     ensures { λ r. ⌜ r ≡ nextAllBy (roundingOf up) (now (chain .entry)) (now (multipliers .entry)) ⌝ }
 {
-    let mut next = [0; 7];
+    let mut next = [0; SCENARIOS];
     let mut i: usize = 0;
     while (i as u64) < Scenario::COUNT {
         next[i] = next_factor(chain[i], multipliers[i], up);

@@ -7,6 +7,7 @@ use crate::month_factors::lower_factors;
 use crate::month_factors::upper_factors;
 use crate::rate_multipliers::upper_multipliers;
 use form::limits::MONTHS;
+use form::sub_balances::SCENARIOS;
 use form_scenarios::shifted_rates;
 use lists::write;
 ghost use mathlib.Core.Path.{_≡_};
@@ -14,11 +15,16 @@ ghost use Prim.Native.Nat.{_*_, _<_};
 ghost use lib.ListN.{replicate};
 ghost use Rattle.lists.specs.Runs.{written};
 ghost use Rattle.form.specs.Limits.{monthsLimit};
+ghost use Rattle.form.specs.Shift.{scenarioCount};
+ghost use Rattle.form.specs.Counts.{factorCount};
 ghost use Rattle.pricing.specs.Rounding.{down, up};
 ghost use Rattle.price_factors.specs.Inner.Factors.{yieldFactors, factorsBy, WithinRates};
 
+// A factor for each month and scenario.
+pub const FACTORS: usize = SCENARIOS * MONTHS;
+
 // Seven factors for each month, in billionths: month t and scenario s stand at index 7 (t - 1) + s.
-pub type FactorTable = [u64; 840];
+pub type FactorTable = [u64; FACTORS];
 
 // The lower and the upper factors of a sheet of CD yields, written into tables of zeros. Months past the longest term are left 0.
 pub fn fill_factors(
@@ -27,7 +33,7 @@ pub fn fill_factors(
     lower: &mut FactorTable,
     upper: &mut FactorTable,
 )
-    requires { ⌜ WithinRates (now yields) × (now lower ≡ replicate 840 0) × (now upper ≡ replicate 840 0) ⌝ }
+    requires { ⌜ WithinRates (now yields) × (now lower ≡ replicate factorCount 0) × (now upper ≡ replicate factorCount 0) ⌝ }
     ensures { λ _. ⌜ (now (lower .exit) ≡ factorsBy down (now (yields .entry)) longest) × (now (upper .exit) ≡ factorsBy up (now (yields .entry)) longest) ⌝ }
 {
     let mut month: usize = 0;
@@ -48,14 +54,14 @@ fn fill_month(
     upper: &mut FactorTable,
 )
     requires { ⌜ WithinRates (now yields) × (month < monthsLimit) ⌝ }
-    ensures { λ _. ⌜ (now (lower .exit) ≡ written (now (lower .entry)) (7 * month) (yieldFactors down (now (yields .entry)) month))
-        × (now (upper .exit) ≡ written (now (upper .entry)) (7 * month) (yieldFactors up (now (yields .entry)) month)) ⌝ }
+    ensures { λ _. ⌜ (now (lower .exit) ≡ written (now (lower .entry)) (scenarioCount * month) (yieldFactors down (now (yields .entry)) month))
+        × (now (upper .exit) ≡ written (now (upper .entry)) (scenarioCount * month) (yieldFactors up (now (yields .entry)) month)) ⌝ }
 {
     let n = month as u64 + 1;
     let rates = shifted_rates(yields[month]);
     let above = upper_multipliers(&rates);
     let below = lower_factors(&rates, &above, n);
-    write(lower, 7 * month, &below);
+    write(lower, SCENARIOS * month, &below);
     let seven = upper_factors(&above, n);
-    write(upper, 7 * month, &seven);
+    write(upper, SCENARIOS * month, &seven);
 }

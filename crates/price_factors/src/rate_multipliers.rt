@@ -1,4 +1,5 @@
 // The multipliers of seven rates: a multiplication by one stands for a division by 120,000 + rate.
+use form::sub_balances::SCENARIOS;
 use form_scenarios::Scenario;
 ghost use mathlib.Core.Path.{_≡_};
 ghost use Prim.Native.Nat.{_≤_};
@@ -13,11 +14,11 @@ const RATE_SCALE: u64 = 120_000;
 const LARGEST: u64 = 18_446_744_073_709_551_615;
 
 // The multipliers of seven rates for their upper factors: too low by less than a factor can bring out. Each rate is divided by once.
-pub fn upper_multipliers(rates: &[u64; 7]) -> [u64; 7]
+pub fn upper_multipliers(rates: &[u64; SCENARIOS]) -> [u64; SCENARIOS]
     requires { ⌜ AtMost shiftedLimit (now rates) ⌝ }
     ensures { λ r. ⌜ r ≡ multipliersBy up (now (rates .entry)) ⌝ }
 {
-    let mut multipliers = [0; 7];
+    let mut multipliers = [0; SCENARIOS];
     let mut i: usize = 0;
     while (i as u64) < Scenario::COUNT {
         multipliers[i] = upper_multiplier(rates[i]);
@@ -35,11 +36,14 @@ fn upper_multiplier(rate: u64) -> u64
 }
 
 // The multipliers for the lower factors, from those for the upper ones.
-pub fn lower_multipliers(rates: &[u64; 7], above: &[u64; 7]) -> [u64; 7]
+pub fn lower_multipliers(
+    rates: &[u64; SCENARIOS],
+    above: &[u64; SCENARIOS],
+) -> [u64; SCENARIOS]
     requires { ⌜ AtMost shiftedLimit (now rates) × (now above ≡ multipliersBy up (now rates)) ⌝ }
     ensures { λ r. ⌜ r ≡ multipliersBy down (now (rates .entry)) ⌝ }
 {
-    let mut multipliers = [0; 7];
+    let mut multipliers = [0; SCENARIOS];
     let mut i: usize = 0;
     while (i as u64) < Scenario::COUNT {
         multipliers[i] = lower_multiplier(rates[i], above[i]);

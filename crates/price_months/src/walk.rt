@@ -2,7 +2,9 @@
 use crate::Runs;
 use crate::month_steps::next_lower;
 use crate::month_steps::next_upper;
+use form::sub_balances::SCENARIOS;
 use price_multipliers::MonthMultipliers;
+use price_multipliers::discount_tables::MultiplierTable;
 use pricing::PAR;
 use pricing::Run;
 use withdrawal_months::Levels;
@@ -22,8 +24,8 @@ pub fn early_months<'a>(
     left: &'a [u64; 17],
     carried: &'a [u64; 17],
     whole: &'a [bool; 17],
-    lower: &[u64; 840],
-    upper: &[u64; 840],
+    lower: &MultiplierTable,
+    upper: &MultiplierTable,
     scenario: usize,
 ) -> Runs
     requires { ⌜ (0 < months) × (months ≤ monthsLimit) × (scenario < scenarioCount) ⌝ }
@@ -45,7 +47,7 @@ pub fn early_months<'a>(
     while t < early {
         let level = level_at(levels, t as usize, scenario);
         let m = multipliers_at(paid, left, carried, whole, level);
-        let i = 7 * t as usize + scenario;
+        let i = SCENARIOS * t as usize + scenario;
         low = next_lower(low, m, lower[i]);
         high = next_upper(high, m, upper[i]);
         t += 1;

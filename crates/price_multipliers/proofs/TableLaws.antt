@@ -3,6 +3,7 @@ use Prim.Native.Nat.{ℕ, _*_, _≤_, _<_}
 use mathlib.Core.Path.{_≡_}
 use mathlib.Core.List.{List}
 use lib.ListN.{getD}
+use Rattle.form.specs.Shift.{scenarioCount}
 use Rattle.pricing.specs.Scales.{par}
 use Rattle.pricing.specs.Rounding.{Rounding, down, up}
 use Rattle.price_multipliers.specs.Multipliers.{factorOf}
@@ -13,10 +14,10 @@ use Rattle.price_multipliers.specs.Inner.Tables.{HoldsFactors, Discounti
 -- a table that holds the multipliers of a list's factors, over the months of a term
 module _ (ρ : Rounding) (factors discounts : List ℕ) (months : ℕ) (holds : HoldsFactors ρ months factors discounts) where
   -- has these factors
-  pub held-factor : (i : ℕ) → i < 7 * months → factorOf ρ (getD discounts i 0) ≡ getD factors i 0
+  pub held-factor : (i : ℕ) → i < scenarioCount * months → factorOf ρ (getD discounts i 0) ≡ getD factors i 0
   held-factor i h = rw (holds i h) (factor-back ρ (getD factors i 0))
 
-  at-most-par : AtMostPar factors → (i : ℕ) → i < 7 * months → factorOf ρ (getD discounts i 0) ≤ par
+  at-most-par : AtMostPar factors → (i : ℕ) → i < scenarioCount * months → factorOf ρ (getD discounts i 0) ≤ par
   at-most-par p i h = rw (held-factor i h) (p i)
 
 -- the lower and the upper table of a term
@@ -25,6 +26,6 @@ lower-discounting factors discounts months holds p =
     record { are = λ i h. rw (holds i h) (discounts-lower (getD factors i 0)); at-most-par = at-most-par down factors discounts months holds p }
 
 pub upper-discounting : (factors discounts : List ℕ) (months : ℕ) → HoldsFactors up months factors discounts → AtMostPar factors
-    → ((i : ℕ) → i < 7 * months → 0 < getD factors i 0) → Discounting up months discounts
+    → ((i : ℕ) → i < scenarioCount * months → 0 < getD factors i 0) → Discounting up months discounts
 upper-discounting factors discounts months holds p more =
     record { are = λ i h. rw (holds i h) (discounts-upper (getD factors i 0) (more i h)); at-most-par = at-most-par up factors discounts months holds p }

@@ -8,7 +8,7 @@ use lib.Dec.{eqb}
 use lib.ListN.{getD, set}
 use Rattle.lists.proofs.FillLaws.{Filled, fill-more}
 use Rattle.filing_cells.specs.ValidCells.{ValidCells}
-use Rattle.form.specs.PlaceOrder.{positionOf, withPenalty}
+use Rattle.form.specs.PlaceOrder.{positionOf, withPenalty, subBalanceCount}
 use Rattle.shares.specs.SubBalances.{balanceAt, couponAt, monthsAt, penaltyAt}
 use Rattle.shares.specs.declared.apportion.Row.{Row}
 use Rattle.form.specs.declared.sub_balances.SubBalance.{SubBalance}
@@ -30,6 +30,6 @@ place-of cells v i h row is four are r place e small =
     rw (q, s, p, shares, is)
 
 -- one place more is filled
-pub fill-place : (cells : List ℕ) (i more : ℕ) (l : List SubBalance) (p : SubBalance) → more ≡ i + 1 → i < 36 → p ≡ placeAt cells i
-    → Filled (placeAt cells) noPlace 36 i l → Filled (placeAt cells) noPlace 36 more (set l i p)
-fill-place cells i more l p e h is filled = rw e (fill-more (placeAt cells) noPlace 36 i l p h is filled)
+pub fill-place : (cells : List ℕ) (i more : ℕ) (l : List SubBalance) (p : SubBalance) → more ≡ i + 1 → i < subBalanceCount → p ≡ placeAt cells i
+    → Filled (placeAt cells) noPlace subBalanceCount i l → Filled (placeAt cells) noPlace subBalanceCount more (set l i p)
+fill-place cells i more l p e h is filled = rw e (fill-more (placeAt cells) noPlace subBalanceCount i l p h is filled)

@@ -113,7 +113,7 @@ module _ (cells : List ℕ)
       (penalized _ (column-range i h .0) (column-range i h .1))
 
   -- no sub-balance exceeds its position's balance
-  pub balanceAt-le : (place : ℕ) → place < 36 → balanceAt cells place ≤ cellIn cells (positionOf place .balance)
+  pub balanceAt-le : (place : ℕ) → place < subBalanceCount → balanceAt cells place ≤ cellIn cells (positionOf place .balance)
   unfolding balanceAt positionOf
   balanceAt-le place h =
       rw (← four-sum (place / 4) (omega arith)) (sum-getD-le (fourOf cells (positionAt (place / 4))) (place % 4))
@@ -127,7 +127,7 @@ pub balanceAt-total : (cells : List ℕ) → ValidCells cells → sumWhere every
 balanceAt-total cells v = balanceAt-sum cells (v .brokered-within) (v .penalized-within) ∙ sym (v .total-is-sum)
 
 -- of an accepted filing each sub-balance is within a balance's limit
-pub balanceAt-limit : (cells : List ℕ) → ValidCells cells → (place : ℕ) → place < 36 → balanceAt cells place ≤ balanceLimit
+pub balanceAt-limit : (cells : List ℕ) → ValidCells cells → (place : ℕ) → place < subBalanceCount → balanceAt cells place ≤ balanceLimit
 unfolding positionOf
 balanceAt-limit cells v place h =
     le-trans (balanceAt-le cells (v .brokered-within) (v .penalized-within) place h) (v .balance-limit (place / 4) (omega arith))

@@ -4,6 +4,7 @@ use book_calls::open;
 use book_calls::set;
 use book_state::Answered;
 use book_state::Book;
+use form::sub_balances::SUB_BALANCES;
 use test_lines::input::number_at;
 use test_lines::output::end_line;
 use test_lines::output::next_number;
@@ -72,7 +73,7 @@ fn change(changed: Answered) -> Book {
 }
 
 fn print_place(book: Book, place: usize) -> Book {
-    if place < 36 {
+    if place < SUB_BALANCES {
         print_held(book.places[place], place as u64);
     }
     book

@@ -1,4 +1,5 @@
 // Lines of text and numbers on standard output.
+use form::sub_balances::TOTALS_START;
 use form_scenarios::Scenario;
 use libc::STDOUT_FILENO;
 
@@ -23,15 +24,15 @@ fn shift(scenario: u64) {
     if scenario < 3 {
         text(b"-");
         number(100 * (3 - scenario));
-    } else if scenario < 7 {
+    } else if scenario < Scenario::COUNT {
         number(100 * (scenario - 3));
     }
 }
 
 // The four totals of each scenario, behind its shift, from the 568 numbers of a valued filing.
 pub(crate) fn scenario_lines(name: &[u8], numbers: &[u64]) {
-    if 540 <= numbers.len() {
-        total_lines(name, &numbers[540..]);
+    if TOTALS_START <= numbers.len() {
+        total_lines(name, &numbers[TOTALS_START..]);
     }
 }
 

@@ -5,6 +5,8 @@ use crate::output::rest_of_line;
 use crate::output::text;
 use crate::verdicts::count_if;
 use crate::verdicts::print_counts;
+use form::sub_balances::PLACE_VALUES;
+use form::sub_balances::SUB_BALANCES;
 use form::sub_balances::SubBalance;
 
 pub const SEVENS: SubBalance = SubBalance {
@@ -12,14 +14,14 @@ pub const SEVENS: SubBalance = SubBalance {
     coupon: 7,
     remaining_months: 7,
     penalty: 7,
-    values: [7; 14],
+    values: [7; PLACE_VALUES],
 };
 
 // On acceptance the 36 places; and how many of those that were lent past them, or on a refusal of all that were lent, still hold 7s.
 pub fn print_left(list: [SubBalance; 40], lent: usize, is_accepted: bool) {
     if is_accepted {
         print_places(list);
-        print_rest(list, 36, lent);
+        print_rest(list, SUB_BALANCES, lent);
     } else {
         print_rest(list, 0, lent);
     }
@@ -47,7 +49,7 @@ fn holds_sevens(place: SubBalance) -> bool {
 }
 
 // How many of the values are n.
-fn count_of(values: [u64; 14], n: u64) -> u64 {
+fn count_of(values: [u64; PLACE_VALUES], n: u64) -> u64 {
     let mut count = 0;
     for i in 0..14usize {
         count = count_if(count, values[i] == n);

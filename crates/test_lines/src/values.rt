@@ -5,14 +5,18 @@ use crate::output::scenario_lines;
 use crate::output::text;
 use crate::verdicts::count_if;
 use crate::verdicts::print_counts;
+use form::sub_balances::NUMBERS;
+use form::sub_balances::PLACE_NUMBERS;
+use form::sub_balances::SUB_BALANCES;
 ghost use Prim.Native.Nat.{_<_};
+ghost use Rattle.form.specs.PlaceOrder.{subBalanceCount};
 
 // On acceptance the 568 numbers; and how many of those past them, or on a refusal of all, are still 7.
 pub fn print_left(list: &[u64], is_accepted: bool) {
     if is_accepted {
         print_values(list);
         scenario_lines(b"total ", list);
-        print_rest(list, 568);
+        print_rest(list, NUMBERS);
     } else {
         print_rest(list, 0);
     }
@@ -37,17 +41,17 @@ fn sevens(list: &[u64]) -> u64 {
 
 // The fifteen numbers of each of the 36 places.
 fn print_values(list: &[u64]) {
-    for place in 0..36usize {
+    for place in 0..SUB_BALANCES {
         print_place(list, place);
     }
 }
 
 // A place's numbers, where one of them is not 0.
 fn print_place(list: &[u64], place: usize)
-    requires { ⌜ place < 36 ⌝ }
+    requires { ⌜ place < subBalanceCount ⌝ }
 {
-    let from = 15 * place;
-    let end = from + 15;
+    let from = PLACE_NUMBERS * place;
+    let end = from + PLACE_NUMBERS;
     if end <= list.len() {
         print_row(place as u64, &list[from..end]);
     }

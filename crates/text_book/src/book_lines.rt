@@ -2,6 +2,7 @@
 use answers::Answer;
 use answers::number;
 use form::sub_balances::SubBalance;
+use form::sub_balances::TOTALS;
 use text::answer_lines::append_refused;
 use text::append;
 use text::append_byte;
@@ -12,6 +13,7 @@ use text_listing::total_lines::append_scenarios;
 ghost use mathlib.Core.List.{_++_, _∷_, []};
 ghost use Prim.Native.Nat.{_≤_};
 ghost use lib.ListN.{length};
+ghost use Rattle.form.specs.Counts.{placeValueCount};
 ghost use Rattle.answers.specs.Answers.{verdictOf};
 ghost use Rattle.text.specs.Appended.{Appended};
 ghost use Rattle.text.specs.Decimal.{decimal};
@@ -79,7 +81,7 @@ fn append_numbers(
     penalty: u64,
     values: &[u64],
 ) -> usize
-    requires { ⌜ (644 ≤ length (now out)) × (length (now values) ≤ 14) ⌝ }
+    requires { ⌜ (644 ≤ length (now out)) × (length (now values) ≤ placeValueCount) ⌝ }
     ensures { λ r. ⌜ Appended (now (out .entry)) 0 (decimal balance ++ restOfLine (coupon ∷ months ∷ penalty ∷ now (values .entry))) (now (out .exit)) r × (r ≤ 644) ⌝ }
 {
     let first = append_number(out, 0, balance);
@@ -90,7 +92,7 @@ fn append_numbers(
 }
 
 // The balance total and the lines of the seven scenarios.
-pub fn append_totals(out: &mut [u8], balance: u64, totals: &[u64; 28]) -> usize
+pub fn append_totals(out: &mut [u8], balance: u64, totals: &[u64; TOTALS]) -> usize
     requires { ⌜ 644 ≤ length (now out) ⌝ }
     ensures { λ r. ⌜ Appended (now (out .entry)) 0 ((decimal balance ++ (10 ∷ [])) ++ linesIn (now (totals .entry)) 0) (now (out .exit)) r × (r ≤ 644) ⌝ }
 {

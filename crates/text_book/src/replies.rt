@@ -9,6 +9,7 @@ use book_calls::clear;
 use book_calls::set;
 use book_state::Answered;
 use book_state::Book;
+use form::sub_balances::SUB_BALANCES;
 use text::lines::append_refusal;
 ghost use mathlib.Core.Path.{_≡_};
 ghost use Prim.Native.Nat.{_≤_};
@@ -67,7 +68,7 @@ fn append_place(out: &mut [u8], book: Book, at: usize) -> usize
     requires { ⌜ 644 ≤ length (now out) ⌝ }
     ensures { λ r. ⌜ Appended (now (out .entry)) 0 (placeText book at) (now (out .exit)) r × (r ≤ 644) ⌝ }
 {
-    if 36 <= at {
+    if SUB_BALANCES <= at {
         return append_refusal(out, 0, 17, at as u64);
     }
     let held = book.places[at];

@@ -8,13 +8,15 @@ use lib.ListN.{length, getD}
 use borrow.Author.Tests.{lt-ltb, le-ltb, eq-eqb, ne-eqb}
 use Rattle.lists.specs.Tables.{joined}
 use Rattle.lists.proofs.TableLaws.{table-ext}
+use Rattle.form.specs.Shift.{scenarioCount}
+use Rattle.form.specs.Counts.{totalsStart, numberCount}
 use Rattle.answers.specs.declared.Answer.{Answer}
 use Rattle.answers.specs.Answers.{numberOf, locationOf, verdictOf}
 use Rattle.answers.specs.Verdict.{Verdict}
 use Rattle.answers.proofs.VerdictLaws.{list-long}
 use Rattle.filing_contents.specs.Contents.{Contents}
 use Rattle.filing.specs.Verdict.{filingVerdict}
-use Rattle.value_numbers.specs.Numbers.{numberCount, scenarioTotals, numbers}
+use Rattle.value_numbers.specs.Numbers.{scenarioTotals, numbers}
 use Rattle.valuation.specs.Promise.{verdictOn, listAfter, Valued}
 use Rattle.value_numbers.proofs.NumberLaws.{rows, totals, numbers-split, total-read}
 use Rattle.text.specs.Lines.{filingLimit, refusalLine, tooLong}
@@ -22,10 +24,10 @@ use Rattle.text_listing.specs.TotalLines.{totalsIn, lineIn, linesIn}
 use Rattle.text_listing.specs.Listing.{scenarioLine, scenarioLines, verdictText, listingText}
 
 module _ (k : Contents) (rest : List ℕ) where
-  first-read : (scenario : ℕ) → scenario < 7 → getD (rows k ++ (totals k ++ rest)) (540 + 4 * scenario) 0 ≡ getD (scenarioTotals k scenario) 0 0
-  first-read scenario h = rw (sym (add-zero (540 + 4 * scenario))) (total-read k rest scenario 0 h (omega arith))
+  first-read : (scenario : ℕ) → scenario < scenarioCount → getD (rows k ++ (totals k ++ rest)) (totalsStart + 4 * scenario) 0 ≡ getD (scenarioTotals k scenario) 0 0
+  first-read scenario h = rw (sym (add-zero (totalsStart + 4 * scenario))) (total-read k rest scenario 0 h (omega arith))
 
-  totals-are : (scenario : ℕ) → scenario < 7 → totalsIn (numbers k ++ rest) 540 scenario ≡ scenarioTotals k scenario
+  totals-are : (scenario : ℕ) → scenario < scenarioCount → totalsIn (numbers k ++ rest) totalsStart scenario ≡ scenarioTotals k scenario
   unfolding totalsIn scenarioTotals
   totals-are scenario h =
       rw (
@@ -37,9 +39,9 @@ module _ (k : Contents) (rest : List ℕ) where
       )
 
   -- the lines read off a list that begins with a filing's 568 numbers
-  pub lines-are : linesIn (numbers k ++ rest) 540 ≡ scenarioLines k
+  pub lines-are : linesIn (numbers k ++ rest) totalsStart ≡ scenarioLines k
   unfolding linesIn scenarioLines scenarioLine lineIn
-  lines-are = ap joined (table-ext 7 (lineIn (numbers k ++ rest) 540) (scenarioLine k) (λ i h. rw (totals-are i h)))
+  lines-are = ap joined (table-ext scenarioCount (lineIn (numbers k ++ rest) totalsStart) (scenarioLine k) (λ i h. rw (totals-are i h)))
 
 -- an input over the limit
 pub text-too-long : (s : List ℕ) → filingLimit < length s → tooLong ≡ listingText s
@@ -62,7 +64,7 @@ module _ (s before after : List ℕ) (answer : Answer)
   text-refused h = rw (ne-eqb (numberOf answer) 0 h) at text-is
 
   -- an accepted filing
-  pub text-accepted : numberOf answer ≡ 0 → linesIn after 540 ≡ listingText s
+  pub text-accepted : numberOf answer ≡ 0 → linesIn after totalsStart ≡ listingText s
   unfolding verdictText verdictOf listAfter
   text-accepted zero =
       let e : verdictOn s before .number ≡ 0 = ap (λ (v : Verdict). v .number) (sym (valued .answer-is)) ∙ zero in

@@ -9,6 +9,7 @@ use lib.IntN.{subℕ}
 use lib.ListN.{length, getD, length-append}
 use Rattle.lists.specs.Tables.{tableFrom, joined}
 use Rattle.lists.proofs.EachLaws.{each-lt}
+use Rattle.form.specs.Shift.{scenarioCount}
 use Rattle.text.specs.Decimal.{digitsWithin, decimal, signed}
 use Rattle.text.specs.Lines.{restOfLine}
 use Rattle.text.proofs.LineLaws.{rest-length}
@@ -22,23 +23,23 @@ module _ (l : List ℕ) (from : ℕ) where
 
   -- the lines from scenario i on
   abbrev pub linesFrom : ℕ → List ℕ
-  linesFrom i = joined (tableFrom i (7 - i) (lineIn l from))
+  linesFrom i = joined (tableFrom i (scenarioCount - i) (lineIn l from))
 
-  pub lines-next : (i : ℕ) → i < 7 → linesFrom i ≡ lineIn l from i ++ linesFrom (i + 1)
+  pub lines-next : (i : ℕ) → i < scenarioCount → linesFrom i ≡ lineIn l from i ++ linesFrom (i + 1)
   unfolding tableFrom joined
   lines-next i h =
-      let e : 7 - i ≡ suc (7 - (i + 1)) = omega arith in
+      let e : scenarioCount - i ≡ suc (scenarioCount - (i + 1)) = omega arith in
       rw (e, add-one)
 
-  pub lines-end : (i : ℕ) → i ≡ 7 → linesFrom i ≡ []
+  pub lines-end : (i : ℕ) → i ≡ scenarioCount → linesFrom i ≡ []
   unfolding tableFrom joined
   lines-end i e = rw e
 
 -- a shift has four bytes at most
-shift-length : (scenario : ℕ) → scenario < 7 → length (signed (subℕ (100 * scenario) 300)) ≤ 4
+shift-length : (scenario : ℕ) → scenario < scenarioCount → length (signed (subℕ (100 * scenario) 300)) ≤ 4
 unfolding signed decimal digitsWithin
 shift-length =
-    each-lt 7 (λ (s : ℕ). length (signed (subℕ (100 * s) 300)) ≤ 4)
+    each-lt scenarioCount (λ (s : ℕ). length (signed (subℕ (100 * s) 300)) ≤ 4)
     (omega arith, (omega arith, (omega arith, (omega arith, (omega arith, (omega arith, (omega arith, tt)))))))
 
 -- n lists of at most m elements
@@ -54,7 +55,7 @@ module _ (l : List ℕ) (from : ℕ) (fits : (i : ℕ) → getD l i 0 < 2 ^ 64) 
   totals-fit scenario = each-lt 4 (λ (r : ℕ). getD (totalsIn l from scenario) r 0 < 2 ^ 64) (fits _, (fits _, (fits _, (fits _, tt))))
 
   -- a line has 89 bytes at most, and seven lines 623
-  line-length : (scenario : ℕ) → scenario < 7 → length (lineIn l from scenario) ≤ 89
+  line-length : (scenario : ℕ) → scenario < scenarioCount → length (lineIn l from scenario) ≤ 89
   unfolding totalsIn
   line-length scenario h =
       rw (line-is l from scenario, length-append)
@@ -62,4 +63,4 @@ module _ (l : List ℕ) (from : ℕ) (fits : (i : ℕ) → getD l i 0 < 2 ^ 64) 
 
   pub lines-length : length (linesIn l from) ≤ 623
   unfolding linesIn
-  lines-length = joined-le 89 0 7 (lineIn l from) line-length
+  lines-length = joined-le 89 0 scenarioCount (lineIn l from) line-length

@@ -3,6 +3,8 @@ pub mod total_lines;
 
 use crate::total_lines::append_scenarios;
 use answers::number;
+use form::sub_balances::NUMBERS;
+use form::sub_balances::TOTALS_START;
 use text::answer_lines::append_refused;
 use text::append_too_long;
 use valuation::value;
@@ -31,10 +33,10 @@ pub fn write_listing(filing: &[u8], out: &mut [u8; 623]) -> usize
     if 65536 < filing.len() {
         return append_too_long(out);
     }
-    let mut numbers = [0u64; 568];
+    let mut numbers = [0u64; NUMBERS];
     let answer = value(filing, &mut numbers);
     if number(answer) != 0 {
         return append_refused(out, answer);
     }
-    append_scenarios(out, 0, &numbers, 540)
+    append_scenarios(out, 0, &numbers, TOTALS_START)
 }

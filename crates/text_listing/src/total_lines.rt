@@ -4,12 +4,14 @@ use text::lines::append_difference;
 use text::lines::append_line;
 ghost use Prim.Native.Nat.{_+_, _≤_, _<_};
 ghost use lib.ListN.{length};
+ghost use Rattle.form.specs.Shift.{scenarioCount};
+ghost use Rattle.form.specs.Counts.{totalCount};
 ghost use Rattle.text.specs.Appended.{Appended};
 ghost use Rattle.text_listing.specs.TotalLines.{lineIn, linesIn};
 
 // The lines of the seven scenarios, whose totals stand in the numbers from an index on.
 pub fn append_scenarios(out: &mut [u8], at: usize, numbers: &[u64], from: usize) -> usize
-    requires { ⌜ (at + 623 ≤ length (now out)) × (from + 28 ≤ length (now numbers)) ⌝ }
+    requires { ⌜ (at + 623 ≤ length (now out)) × (from + totalCount ≤ length (now numbers)) ⌝ }
     ensures { λ r. ⌜ Appended (now (out .entry)) at (linesIn (now (numbers .entry)) from) (now (out .exit)) r × (r ≤ at + 623) ⌝ }
 {
     let mut end = at;
@@ -29,7 +31,7 @@ fn append_scenario(
     from: usize,
     scenario: usize,
 ) -> usize
-    requires { ⌜ (at + length (lineIn (now numbers) from scenario) ≤ length (now out)) × (from + 28 ≤ length (now numbers)) × (scenario < 7) ⌝ }
+    requires { ⌜ (at + length (lineIn (now numbers) from scenario) ≤ length (now out)) × (from + totalCount ≤ length (now numbers)) × (scenario < scenarioCount) ⌝ }
     ensures { λ r. ⌜ Appended (now (out .entry)) at (lineIn (now (numbers .entry)) from scenario) (now (out .exit)) r ⌝ }
 {
     let behind = append_difference(out, at, 100 * scenario as u64, 300);

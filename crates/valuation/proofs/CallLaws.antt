@@ -5,6 +5,7 @@ use mathlib.Core.List.{List, _++_}
 use native.Mathlib.Omega.{arith}
 use borrow.Author.Tests.{eq-eqb, ne-eqb}
 use lib.ListN.{length, drop}
+use Rattle.form.specs.Counts.{numberCount}
 use Rattle.answers.specs.declared.Answer.{Answer}
 use Rattle.answers.specs.declared.Answer.the-variants.{ListTooShort}
 use Rattle.answers.specs.Answers.{numberOf, verdictOf}
@@ -15,7 +16,7 @@ use Rattle.filing_decode.specs.Contents.{contentsOf}
 use Rattle.filing.specs.Readings.{readOver}
 use Rattle.filing.specs.Verdict.{filingVerdict}
 use Rattle.filing.proofs.ReadingLaws.{reading-says, reading-valid}
-use Rattle.value_numbers.specs.Numbers.{numbers, numberCount}
+use Rattle.value_numbers.specs.Numbers.{numbers}
 use Rattle.valuation.specs.Promise.{verdictOn, listAfter, Valued}
 use Rattle.valuation.proofs.PromiseLaws.{enclosed}
 
@@ -23,10 +24,10 @@ abbrev number : Verdict → ℕ
 number v = v .number
 
 -- a list under 568 numbers
-module _ (s before : List ℕ) (short : length before < 568) where
+module _ (s before : List ℕ) (short : length before < numberCount) where
   short-verdict : refused 10 (length before) ≡ verdictOn s before
   unfolding verdictOn
-  short-verdict = list-short 568 (length before) (filingVerdict s) short
+  short-verdict = list-short numberCount (length before) (filingVerdict s) short
 
   pub short-list : Valued s before (ListTooShort (length before)) before
   unfolding listAfter verdictOf refused accepted
@@ -41,10 +42,10 @@ module _ (s before : List ℕ) (short : length before < 568) where
       never e = omega arith
 
 -- a list of 568 numbers or more
-module _ (s before : List ℕ) (long : 568 ≤ length before) (answer : Answer) (read : verdictOf answer ≡ filingVerdict s) where
+module _ (s before : List ℕ) (long : numberCount ≤ length before) (answer : Answer) (read : verdictOf answer ≡ filingVerdict s) where
   verdict-is : filingVerdict s ≡ verdictOn s before
   unfolding verdictOn
-  verdict-is = list-long 568 (length before) (filingVerdict s) long
+  verdict-is = list-long numberCount (length before) (filingVerdict s) long
 
   number-is : numberOf answer ≡ verdictOn s before .number
   unfolding verdictOf

@@ -15,6 +15,7 @@ use Rattle.filing_decode.specs.Contents.{contentsOf}
 use Rattle.filing_contents.specs.Contents.{Contents, cell}
 use Rattle.filing_contents.specs.Valid.{Valid}
 use Rattle.form.specs.PlaceOrder.{positionOf, subBalanceCount, isShort, isLong}
+use Rattle.form.specs.Shift.{scenarioCount}
 use Rattle.shares.specs.SubBalances.{fourOf, balanceAt}
 use Rattle.shares.proofs.SubBalanceLaws.{four-sum, balanceAt-total}
 use Rattle.pricing.specs.Rounding.{down, up}
@@ -56,39 +57,39 @@ four-places k i =
 
 -- a list that begins with the 568 numbers
 module _ (k : Contents) (rest : List ℕ) where
-  balance-in : (place : ℕ) → place < 36 → balanceIn (numbers k ++ rest) place ≡ balanceAt (k .cells) place
+  balance-in : (place : ℕ) → place < subBalanceCount → balanceIn (numbers k ++ rest) place ≡ balanceAt (k .cells) place
   unfolding balanceIn
   balance-in place h = rw (numbers-split k rest) (balance-read k (totals k ++ rest) place h)
 
-  lower-in : (scenario place : ℕ) → scenario < 7 → place < 36 → lowerIn (numbers k ++ rest) scenario place ≡ valueAt down k scenario place
+  lower-in : (scenario place : ℕ) → scenario < scenarioCount → place < subBalanceCount → lowerIn (numbers k ++ rest) scenario place ≡ valueAt down k scenario place
   unfolding lowerIn
   lower-in scenario place hs hp = rw (numbers-split k rest) (lower-read k (totals k ++ rest) _ scenario place (omega arith) hs hp)
 
-  upper-in : (scenario place : ℕ) → scenario < 7 → place < 36 → upperIn (numbers k ++ rest) scenario place ≡ valueAt up k scenario place
+  upper-in : (scenario place : ℕ) → scenario < scenarioCount → place < subBalanceCount → upperIn (numbers k ++ rest) scenario place ≡ valueAt up k scenario place
   unfolding upperIn
   upper-in scenario place hs hp = rw (numbers-split k rest) (upper-read k (totals k ++ rest) _ scenario place (omega arith) hs hp)
 
-  total-in : (scenario r : ℕ) → scenario < 7 → r < 4 → totalNumber (numbers k ++ rest) r scenario ≡ getD (scenarioTotals k scenario) r 0
+  total-in : (scenario r : ℕ) → scenario < scenarioCount → r < 4 → totalNumber (numbers k ++ rest) r scenario ≡ getD (scenarioTotals k scenario) r 0
   unfolding totalNumber
   total-in scenario r hs hr = rw (numbers-split k rest) (total-read k rest scenario r hs hr)
 
-  value-in : (scenario place : ℕ) → scenario < 7 → place < 36
+  value-in : (scenario place : ℕ) → scenario < scenarioCount → place < subBalanceCount
       → Encloses (lowerIn (numbers k ++ rest) scenario place) (exactValueAt k scenario place) (upperIn (numbers k ++ rest) scenario place)
   value-in scenario place hs hp = rw (lower-in scenario place hs hp, upper-in scenario place hs hp) (valueAt-encloses k scenario place)
 
-  short-in : (scenario : ℕ) → scenario < 7
+  short-in : (scenario : ℕ) → scenario < scenarioCount
       → Encloses (totalNumber (numbers k ++ rest) 0 scenario) (totalWhere isShort (exactValueAt k scenario) subBalanceCount) (totalNumber (numbers k ++ rest) 1 scenario)
   unfolding scenarioTotals
   short-in scenario h = rw (total-in scenario 0 h (lit< tt), total-in scenario 1 h (lit< tt)) (totalBy-encloses isShort k scenario)
 
-  long-in : (scenario : ℕ) → scenario < 7
+  long-in : (scenario : ℕ) → scenario < scenarioCount
       → Encloses (totalNumber (numbers k ++ rest) 2 scenario) (totalWhere isLong (exactValueAt k scenario) subBalanceCount) (totalNumber (numbers k ++ rest) 3 scenario)
   unfolding scenarioTotals
   long-in scenario h = rw (total-in scenario 2 h (lit< tt), total-in scenario 3 h (lit< tt)) (totalBy-encloses isLong k scenario)
 
   -- of a filing that is valid: widths and shares
   module _ (v : Valid k) where
-    width-in : (scenario place : ℕ) → scenario < 7 → place < 36
+    width-in : (scenario place : ℕ) → scenario < scenarioCount → place < subBalanceCount
         → 250 * upperIn (numbers k ++ rest) scenario place ≤ 250 * lowerIn (numbers k ++ rest) scenario place + (balanceIn (numbers k ++ rest) place + 500)
     width-in scenario place hs hp =
         rw (lower-in scenario place hs hp, upper-in scenario place hs hp, balance-in place hp) (valueAt-width k v scenario place hp)

@@ -29,7 +29,7 @@ totalBy-encloses test k scenario =
     total-encloses test (valueAt down k scenario) (valueAt up k scenario) (exactValueAt k scenario) subBalanceCount (valueAt-encloses k scenario)
 
 -- 250 × (upper - lower) ≤ balance + 500
-pub valueAt-width : (k : Contents) → Valid k → (scenario place : ℕ) → place < 36
+pub valueAt-width : (k : Contents) → Valid k → (scenario place : ℕ) → place < subBalanceCount
     → 250 * valueAt up k scenario place ≤ 250 * valueAt down k scenario place + (balanceAt (k .cells) place + 500)
 unfolding valueAt placeAt
 valueAt-width k v scenario place h = held-width k place (placeAt (k .cells) place) (deposit-limits k v place h) scenario

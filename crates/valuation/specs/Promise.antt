@@ -15,9 +15,10 @@ use Rattle.filing_decode.specs.Contents.{contentsOf}
 use Rattle.filing_contents.specs.Contents.{cell}
 use Rattle.filing.specs.Verdict.{filingVerdict}
 use Rattle.form.specs.PlaceOrder.{subBalanceCount, isShort, isLong}
+use Rattle.form.specs.Counts.{placeNumberCount, totalsStart, numberCount}
 use Rattle.pricing.specs.EnclosedValues.{EnclosedValues, EnclosedTotal}
 use Rattle.valuation.specs.Exact.{exactValueAt}
-use Rattle.value_numbers.specs.Numbers.{numbers, numberCount}
+use Rattle.value_numbers.specs.Numbers.{numbers}
 
 -- the verdict on a list and a filing: a list under 568 numbers is a 10, and comes first
 unfoldable pub verdictOn : List ℕ → List ℕ → Verdict
@@ -31,16 +32,16 @@ listAfter s before =
 -- the places of the 568: balance, lower and upper value of a place; of a scenario's four totals, short lower, short upper, long lower and long upper,
 -- number r
 unfoldable pub balanceIn : List ℕ → ℕ → ℕ
-balanceIn list place = getD list (15 * place) 0
+balanceIn list place = getD list (placeNumberCount * place) 0
 
 unfoldable pub lowerIn : List ℕ → ℕ → ℕ → ℕ
-lowerIn list scenario place = getD list (15 * place + 2 * scenario + 1) 0
+lowerIn list scenario place = getD list (placeNumberCount * place + 2 * scenario + 1) 0
 
 unfoldable pub upperIn : List ℕ → ℕ → ℕ → ℕ
-upperIn list scenario place = getD list (15 * place + 2 * scenario + 2) 0
+upperIn list scenario place = getD list (placeNumberCount * place + 2 * scenario + 2) 0
 
 unfoldable pub totalNumber : List ℕ → ℕ → ℕ → ℕ
-totalNumber list r scenario = getD list (540 + 4 * scenario + r) 0
+totalNumber list r scenario = getD list (totalsStart + 4 * scenario + r) 0
 
 -- what holds of the list after an accepted filing
 pub record Enclosed (s list : List ℕ) : Type 0 where

@@ -5,6 +5,7 @@ use filing::read;
 use form::CELLS;
 use form::limits::MONTHS;
 use form::limits::RATES;
+use form::sub_balances::NUMBERS;
 use value_numbers::write_numbers;
 ghost use Rattle.valuation.specs.Promise.{Valued};
 
@@ -13,7 +14,7 @@ ghost use Rattle.valuation.specs.Promise.{Valued};
 pub fn value(filing: &[u8], numbers: &mut [u64]) -> Answer
     ensures { λ r. ⌜ Valued (now (filing .entry)) (now (numbers .entry)) r (now (numbers .exit)) ⌝ }
 {
-    if numbers.len() < 568 {
+    if numbers.len() < NUMBERS {
         return Answer::ListTooShort(numbers.len());
     }
     let mut cells = [0; CELLS];

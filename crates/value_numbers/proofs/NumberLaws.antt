@@ -7,6 +7,9 @@ use lib.ListN.{length, getD, List·getD-append}
 use lib.Seq.{getD-append-add}
 use Rattle.lists.specs.Tables.{table, joined}
 use Rattle.lists.proofs.TableLaws.{joined-length, joined-getD}
+use Rattle.form.specs.PlaceOrder.{subBalanceCount}
+use Rattle.form.specs.Shift.{scenarioCount}
+use Rattle.form.specs.Counts.{placeNumberCount, totalsStart, totalCount}
 use Rattle.filing_contents.specs.Contents.{Contents}
 use Rattle.shares.specs.SubBalances.{balanceAt}
 use Rattle.pricing.specs.Rounding.{down, up}
@@ -16,29 +19,29 @@ use Rattle.value_numbers.specs.Numbers.{valuesOf, placeNumbers, scenario
 module _ (k : Contents) where
   -- the rows of the places and the totals of the scenarios
   abbrev pub rows : List ℕ
-  rows = joined (table 36 (placeNumbers k))
+  rows = joined (table subBalanceCount (placeNumbers k))
 
   abbrev pub totals : List ℕ
-  totals = joined (table 7 (scenarioTotals k))
+  totals = joined (table scenarioCount (scenarioTotals k))
 
   -- their sizes
   valuesOf-length : (place scenario : ℕ) → length (valuesOf k place scenario) ≡ 2
   unfolding valuesOf
   valuesOf-length place scenario = refl
 
-  pub row-length : (place : ℕ) → length (placeNumbers k place) ≡ 15
+  pub row-length : (place : ℕ) → length (placeNumbers k place) ≡ placeNumberCount
   unfolding placeNumbers
-  row-length place = ap suc (joined-length 2 0 7 (valuesOf k place) (valuesOf-length place))
+  row-length place = ap suc (joined-length 2 0 scenarioCount (valuesOf k place) (valuesOf-length place))
 
   pub scenarioTotals-length : (scenario : ℕ) → length (scenarioTotals k scenario) ≡ 4
   unfolding scenarioTotals
   scenarioTotals-length scenario = refl
 
-  pub rows-length : length rows ≡ 540
-  rows-length = joined-length 15 0 36 (placeNumbers k) row-length
+  pub rows-length : length rows ≡ totalsStart
+  rows-length = joined-length placeNumberCount 0 subBalanceCount (placeNumbers k) row-length
 
-  pub totals-length : length totals ≡ 28
-  totals-length = joined-length 4 0 7 (scenarioTotals k) scenarioTotals-length
+  pub totals-length : length totals ≡ totalCount
+  totals-length = joined-length 4 0 scenarioCount (scenarioTotals k) scenarioTotals-length
 
   -- a list that begins with the 568 numbers
   pub numbers-split : (rest : List ℕ) → numbers k ++ rest ≡ rows ++ (totals ++ rest)
@@ -48,37 +51,37 @@ module _ (k : Contents) where
   -- what stands in a list that begins with the rows
   module _ (rest : List ℕ) where
     -- number r of a place's fifteen
-    row-read : (i place r : ℕ) → i ≡ 15 * place + r → place < 36 → r < 15 → getD (rows ++ rest) i 0 ≡ getD (placeNumbers k place) r 0
+    row-read : (i place r : ℕ) → i ≡ placeNumberCount * place + r → place < subBalanceCount → r < placeNumberCount → getD (rows ++ rest) i 0 ≡ getD (placeNumbers k place) r 0
     row-read i place r e hp hr =
-        rw e (List·getD-append rows rest 0 (15 * place + r) (omega (arith, rows-length)) ∙ joined-getD 15 36 (placeNumbers k) row-length place r 0 hp hr)
+        rw e (List·getD-append rows rest 0 (placeNumberCount * place + r) (omega (arith, rows-length)) ∙ joined-getD placeNumberCount subBalanceCount (placeNumbers k) row-length place r 0 hp hr)
 
     -- a place's balance
-    pub balance-read : (place : ℕ) → place < 36 → getD (rows ++ rest) (15 * place) 0 ≡ balanceAt (k .cells) place
+    pub balance-read : (place : ℕ) → place < subBalanceCount → getD (rows ++ rest) (placeNumberCount * place) 0 ≡ balanceAt (k .cells) place
     unfolding placeNumbers
-    balance-read place h = row-read (15 * place) place 0 (omega arith) h (omega arith)
+    balance-read place h = row-read (placeNumberCount * place) place 0 (omega arith) h (omega arith)
 
     -- number r of a place's lower and upper value in a scenario
-    value-read : (i scenario place r : ℕ) → i ≡ 15 * place + suc (2 * scenario + r) → scenario < 7 → place < 36 → r < 2
+    value-read : (i scenario place r : ℕ) → i ≡ placeNumberCount * place + suc (2 * scenario + r) → scenario < scenarioCount → place < subBalanceCount → r < 2
         → getD (rows ++ rest) i 0 ≡ getD (valuesOf k place scenario) r 0
     unfolding placeNumbers
     value-read i scenario place r e hs hp hr =
-        row-read i place (suc (2 * scenario + r)) e hp (omega arith) ∙ joined-getD 2 7 (valuesOf k place) (valuesOf-length place) scenario r 0 hs hr
+        row-read i place (suc (2 * scenario + r)) e hp (omega arith) ∙ joined-getD 2 scenarioCount (valuesOf k place) (valuesOf-length place) scenario r 0 hs hr
 
-    pub lower-read : (i scenario place : ℕ) → i ≡ 15 * place + (2 * scenario + 1) → scenario < 7 → place < 36
+    pub lower-read : (i scenario place : ℕ) → i ≡ placeNumberCount * place + (2 * scenario + 1) → scenario < scenarioCount → place < subBalanceCount
         → getD (rows ++ rest) i 0 ≡ valueAt down k scenario place
     unfolding valuesOf
     lower-read i scenario place e hs hp = value-read i scenario place 0 (omega arith) hs hp (omega arith)
 
-    pub upper-read : (i scenario place : ℕ) → i ≡ 15 * place + (2 * scenario + 2) → scenario < 7 → place < 36
+    pub upper-read : (i scenario place : ℕ) → i ≡ placeNumberCount * place + (2 * scenario + 2) → scenario < scenarioCount → place < subBalanceCount
         → getD (rows ++ rest) i 0 ≡ valueAt up k scenario place
     unfolding valuesOf
     upper-read i scenario place e hs hp = value-read i scenario place 1 (omega arith) hs hp (omega arith)
 
     -- number r of a scenario's four totals, which stand behind the rows
-    pub total-read : (scenario r : ℕ) → scenario < 7 → r < 4
-        → getD (rows ++ (totals ++ rest)) (540 + 4 * scenario + r) 0 ≡ getD (scenarioTotals k scenario) r 0
+    pub total-read : (scenario r : ℕ) → scenario < scenarioCount → r < 4
+        → getD (rows ++ (totals ++ rest)) (totalsStart + 4 * scenario + r) 0 ≡ getD (scenarioTotals k scenario) r 0
     total-read scenario r hs hr =
-        let e : 540 + 4 * scenario + r ≡ length rows + (4 * scenario + r) = omega (arith, rows-length) in
+        let e : totalsStart + 4 * scenario + r ≡ length rows + (4 * scenario + r) = omega (arith, rows-length) in
         rw e (getD-append-add rows (totals ++ rest) (4 * scenario + r) 0
         ∙ List·getD-append totals rest 0 (4 * scenario + r) (omega (arith, totals-length))
-        ∙ joined-getD 4 7 (scenarioTotals k) scenarioTotals-length scenario r 0 hs hr)
+        ∙ joined-getD 4 scenarioCount (scenarioTotals k) scenarioTotals-length scenario r 0 hs hr)

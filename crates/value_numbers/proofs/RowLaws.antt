@@ -16,6 +16,8 @@ use Rattle.filing_contents.specs.Valid.{Valid}
 use Rattle.form.specs.declared.sub_balances.SubBalance.{SubBalance}
 use Rattle.shares.specs.SubBalances.{balanceAt, monthsAt}
 use Rattle.form.specs.Places.{placeIn}
+use Rattle.form.specs.PlaceOrder.{subBalanceCount}
+use Rattle.form.specs.Shift.{scenarioCount}
 use Rattle.shares.specs.Places.{placeAt, placesOf}
 use Rattle.shares.proofs.SubBalanceLaws.{balanceAt-limit}
 use Rattle.withdrawal.specs.declared.WithdrawalTiers.{WithdrawalTiers}
@@ -53,47 +55,47 @@ longest-most ps (suc n) h = max-le (longest-most ps n (λ i l. h i (le-trans l (
 
 module _ (k : Contents) where
   -- what stands at a place of the thirty-six
-  pub location-is : (place : ℕ) → place < 36 → placeIn (placesOf (k .cells)) place ≡ placeAt (k .cells) place
+  pub location-is : (place : ℕ) → place < subBalanceCount → placeIn (placesOf (k .cells)) place ≡ placeAt (k .cells) place
   unfolding placesOf
-  location-is place h = table-getD 36 (placeAt (k .cells)) place _ h
+  location-is place h = table-getD subBalanceCount (placeAt (k .cells)) place _ h
 
   term-of-place : (place : ℕ) → 0 < balanceAt (k .cells) place → monthsAt (k .cells) place ≤ termOf (placeAt (k .cells) place)
   unfolding termOf placeAt
   term-of-place place pos = rw (ne-eqb (balanceAt (k .cells) place) 0 (ne-of-gt pos)) (le-refl (monthsAt (k .cells) place))
 
   -- the months of a place with a balance are at most the longest term
-  months-le-longest : (place : ℕ) → place < 36 → 0 < balanceAt (k .cells) place → monthsAt (k .cells) place ≤ longestTerm (placesOf (k .cells))
+  months-le-longest : (place : ℕ) → place < subBalanceCount → 0 < balanceAt (k .cells) place → monthsAt (k .cells) place ≤ longestTerm (placesOf (k .cells))
   unfolding longestTerm
-  months-le-longest place h pos = le-trans held (longest-le (placesOf (k .cells)) 36 place h)
+  months-le-longest place h pos = le-trans held (longest-le (placesOf (k .cells)) subBalanceCount place h)
     where
       held : monthsAt (k .cells) place ≤ termOf (placeIn (placesOf (k .cells)) place)
       held = rw (location-is place h) (term-of-place place pos)
 
   module _ (v : Valid k) where
     -- nor is the longest term above the limit of months
-    term-le : (place : ℕ) → place < 36 → termOf (placeAt (k .cells) place) ≤ monthsLimit
+    term-le : (place : ℕ) → place < subBalanceCount → termOf (placeAt (k .cells) place) ≤ monthsLimit
     unfolding termOf placeAt depositAt
     term-le place h = either (λ (n : ℕ). n ≤ monthsLimit) (eqb (balanceAt (k .cells) place) 0) zero-le (deposit-limits k v place h .months-le)
 
     pub longest-limit : longestTerm (placesOf (k .cells)) ≤ monthsLimit
     unfolding longestTerm
-    longest-limit = longest-most (placesOf (k .cells)) 36 (λ place h. rw (location-is place h) (term-le place h))
+    longest-limit = longest-most (placesOf (k .cells)) subBalanceCount (λ place h. rw (location-is place h) (term-le place h))
 
     -- no number of a row is above the limit of a value
-    valueAt-le : (ρ : Rounding) (scenario place : ℕ) → place < 36 → valueAt ρ k scenario place ≤ valueLimit
+    valueAt-le : (ρ : Rounding) (scenario place : ℕ) → place < subBalanceCount → valueAt ρ k scenario place ≤ valueLimit
     unfolding valueAt placeAt
     valueAt-le ρ scenario place h = held-le k place (placeAt (k .cells) place) (deposit-limits k v place h) (balanceAt-limit (k .cells) (v .of-cells) place h) ρ scenario
 
-    bounds-le : (place scenario : ℕ) → place < 36 → (i : ℕ) → getD (valuesOf k place scenario) i 0 ≤ valueLimit
+    bounds-le : (place scenario : ℕ) → place < subBalanceCount → (i : ℕ) → getD (valuesOf k place scenario) i 0 ≤ valueLimit
     unfolding valuesOf
     bounds-le place scenario h zero = valueAt-le down scenario place h
     bounds-le place scenario h (suc zero) = valueAt-le up scenario place h
     bounds-le place scenario h (suc (suc i)) = omega arith
 
-    pub row-le : (place : ℕ) → place < 36 → (i : ℕ) → getD (placeNumbers k place) i 0 ≤ valueLimit
+    pub row-le : (place : ℕ) → place < subBalanceCount → (i : ℕ) → getD (placeNumbers k place) i 0 ≤ valueLimit
     unfolding placeNumbers
     row-le place h zero = omega (arith, balanceAt-limit (k .cells) (v .of-cells) place h)
-    row-le place h (suc i) = joined-le 0 7 (valuesOf k place) valueLimit (λ scenario j l u. bounds-le place scenario h j) i
+    row-le place h (suc i) = joined-le 0 scenarioCount (valuesOf k place) valueLimit (λ scenario j l u. bounds-le place scenario h j) i
 
 -- what the code has in hand when it comes to the rows: the filing's tiers, its places, and tables of its lower and upper factors
 pub record Prepared (k : Contents) (tiers : WithdrawalTiers) (places : List SubBalance) (lower upper : List ℕ) : Type 0 where
@@ -104,7 +106,7 @@ pub record Prepared (k : Contents) (tiers : WithdrawalTiers) (places : List SubB
   pub lower-holds : HoldsFactors down (longestTerm (placesOf (k .cells))) (factorsBy down (k .yields) (longestTerm (placesOf (k .cells)))) lower
   pub upper-holds : HoldsFactors up (longestTerm (placesOf (k .cells))) (factorsBy up (k .yields) (longestTerm (placesOf (k .cells)))) upper
 
-module _ (k : Contents) (tiers : WithdrawalTiers) (places : List SubBalance) (lower upper : List ℕ) (p : Prepared k tiers places lower upper) (place : ℕ) (h : place < 36) where
+module _ (k : Contents) (tiers : WithdrawalTiers) (places : List SubBalance) (lower upper : List ℕ) (p : Prepared k tiers places lower upper) (place : ℕ) (h : place < subBalanceCount) where
   held-is : placeIn places place ≡ placeAt (k .cells) place
   held-is = rw (p .places-are) (location-is k place h)
 

@@ -14,7 +14,9 @@ use Rattle.lists.proofs.TableLaws.{table-ext, joined-le}
 use Rattle.form.specs.Cells.{positions, position, positionAt}
 use Rattle.filing_contents.specs.Contents.{Contents}
 use Rattle.filing_contents.specs.Valid.{Valid}
-use Rattle.form.specs.PlaceOrder.{positionOf, isShort, isLong}
+use Rattle.form.specs.PlaceOrder.{positionOf, isShort, isLong, subBalanceCount}
+use Rattle.form.specs.Shift.{scenarioCount}
+use Rattle.form.specs.Counts.{totalsStart, numberCount}
 use Rattle.pricing.specs.Rounding.{down, up}
 use Rattle.value_numbers.specs.Run.{valueAt, totalBy}
 use Rattle.value_numbers.specs.Numbers.{placeNumbers, scenarioTotals, numbers}
@@ -23,27 +25,27 @@ use Rattle.value_numbers.proofs.NumberLaws.{rows, totals, rows-length, 
 use Rattle.value_numbers.proofs.RowLaws.{row-le}
 
 -- rows 1 and 2 are places 0 to 23, rows 3 and 4 places 24 to 35
-short-sum : (f : ℕ → ℕ) → sum (tableFrom 0 24 f) ≡ sumWhere isShort f 36
+short-sum : (f : ℕ → ℕ) → sum (tableFrom 0 24 f) ≡ sumWhere isShort f subBalanceCount
 unfolding sum tableFrom sumWhere isShort positionOf positions positionAt position
 short-sum f = omega arith
 
-long-sum : (f : ℕ → ℕ) → sum (tableFrom 24 12 f) ≡ sumWhere isLong f 36
+long-sum : (f : ℕ → ℕ) → sum (tableFrom 24 12 f) ≡ sumWhere isLong f subBalanceCount
 unfolding sum tableFrom sumWhere isLong isShort positionOf positions positionAt position
 long-sum f = omega arith
 
 -- a list that begins with the rows of the places
 module _ (k : Contents) (rest : List ℕ) where
-  module _ (scenario : ℕ) (h : scenario < 7) (test : ℕ → Bool) where
-    lowers : sumWhere test (numberAt (rows k ++ rest) (2 * scenario + 1)) 36 ≡ sumWhere test (valueAt down k scenario) 36
+  module _ (scenario : ℕ) (h : scenario < scenarioCount) (test : ℕ → Bool) where
+    lowers : sumWhere test (numberAt (rows k ++ rest) (2 * scenario + 1)) subBalanceCount ≡ sumWhere test (valueAt down k scenario) subBalanceCount
     unfolding numberAt
-    lowers = sumWhere-ext test _ (valueAt down k scenario) 36 (λ place p. lower-read k rest _ scenario place refl h p)
+    lowers = sumWhere-ext test _ (valueAt down k scenario) subBalanceCount (λ place p. lower-read k rest _ scenario place refl h p)
 
-    uppers : sumWhere test (numberAt (rows k ++ rest) (2 * scenario + 2)) 36 ≡ sumWhere test (valueAt up k scenario) 36
+    uppers : sumWhere test (numberAt (rows k ++ rest) (2 * scenario + 2)) subBalanceCount ≡ sumWhere test (valueAt up k scenario) subBalanceCount
     unfolding numberAt
-    uppers = sumWhere-ext test _ (valueAt up k scenario) 36 (λ place p. upper-read k rest _ scenario place refl h p)
+    uppers = sumWhere-ext test _ (valueAt up k scenario) subBalanceCount (λ place p. upper-read k rest _ scenario place refl h p)
 
   -- the totals from the rows
-  pub totals-are : (scenario : ℕ) → scenario < 7 → rowTotals (rows k ++ rest) scenario ≡ scenarioTotals k scenario
+  pub totals-are : (scenario : ℕ) → scenario < scenarioCount → rowTotals (rows k ++ rest) scenario ≡ scenarioTotals k scenario
   unfolding rowTotals scenarioTotals totalBy
   totals-are scenario h =
       let low = numberAt (rows k ++ rest) (2 * scenario + 1) in
@@ -52,24 +54,24 @@ module _ (k : Contents) (rest : List ℕ) where
       (rw (lowers scenario h isShort, uppers scenario h isShort, lowers scenario h isLong, uppers scenario h isLong))
 
 -- a list whose first 540 numbers are overwritten by the rows
-module _ (k : Contents) (before after : List ℕ) (long : 568 ≤ length before) (written-rows : after ≡ rows k ++ drop 540 before) where
-  rows-in : Overwritten (rows k) 540 before after
-  rows-in = overwritten-is (rows k) 540 before after (rows-length k) (omega arith) written-rows
+module _ (k : Contents) (before after : List ℕ) (long : numberCount ≤ length before) (written-rows : after ≡ rows k ++ drop totalsStart before) where
+  rows-in : Overwritten (rows k) totalsStart before after
+  rows-in = overwritten-is (rows k) totalsStart before after (rows-length k) (omega arith) written-rows
 
   -- no number of the rows is above the limit of a value
   pub rows-within : Valid k → WithinRows after
   rows-within v =
       record {
         long = rw (rows-in .as-long) (omega arith);
-        within = λ i h. rw (written-rows, List·getD-append (rows k) (drop 540 before) 0 i (rw (rows-length k) h))
-            (joined-le 0 36 (placeNumbers k) valueLimit (λ place j b p. row-le k v place (omega arith) j) i);
+        within = λ i h. rw (written-rows, List·getD-append (rows k) (drop totalsStart before) 0 i (rw (rows-length k) h))
+            (joined-le 0 subBalanceCount (placeNumbers k) valueLimit (λ place j b p. row-le k v place (omega arith) j) i);
       }
 
   -- the totals written behind the rows make the 568 numbers
-  pub numbers-written : (run : List ℕ) → run ≡ joined (table 7 (rowTotals after)) → written after 540 run ≡ numbers k ++ drop 568 before
+  pub numbers-written : (run : List ℕ) → run ≡ joined (table scenarioCount (rowTotals after)) → written after totalsStart run ≡ numbers k ++ drop numberCount before
   unfolding numbers
   numbers-written run e =
-      rw made (overwritten-more (rows k) (totals k) 540 568 before after rows-in (rw (totals-length k)) long .is)
+      rw made (overwritten-more (rows k) (totals k) totalsStart numberCount before after rows-in (rw (totals-length k)) long .is)
     where
       made : run ≡ totals k
-      made = e ∙ rw written-rows (ap joined (table-ext 7 _ _ (totals-are k (drop 540 before))))
+      made = e ∙ rw written-rows (ap joined (table-ext scenarioCount _ _ (totals-are k (drop totalsStart before))))

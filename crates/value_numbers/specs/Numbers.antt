@@ -9,9 +9,6 @@ use Rattle.shares.specs.SubBalances.{balanceAt}
 use Rattle.pricing.specs.Rounding.{down, up}
 use Rattle.value_numbers.specs.Run.{valueAt, totalBy}
 
-abbrev pub numberCount : ℕ
-numberCount = 568
-
 -- lower and upper value of a place in a scenario
 unfoldable pub valuesOf : Contents → ℕ → ℕ → List ℕ
 valuesOf k place scenario = valueAt down k scenario place ∷ valueAt up k scenario place ∷ []

@@ -5,7 +5,12 @@ use filing_contents::FiledTiers;
 use form::CELLS;
 use form::limits::MONTHS;
 use form::limits::RATES;
+use form::sub_balances::PLACE_NUMBERS;
+use form::sub_balances::SCENARIOS;
+use form::sub_balances::SUB_BALANCES;
+use form::sub_balances::TOTALS_START;
 use lists::write;
+use price_factors::FACTORS;
 use price_multipliers::discount_tables::discount_tables;
 use shares::places::places_of;
 use value_places::longest_term::longest_term;
@@ -21,7 +26,8 @@ ghost use Rattle.filing_cells.specs.Inner.Sums.{columnSums};
 ghost use Rattle.filing_contents.specs.Contents.{Contents, contentsWith};
 ghost use Rattle.filing_contents.specs.Valid.{Valid};
 ghost use Rattle.form.specs.PlaceOrder.{subBalanceCount};
-ghost use Rattle.value_numbers.specs.Numbers.{placeNumbers, numbers, numberCount};
+ghost use Rattle.form.specs.Counts.{totalsStart, numberCount};
+ghost use Rattle.value_numbers.specs.Numbers.{placeNumbers, numbers};
 
 // The rows of the places, and then the totals, which are taken from the rows. The rest of the list is left as it was.
 pub fn write_numbers<'a>(
@@ -39,7 +45,7 @@ pub fn write_numbers<'a>(
 {
     write_rows(cells, sums, yields, rates, tiers, list);
     let totals = totals_of(list);
-    write(list, 540, &totals);
+    write(list, TOTALS_START, &totals);
 }
 
 // The fifteen numbers of each place, one place after the other.
@@ -53,18 +59,18 @@ fn write_rows(
 )
     ghost { Contents }
     requires { λ k. ⌜ k ≡ contentsWith (now cells) (now yields) (now rates) filed ⌝ }
-    requires { λ k. ⌜ Valid k × (sums ≡ columnSums (k .cells)) × (540 ≤ length (now list)) ⌝ }
-    ensures { λ k _. ⌜ now (list .exit) ≡ joined (table subBalanceCount (placeNumbers k)) ++ drop 540 (now (list .entry)) ⌝ }
+    requires { λ k. ⌜ Valid k × (sums ≡ columnSums (k .cells)) × (totalsStart ≤ length (now list)) ⌝ }
+    ensures { λ k _. ⌜ now (list .exit) ≡ joined (table subBalanceCount (placeNumbers k)) ++ drop totalsStart (now (list .entry)) ⌝ }
 {
     let tiers = tiers_of(filed);
     let places = places_of(cells, sums);
     let longest = longest_term(places);
-    let mut lower = [0u64; 840];
-    let mut upper = [0u64; 840];
+    let mut lower = [0u64; FACTORS];
+    let mut upper = [0u64; FACTORS];
     discount_tables(yields, longest, &mut lower, &mut upper);
-    let mut months = [[0u8; 7]; MONTHS];
+    let mut months = [[0u8; SCENARIOS]; MONTHS];
     let mut place: usize = 0;
-    while place < 36 {
+    while place < SUB_BALANCES {
         let row = row_of(
             places[place],
             place,
@@ -77,7 +83,7 @@ fn write_rows(
             &upper,
             &mut months,
         );
-        write(list, 15 * place, &row);
+        write(list, PLACE_NUMBERS * place, &row);
         place += 1;
     }
 }

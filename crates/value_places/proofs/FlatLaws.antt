@@ -18,7 +18,7 @@ use Rattle.filing_decode.specs.Contents.{sheetOffset, rateNumber, contentsOf}
 use Rattle.filing_contents.specs.Contents.{retailRate}
 use Rattle.filing_contents.specs.Valid.{Valid}
 use Rattle.shares.specs.Places.{placeAt}
-use Rattle.form.specs.PlaceOrder.{positionOf}
+use Rattle.form.specs.PlaceOrder.{positionOf, subBalanceCount}
 use Rattle.price_deposits.specs.DepositTerms.{termsOf}
 use Rattle.price_deposits.proofs.TermsLaws.{flat-terms}
 use Rattle.withdrawal_filing.specs.FilingTiers.{filingTiers}
@@ -33,7 +33,7 @@ module _ (s : List ℕ) (flat : length s ≤ sheetOffset s ratePathKind) where
       let row : place / monthsLimit + 1 ≡ column = omega arith in
       rw (table-getD rateCount (rateNumber s) place 0 (omega arith), le-ltb _ _ flat, row)
 
-  pub flat-terms-at : Valid (contentsOf s) → (scenario place : ℕ) → place < 36
+  pub flat-terms-at : Valid (contentsOf s) → (scenario place : ℕ) → place < subBalanceCount
       → let k = contentsOf s in
       termsHeld k scenario place (placeAt (k .cells) place)
       ≡ termsOf (filingTiers k) (depositAt place (placeAt (k .cells) place))

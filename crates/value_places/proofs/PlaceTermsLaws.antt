@@ -7,13 +7,13 @@ use Rattle.form.specs.Limits.{penaltyLimit}
 use Rattle.filing_contents.specs.Contents.{Contents}
 use Rattle.filing_contents.specs.Valid.{Valid}
 use Rattle.shares.specs.Places.{placeAt}
-use Rattle.form.specs.PlaceOrder.{positionOf, withPenalty}
+use Rattle.form.specs.PlaceOrder.{positionOf, withPenalty, subBalanceCount}
 use Rattle.shares.specs.SubBalances.{couponAt, monthsAt, penaltyAt}
 use Rattle.filing_cells.proofs.SumLaws.{column-range}
 use Rattle.price_deposits.specs.Inner.Prices.{DepositLimits}
 use Rattle.value_places.specs.PlaceTerms.{depositAt}
 
-module _ (k : Contents) (v : Valid k) (place : ℕ) (h : place < 36) where
+module _ (k : Contents) (v : Valid k) (place : ℕ) (h : place < subBalanceCount) where
   -- the penalty is its column's, or 0
   pub penalty-le : penaltyAt (k .cells) place ≤ penaltyLimit
   unfolding penaltyAt positionOf

@@ -1,16 +1,17 @@
 // The longest term that has to be discounted.
+use form::sub_balances::SUB_BALANCES;
 use form::sub_balances::SubBalance;
 ghost use mathlib.Core.Path.{_≡_};
 ghost use Prim.Native.Nat.{max};
 ghost use Rattle.value_places.specs.Inner.LongestTerm.{longestTerm, termOf};
 
 // The longest term among the places with a balance.
-pub fn longest_term(places: [SubBalance; 36]) -> u64
+pub fn longest_term(places: [SubBalance; SUB_BALANCES]) -> u64
     ensures { λ r. ⌜ r ≡ longestTerm places ⌝ }
 {
     let mut longest = 0;
     let mut i: usize = 0;
-    while i < 36 {
+    while i < SUB_BALANCES {
         longest = greater(longest, term_of(places[i]));
         i += 1;
     }

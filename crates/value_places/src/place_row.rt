@@ -1,6 +1,8 @@
 // The fifteen numbers of a place: its balance, then its lower and upper value in each scenario.
 use form::limits::TIER_LIMIT;
 use form::positions::position;
+use form::sub_balances::PLACE_NUMBERS;
+use form::sub_balances::PLACE_VALUES;
 use form::sub_balances::SubBalance;
 use lists::write;
 use price_deposits::Deposit;
@@ -34,7 +36,7 @@ pub fn row_of<'a>(
     lower: &MultiplierTable,
     upper: &MultiplierTable,
     months: &mut MonthLevels,
-) -> [u64; 15]
+) -> [u64; PLACE_NUMBERS]
     requires { ⌜ (place < subBalanceCount) × (held .balance ≤ balanceLimit) × DepositLimits (depositAt place held) ⌝ }
     requires { ⌜ WithinRates (now rates) × TiersLent count (now edges) (now survivals) retained ⌝ }
     requires { ⌜ (0 < held .balance → Discounting down (depositAt place held .months) (now lower) × Discounting up (depositAt place held .months) (now upper)) ⌝ }
@@ -42,7 +44,7 @@ pub fn row_of<'a>(
     ensures { λ r. ⌜ LevelsLeft count (now (edges .entry)) (held .balance) (depositAt place held) (now (rates .entry)) (positionOf place .column) (now (months .entry)) (now (months .exit)) ⌝ }
 {
     if held.balance == 0 {
-        return [0; 15];
+        return [0; PLACE_NUMBERS];
     }
     let values = held_values(
         held,
@@ -56,7 +58,7 @@ pub fn row_of<'a>(
         upper,
         months,
     );
-    let mut row = [held.balance; 15];
+    let mut row = [held.balance; PLACE_NUMBERS];
     write(&mut row, 1, &values);
     row
 }
@@ -73,7 +75,7 @@ pub fn held_values<'a>(
     lower: &MultiplierTable,
     upper: &MultiplierTable,
     months: &mut MonthLevels,
-) -> [u64; 14]
+) -> [u64; PLACE_VALUES]
     requires { ⌜ (place < subBalanceCount) × (held .balance ≤ balanceLimit) × DepositLimits (depositAt place held) ⌝ }
     requires { ⌜ WithinRates (now rates) × TiersLent count (now edges) (now survivals) retained ⌝ }
     requires { ⌜ (0 < held .balance → Discounting down (depositAt place held .months) (now lower) × Discounting up (depositAt place held .months) (now upper)) ⌝ }

@@ -7,6 +7,7 @@ use crate::month_levels::month_levels;
 use form::limits::MONTHS;
 use form::limits::RATES;
 use form::limits::TIER_LIMIT;
+use form::sub_balances::SCENARIOS;
 use price_multipliers::multipliers_of;
 use withdrawal_gain::coupon_parts;
 ghost use Prim.Native.Nat.{ℕ, _≤_};
@@ -20,7 +21,7 @@ ghost use Rattle.withdrawal_months.specs.TierLevels.{lastLevel, levelSur
 ghost use Rattle.withdrawal_months.specs.Levels.{Levelled, LeftBehind, Multiplied, NothingPast};
 
 // Seven levels for each month, one for each scenario.
-pub type Levels = [[u8; 7]; MONTHS];
+pub type Levels = [[u8; SCENARIOS]; MONTHS];
 
 // Writes the levels of all months but the last, at the retail rates of a column, 1 to 3, which are not shifted. As a slice the room is known to have 120
 // months; behind them it is left as it was.
@@ -41,7 +42,7 @@ pub fn early_levels(
         × LeftBehind months (now (levels .entry)) (now (levels .exit)) ⌝ }
 {
     let parts = coupon_parts(coupon, penalty);
-    let list: &mut [[u8; 7]] = levels;
+    let list: &mut [[u8; SCENARIOS]] = levels;
     let mut t: u64 = 0;
     while t + 1 < months {
         let rate = rates[MONTHS * (column - 1) + t as usize];

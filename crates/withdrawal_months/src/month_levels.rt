@@ -1,5 +1,6 @@
 // The withdrawal of a deposit in a month before its term's end, in the seven scenarios, as the levels of the tiers that are reached.
 use form::limits::TIER_LIMIT;
+use form::sub_balances::SCENARIOS;
 use form_scenarios::Scenario;
 use withdrawal::CouponParts;
 use withdrawal::FULL_SURVIVAL;
@@ -24,11 +25,11 @@ pub fn month_levels(
     parts: CouponParts,
     rate: u16,
     left: u64,
-) -> [u8; 7]
+) -> [u8; SCENARIOS]
     requires { ⌜ EdgesFit count (now edges) × PartsWithin parts × (rate ≤ rateLimit) × (left ≤ monthsLimit) ⌝ }
     ensures { λ r. ⌜ ((i : ℕ) → i < scenarioCount → LevelFor brokered count (now (edges .entry)) (incentiveFrom parts (shiftedRate i rate) left) (getD r i 0)) ⌝ }
 {
-    let mut levels = [0u8; 7];
+    let mut levels = [0u8; SCENARIOS];
     let mut i: u8 = 0;
     while (i as u64) < Scenario::COUNT {
         let shifted = Scenario::new(i).shifted(rate);

@@ -4,18 +4,19 @@ use mathlib.Core.Path.{_≡_}
 use native.Mathlib.Omega.{arith}
 use lib.ListN.{getD}
 use Rattle.lists.proofs.FillLaws.{Filled, fill-none, fill-more, fill-all}
+use Rattle.form.specs.Counts.{totalCount}
 use Rattle.book_totals.specs.KeptTotals.{totalAfter, totalsAfter}
 use Rattle.book_totals.proofs.totals_after.Statement.{statement}
 use Rattle.book_totals.proofs.totals_after.Tie as tie
 
 abbrev Inv-loop : tie.InvT-loop
-Inv-loop totals place old new after₀ i₀ after i = (i ≤ 28) × Filled (λ (j : ℕ). totalAfter (getD totals j 0) place old new j) 0 28 i after
+Inv-loop totals place old new after₀ i₀ after i = (i ≤ totalCount) × Filled (λ (j : ℕ). totalAfter (getD totals j 0) place old new j) 0 totalCount i after
 
 abbrev μ-loop : tie.MeasureT-loop
-μ-loop totals place old new after₀ i₀ after i = 28 - i
+μ-loop totals place old new after₀ i₀ after i = totalCount - i
 
 loop-holds : tie.Need-loop-holds Inv-loop μ-loop
-loop-holds c = (omega arith, fill-none _ 0 0 28)
+loop-holds c = (omega arith, fill-none _ 0 0 totalCount)
 
 mul-total-after : tie.Need-mul-total-after Inv-loop μ-loop
 mul-total-after c = omega arith
@@ -41,13 +42,13 @@ loop-less c = omega arith
 loop-again : tie.Need-loop-again Inv-loop μ-loop
 loop-again c =
     let state = c .before .before .before .loop in
-    (omega arith, fill-more _ 0 28 (state .i) (state .after) _ (omega arith) (c .total-after .ensures) (state .inv .1))
+    (omega arith, fill-more _ 0 totalCount (state .i) (state .after) _ (omega arith) (c .total-after .ensures) (state .inv .1))
 
 returns : tie.Need-returns Inv-loop μ-loop
 unfolding totalsAfter
 returns c =
-    let e : c .before .loop .i ≡ 28 = omega arith in
-    fill-all _ 0 28 _ (rw e at (c .before .loop .inv .1))
+    let e : c .before .loop .i ≡ totalCount = omega arith in
+    fill-all _ 0 totalCount _ (rw e at (c .before .loop .inv .1))
 
 pub totals-after-spec : {M : Type 1} → statement M
 totals-after-spec =

@@ -6,15 +6,16 @@ use native.Mathlib.Omega.{arith}
 use borrow.Author.Tests.{eq-eqb, ne-eqb}
 use Rattle.lists.specs.Tables.{anyBelow}
 use Rattle.lists.proofs.TestLaws.{any-none, any-here}
+use Rattle.form.specs.Counts.{factorCount}
 use Rattle.book_values.specs.Sheets.{isZero}
 use Rattle.book_values.proofs.some_zero.Statement.{statement}
 use Rattle.book_values.proofs.some_zero.Tie as tie
 
 abbrev Inv-loop : tie.InvT-loop
-Inv-loop factors i₀ i = (i ≤ 840) × (anyBelow (isZero factors) i ≡ false)
+Inv-loop factors i₀ i = (i ≤ factorCount) × (anyBelow (isZero factors) i ≡ false)
 
 abbrev μ-loop : tie.MeasureT-loop
-μ-loop factors i₀ i = 840 - i
+μ-loop factors i₀ i = factorCount - i
 
 loop-holds : tie.Need-loop-holds Inv-loop μ-loop
 unfolding anyBelow
@@ -42,7 +43,7 @@ loop-again c = (omega arith, any-none _ (c .before .before .before .loop .i) (c 
 
 returns-2 : tie.Need-returns-2 Inv-loop μ-loop
 returns-2 c =
-    let e : c .before .loop .i ≡ 840 = omega arith in
+    let e : c .before .loop .i ≡ factorCount = omega arith in
     rw e at (sym (c .before .loop .inv .1))
 
 pub some-zero-spec : {M : Type 1} → statement M

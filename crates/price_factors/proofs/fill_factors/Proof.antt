@@ -7,6 +7,9 @@ use lib.ListN.{replicate}
 use Rattle.lists.specs.Runs.{written}
 use Rattle.lists.specs.Tables.{tableFrom, table, joined}
 use Rattle.lists.proofs.RunLaws.{Overwritten, overwritten-none, overwritten-row, overwritten-all}
+use Rattle.form.specs.Shift.{scenarioCount}
+use Rattle.form.specs.Limits.{monthsLimit}
+use Rattle.form.specs.Counts.{factorCount}
 use Rattle.pricing.specs.Rounding.{Rounding, down, up}
 use Rattle.price_factors.specs.Inner.Factors.{yieldFactors, monthFactors, factorsBy}
 use Rattle.price_factors.proofs.FactorLaws.{month-length, month-within, factors-left}
@@ -15,13 +18,13 @@ use Rattle.price_factors.proofs.fill_factors.Tie as tie
 
 -- a table with the factors of some months
 abbrev Written : Rounding → List ℕ → ℕ → ℕ → List ℕ → Type 0
-Written ρ yields longest month factors = Overwritten (joined (table month (monthFactors ρ yields longest))) (7 * month) (replicate 840 0) factors
+Written ρ yields longest month factors = Overwritten (joined (table month (monthFactors ρ yields longest))) (scenarioCount * month) (replicate factorCount 0) factors
 
 abbrev Inv-loop : tie.InvT-loop
-Inv-loop yields longest lower₀ upper₀ month₀ lower upper month = (month ≤ 120) × Written down yields longest month lower × Written up yields longest month upper
+Inv-loop yields longest lower₀ upper₀ month₀ lower upper month = (month ≤ monthsLimit) × Written down yields longest month lower × Written up yields longest month upper
 
 abbrev μ-loop : tie.MeasureT-loop
-μ-loop yields longest lower₀ upper₀ month₀ lower upper month = 120 - month
+μ-loop yields longest lower₀ upper₀ month₀ lower upper month = monthsLimit - month
 
 loop-holds : tie.Need-loop-holds Inv-loop μ-loop
 unfolding tableFrom joined
@@ -42,11 +45,11 @@ loop-less : tie.Need-loop-less Inv-loop μ-loop
 loop-less c = omega arith
 
 -- one month more
-month-written : (ρ : Rounding) (yields : List ℕ) (longest month : ℕ) (factors after : List ℕ) → month < 120 → month < longest
-    → Written ρ yields longest month factors → after ≡ written factors (7 * month) (yieldFactors ρ yields month) → Written ρ yields longest (month + 1) after
+month-written : (ρ : Rounding) (yields : List ℕ) (longest month : ℕ) (factors after : List ℕ) → month < monthsLimit → month < longest
+    → Written ρ yields longest month factors → after ≡ written factors (scenarioCount * month) (yieldFactors ρ yields month) → Written ρ yields longest (month + 1) after
 month-written ρ yields longest month factors after h l w e =
     rw e
-    (overwritten-row [] (monthFactors ρ yields longest) 7 (month-length ρ yields longest) month (7 * month) (7 * (month + 1)) (replicate 840 0) factors
+    (overwritten-row [] (monthFactors ρ yields longest) scenarioCount (month-length ρ yields longest) month (scenarioCount * month) (scenarioCount * (month + 1)) (replicate factorCount 0) factors
     (yieldFactors ρ yields month) w (month-within ρ yields longest month l) (omega arith) (omega arith))
 
 loop-again : tie.Need-loop-again Inv-loop μ-loop
@@ -61,7 +64,7 @@ loop-again c =
 returns-2 : tie.Need-returns-2 Inv-loop μ-loop
 unfolding factorsBy
 returns-2 c =
-    let e : c .before .loop .month ≡ 120 = omega arith in
+    let e : c .before .loop .month ≡ monthsLimit = omega arith in
     let inv = c .before .loop .inv in
     (overwritten-all _ _ _ _ (inv .1) (omega arith) ∙ rw e, overwritten-all _ _ _ _ (inv .2) (omega arith) ∙ rw e)
 

@@ -3,6 +3,7 @@ use Prim.Native.Nat.{_≤_}
 use mathlib.Core.Path.{sym, ap, _∙_}
 use lib.ListN.{length}
 use borrow.Author.Needs.{needs}
+use Rattle.form.specs.Counts.{numberCount}
 use Rattle.filing_cells.specs.Inner.Sums.{columnSums}
 use Rattle.filing.proofs.ReadingLaws.{reading-valid, reading-cells}
 use Rattle.valuation.proofs.CallLaws.{short-list, refused-filing, valued-filing}
@@ -19,7 +20,7 @@ number-requires : tie.Need-number-requires
 number-requires c κs = search needs
 
 -- the list is long enough where the filing is read
-long : (c : tie.After-read) → 568 ≤ length (c .before .before .before .before .before .before .before .args .numbers .now)
+long : (c : tie.After-read) → numberCount ≤ length (c .before .before .before .before .before .before .before .args .numbers .now)
 long c = c .before .before .before .before .if1 .left
 
 returns-2 : tie.Need-returns-2

@@ -6,6 +6,8 @@ use native.Mathlib.Omega.{arith}
 use lib.ListN.{length}
 use Rattle.lists.specs.Tables.{tableFrom, table, joined}
 use Rattle.lists.proofs.RunLaws.{Overwritten, overwritten-none, overwritten-row}
+use Rattle.form.specs.PlaceOrder.{subBalanceCount}
+use Rattle.form.specs.Counts.{placeNumberCount, totalsStart}
 use Rattle.filing_contents.specs.declared.FiledTiers.{FiledTiers}
 use Rattle.filing_contents.specs.Contents.{Contents, contentsWith}
 use Rattle.value_numbers.specs.Numbers.{placeNumbers}
@@ -22,13 +24,13 @@ use Rattle.value_numbers.proofs.write_rows.Tie as tie
 -- the filing's own tiers are no variable of the loop: the rows are those of every filing with these arrays that the code is prepared for
 abbrev Inv-loop : tie.InvT-loop
 Inv-loop cells yields rates list₀ tiers places longest lower upper months₀ place₀ list months place =
-    (place ≤ 36)
-    × (540 ≤ length list₀)
+    (place ≤ subBalanceCount)
+    × (totalsStart ≤ length list₀)
     × ((filed : FiledTiers) → Prepared (contentsWith cells yields rates filed) tiers places lower upper
-    → Overwritten (joined (table place (placeNumbers (contentsWith cells yields rates filed)))) (15 * place) list₀ list)
+    → Overwritten (joined (table place (placeNumbers (contentsWith cells yields rates filed)))) (placeNumberCount * place) list₀ list)
 
 abbrev μ-loop : tie.MeasureT-loop
-μ-loop cells yields rates list₀ tiers places longest lower upper months₀ place₀ list months place = 36 - place
+μ-loop cells yields rates list₀ tiers places longest lower upper months₀ place₀ list months place = subBalanceCount - place
 
 abbrev contents : tie.Start Inv-loop μ-loop → Contents
 contents c = contentsWith (c .args .cells .now) (c .args .yields .now) (c .args .rates .now) (c .args .filed)
@@ -77,7 +79,7 @@ loop-holds c = (omega arith, c .before .before .before .before .before .before .
 -- at the loop's head: the rows of the places passed are written
 written : (c : tie.At-loop Inv-loop μ-loop)
     → Overwritten (joined (table (c .loop .place) (placeNumbers (contents (c .before .before .before .before .before .before .before .before)))))
-    (15 * c .loop .place) (c .before .before .before .before .before .before .before .before .args .list .now) (c .loop .list)
+    (placeNumberCount * c .loop .place) (c .before .before .before .before .before .before .before .before .args .list .now) (c .loop .list)
 written c = c .loop .inv .2 _ (prepared (c .before))
 
 -- the loop's head, from the row of a place
@@ -116,10 +118,10 @@ loop-again : tie.Need-loop-again Inv-loop μ-loop
 loop-again c =
     let row = c .before .before .before .before .before in
     let state = head row .loop in
-    let more : state .place < 36 = omega arith in (
+    let more : state .place < subBalanceCount = omega arith in (
       omega (arith, more),
       state .inv .1,
-      λ filed p. rw (c .before .before .write .ensures) (overwritten-row [] (placeNumbers _) 15 (row-length _) (state .place) (15 * state .place) (15 * (state .place + 1))
+      λ filed p. rw (c .before .before .write .ensures) (overwritten-row [] (placeNumbers _) placeNumberCount (row-length _) (state .place) (placeNumberCount * state .place) (placeNumberCount * (state .place + 1))
           _ (state .list) (row .row-of .result) (state .inv .2 filed p)
           (row .row-of .ensures .0 (lent _ (p .usable)) ∙ row-is _ _ _ _ _ p (state .place) more) (omega (arith, more)) (omega (arith, more, state .inv .1))),
     )
@@ -129,7 +131,7 @@ same-length c = written (c .before) .as-long
 
 returns : tie.Need-returns Inv-loop μ-loop
 returns c =
-    let e : c .before .loop .place ≡ 36 = omega arith in
+    let e : c .before .loop .place ≡ subBalanceCount = omega arith in
     written (c .before) .is ∙ rw e
 
 pub write-rows-spec : {M : Type 1} → statement M

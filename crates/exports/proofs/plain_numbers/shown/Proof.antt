@@ -5,6 +5,7 @@ use mathlib.Core.List.{[], _∷_}
 use native.Mathlib.Omega.{arith}
 use lib.ListN.{length, replicate}
 use Rattle.lists.proofs.RunLaws.{overwritten-is, overwritten-more, overwritten-all}
+use Rattle.form.specs.Counts.{totalCount}
 use Rattle.exports.proofs.plain_numbers.shown.Statement.{statement}
 use Rattle.exports.proofs.plain_numbers.shown.Tie as tie
 
@@ -19,7 +20,7 @@ returns c =
     let a = c .before .before .before .before .args in
     let balance = a .balance in
     let totals = a .totals .now in
-    let long : length totals ≡ 28 = search needs in
+    let long : length totals ≡ totalCount = search needs in
     let first = overwritten-is (balance ∷ []) 1 (replicate 29 balance) (replicate 29 balance) refl (omega arith) refl in
     c .before .write .ensures
     ∙ overwritten-all _ 29 (replicate 29 balance) _ (overwritten-more (balance ∷ []) totals 1 29 (replicate 29 balance) (replicate 29 balance) first (omega (arith, long)) (omega arith)) (omega arith)

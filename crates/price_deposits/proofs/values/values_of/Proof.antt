@@ -8,6 +8,8 @@ use lib.ListN.{replicate}
 use Rattle.lists.specs.Tables.{tableFrom, table, joined}
 use Rattle.lists.proofs.TableLaws.{table-ext}
 use Rattle.lists.proofs.RunLaws.{Overwritten, overwritten-none, overwritten-row, overwritten-all}
+use Rattle.form.specs.Shift.{scenarioCount}
+use Rattle.form.specs.Counts.{placeValueCount}
 use Rattle.withdrawal.specs.MonthSurvival.{accountOf}
 use Rattle.pricing.specs.Scales.{par, couponGrowth}
 use Rattle.pricing.specs.Rounding.{down, up}
@@ -26,15 +28,15 @@ use Rattle.price_deposits.proofs.values.values_of.Tie as tie
 
 abbrev Inv-loop : tie.InvT-loop
 Inv-loop balance d rates column count edges survivals retained lower upper levels values₀ growth servicing last paid left carried whole scenario₀ values scenario =
-    (scenario ≤ 7)
+    (scenario ≤ scenarioCount)
     × Overwritten
     (joined (table scenario (λ (s : ℕ). valuesAt balance
     (walkedPrices paid left carried whole levels last lower upper s (d .months)))))
-    (2 * scenario) (replicate 14 0) values
+    (2 * scenario) (replicate placeValueCount 0) values
 
 abbrev μ-loop : tie.MeasureT-loop
 μ-loop balance d rates column count edges survivals retained lower upper levels values₀ growth servicing last paid left carried whole scenario₀ values scenario =
-    7 - scenario
+    scenarioCount - scenario
 
 returns : tie.Need-returns Inv-loop μ-loop
 returns c = ((λ t. rw (c .if1 .taken) (no-values _ _ _ _ _ _)), ((λ e. refl), λ some. absurd (ne-of-gt some (c .if1 .taken))))
@@ -102,7 +104,7 @@ value-bounds-requires c κs =
     let a = start .args in
     let limits = start .pre .0 in
     let known = last-known last in
-    let lt : test .before .loop .scenario < 7 = omega (arith, test .loop-test .taken) in (
+    let lt : test .before .loop .scenario < scenarioCount = omega (arith, test .loop-test .taken) in (
       (limits .0, limits .1 .months-le, lt),
       (
         priceable (lentTiers (limits .3)) (a .d) (a .rates .now) (a .column) _ _ _ _ _ (a .lower .now) (a .upper .now) _ (limits .1) (limits .3 .usable) (early .early-levels .ensures .0)
@@ -138,9 +140,9 @@ loop-again c =
     let bounds = c .before .before .before .before in
     let test = bounds .before .before .before .before .before .before in
     let state = test .before .loop in
-    let more : state .scenario < 7 = omega (arith, test .loop-test .taken) in (
+    let more : state .scenario < scenarioCount = omega (arith, test .loop-test .taken) in (
       omega (arith, more),
-      rw (c .before .write .ensures) (overwritten-row [] _ 2 (λ s. refl) (state .scenario) (2 * state .scenario) (2 * (state .scenario + 1)) (replicate 14 0) (state .values)
+      rw (c .before .write .ensures) (overwritten-row [] _ 2 (λ s. refl) (state .scenario) (2 * state .scenario) (2 * (state .scenario + 1)) (replicate placeValueCount 0) (state .values)
           (bounds .value-bounds .result) (state .inv .1) (bounds .value-bounds .ensures) (omega (arith, more)) (omega (arith, more))),
     )
 
@@ -154,10 +156,10 @@ returns-2 c =
     let a = start .args in
     let limits = start .pre .0 in
     let known = last-known last in
-    let e : c .before .loop .scenario ≡ 7 = omega arith in (
+    let e : c .before .loop .scenario ≡ scenarioCount = omega arith in (
       λ t. overwritten-all _ _ _ _ (c .before .loop .inv .1) (omega arith)
           ∙ rw e
-          (ap joined (table-ext 7 _ _
+          (ap joined (table-ext scenarioCount _ _
           (λ s h. bounds-are (lentTiers t) (a .d) (a .rates .now) (a .column) _ _ _ _ _ (a .lower .now) (a .upper .now) s (limits .1) (t .usable) (early .early-levels .ensures .0)
           (rw (← (last .before .before .coupon-growth .ensures), ← (last .before .servicing-cost .ensures)) (m .level-multipliers .ensures .0)) h
           (known .1) (known .2) (known .0) (a .balance)))),

@@ -4,6 +4,7 @@ use mathlib.Core.Path.{_≡_}
 use native.Mathlib.Omega.{arith}
 use lib.ListN.{getD}
 use Rattle.lists.proofs.FillLaws.{Filled, fill-none, fill-more, fill-all}
+use Rattle.form.specs.Shift.{scenarioCount}
 use Rattle.pricing.specs.Rounding.{roundingOf}
 use Rattle.pricing.specs.Inner.Multipliers.{nextBy, nextAllBy}
 use Rattle.price_factors.proofs.factor_chains.next_in_chain.Statement.{statement}
@@ -11,13 +12,13 @@ use Rattle.price_factors.proofs.factor_chains.next_in_chain.Tie as tie
 
 abbrev Inv-loop : tie.InvT-loop
 Inv-loop chain multipliers up next₀ i₀ next i =
-    (i ≤ 7) × Filled (λ (j : ℕ). nextBy (roundingOf up) (getD chain j 0) (getD multipliers j 0)) 0 7 i next
+    (i ≤ scenarioCount) × Filled (λ (j : ℕ). nextBy (roundingOf up) (getD chain j 0) (getD multipliers j 0)) 0 scenarioCount i next
 
 abbrev μ-loop : tie.MeasureT-loop
-μ-loop chain multipliers up next₀ i₀ next i = 7 - i
+μ-loop chain multipliers up next₀ i₀ next i = scenarioCount - i
 
 loop-holds : tie.Need-loop-holds Inv-loop μ-loop
-loop-holds c = (omega arith, fill-none _ 0 0 7)
+loop-holds c = (omega arith, fill-none _ 0 0 scenarioCount)
 
 mul-next-factor : tie.Need-mul-next-factor Inv-loop μ-loop
 mul-next-factor c = omega arith
@@ -47,13 +48,13 @@ loop-less : tie.Need-loop-less Inv-loop μ-loop
 loop-less c = omega arith
 
 loop-again : tie.Need-loop-again Inv-loop μ-loop
-loop-again c = (omega arith, fill-more _ 0 7 _ _ _ (omega arith) (c .next-factor .ensures) (c .before .before .before .before .loop .inv .1))
+loop-again c = (omega arith, fill-more _ 0 scenarioCount _ _ _ (omega arith) (c .next-factor .ensures) (c .before .before .before .before .loop .inv .1))
 
 returns : tie.Need-returns Inv-loop μ-loop
 unfolding nextAllBy
 returns c =
-    let e : c .before .loop .i ≡ 7 = omega arith in
-    fill-all _ 0 7 (c .before .loop .next) (rw e at (c .before .loop .inv .1))
+    let e : c .before .loop .i ≡ scenarioCount = omega arith in
+    fill-all _ 0 scenarioCount (c .before .loop .next) (rw e at (c .before .loop .inv .1))
 
 pub next-in-chain-spec : {M : Type 1} → statement M
 next-in-chain-spec =

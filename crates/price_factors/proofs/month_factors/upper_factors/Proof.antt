@@ -5,23 +5,24 @@ use native.Mathlib.Numerals.{add-one}
 use native.Mathlib.Omega.{arith}
 use lib.ListN.{getD}
 use Rattle.lists.proofs.FillLaws.{Filled, fill-none, fill-more, fill-all}
+use Rattle.form.specs.Shift.{scenarioCount}
 use Rattle.pricing.specs.Scales.{par}
 use Rattle.pricing.specs.Rounding.{roundingOf}
 use Rattle.price_factors.proofs.month_factors.upper_factors.Statement.{statement}
 use Rattle.price_factors.proofs.month_factors.upper_factors.Tie as tie
 
 abbrev Inv-loop : tie.InvT-loop
-Inv-loop above n chain factors₀ i₀ factors i = (i ≤ 7) × Filled (λ (j : ℕ). suc (getD chain j 0)) 0 7 i factors
+Inv-loop above n chain factors₀ i₀ factors i = (i ≤ scenarioCount) × Filled (λ (j : ℕ). suc (getD chain j 0)) 0 scenarioCount i factors
 
 abbrev μ-loop : tie.MeasureT-loop
-μ-loop above n chain factors₀ i₀ factors i = 7 - i
+μ-loop above n chain factors₀ i₀ factors i = scenarioCount - i
 
 chained-requires : tie.Need-chained-requires Inv-loop μ-loop
 unfolding roundingOf
 chained-requires c κs = c .pre
 
 loop-holds : tie.Need-loop-holds Inv-loop μ-loop
-loop-holds c = (omega arith, fill-none _ 0 0 7)
+loop-holds c = (omega arith, fill-none _ 0 0 scenarioCount)
 
 mul-factors : tie.Need-mul-factors Inv-loop μ-loop
 mul-factors c = omega arith
@@ -49,13 +50,13 @@ loop-less : tie.Need-loop-less Inv-loop μ-loop
 loop-less c = omega arith
 
 loop-again : tie.Need-loop-again Inv-loop μ-loop
-loop-again c = (omega arith, fill-more _ 0 7 _ _ _ (omega arith) (add-one _) (c .before .loop .inv .1))
+loop-again c = (omega arith, fill-more _ 0 scenarioCount _ _ _ (omega arith) (add-one _) (c .before .loop .inv .1))
 
 returns : tie.Need-returns Inv-loop μ-loop
 unfolding roundingOf
 returns c =
-    let e : c .before .loop .i ≡ 7 = omega arith in
-    fill-all _ 0 7 (c .before .loop .factors) (rw e at (c .before .loop .inv .1)) ∙ rw (c .before .before .chained .ensures)
+    let e : c .before .loop .i ≡ scenarioCount = omega arith in
+    fill-all _ 0 scenarioCount (c .before .loop .factors) (rw e at (c .before .loop .inv .1)) ∙ rw (c .before .before .chained .ensures)
 
 pub upper-factors-spec : {M : Type 1} → statement M
 upper-factors-spec =

@@ -3,6 +3,8 @@ use Prim.Native.Nat.{suc, _+_, _*_, _-_, _<_}
 use mathlib.Core.Path.{_≡_, refl}
 use native.Mathlib.Numerals.{add-one}
 use native.Mathlib.Omega.{arith}
+use Rattle.form.specs.Shift.{scenarioCount}
+use Rattle.form.specs.Counts.{factorCount}
 use Rattle.pricing.specs.Rounding.{down, up}
 use Rattle.price_months.specs.Walks.{walkedBy}
 use Rattle.price_months.proofs.walk.early_months.Statement.{statement}
@@ -30,7 +32,7 @@ early : (c : tie.In-loop Inv-loop μ-loop) → suc (c .before .loop .t) < c .bef
 early c = omega (arith, c .loop-test .taken)
 
 -- the index of its factor
-factor-index : (c : tie.In-loop Inv-loop μ-loop) → 7 * c .before .loop .t + c .before .before .args .scenario < 840
+factor-index : (c : tie.In-loop Inv-loop μ-loop) → scenarioCount * c .before .loop .t + c .before .before .args .scenario < factorCount
 factor-index c = let start = c .before .before in omega (arith, c .loop-test .taken, start .pre .0 .1, start .pre .0 .2)
 
 multipliers-at-requires : tie.Need-multipliers-at-requires Inv-loop μ-loop

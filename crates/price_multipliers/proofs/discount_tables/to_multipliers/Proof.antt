@@ -5,6 +5,7 @@ use native.Mathlib.Omega.{arith}
 use lib.ListN.{getD}
 use lib.Seq.{getD-set-other}
 use Rattle.lists.proofs.FillLaws.{FilledBy, filled-start, filled-more}
+use Rattle.form.specs.Counts.{factorCount}
 use Rattle.price_multipliers.specs.Multipliers.{discountMultiplier}
 use Rattle.pricing.specs.Rounding.{roundingOf}
 use Rattle.price_multipliers.proofs.discount_tables.to_multipliers.Statement.{statement}
@@ -12,7 +13,7 @@ use Rattle.price_multipliers.proofs.discount_tables.to_multipliers.Tie 
 
 abbrev Inv-loop : tie.InvT-loop
 Inv-loop months up count factors i₀ list i =
-    (i ≤ count) × FilledBy (λ (j n : ℕ). n ≡ discountMultiplier (roundingOf up) (getD factors j 0)) 0 840 i list × ((j : ℕ) → i ≤ j → getD list j 0 ≡ getD factors j 0)
+    (i ≤ count) × FilledBy (λ (j n : ℕ). n ≡ discountMultiplier (roundingOf up) (getD factors j 0)) 0 factorCount i list × ((j : ℕ) → i ≤ j → getD list j 0 ≡ getD factors j 0)
 
 abbrev μ-loop : tie.MeasureT-loop
 μ-loop months up count factors i₀ list i = count - i
@@ -50,7 +51,7 @@ loop-again c =
     let i = at .loop .i in
     let multiplier = c .discount-multiplier .result in (
       omega arith,
-      filled-more _ 0 840 i (at .loop .list) multiplier (omega (arith, at .before .before .pre .1)) (c .discount-multiplier .ensures ∙ rw (at .loop .inv .2 i (omega arith)))
+      filled-more _ 0 factorCount i (at .loop .list) multiplier (omega (arith, at .before .before .pre .1)) (c .discount-multiplier .ensures ∙ rw (at .loop .inv .2 i (omega arith)))
           (at .loop .inv .1),
       λ j h. getD-set-other (at .loop .list) i j multiplier 0 (λ e. omega (arith, e, h)) ∙ at .loop .inv .2 j (omega (arith, h)),
     )

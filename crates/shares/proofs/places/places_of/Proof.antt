@@ -8,6 +8,7 @@ use borrow.Author.Needs.{needs}
 use Rattle.lists.proofs.FillLaws.{Filled, fill-none, fill-all}
 use Rattle.filing_cells.specs.ValidCells.{ValidCells}
 use Rattle.form.specs.Places.{noPlace}
+use Rattle.form.specs.PlaceOrder.{subBalanceCount}
 use Rattle.shares.specs.Places.{placeAt, placesOf}
 use Rattle.shares.specs.Inner.ShareRows.{RowWithin}
 use Rattle.shares.proofs.RowLaws.{row-within}
@@ -16,13 +17,13 @@ use Rattle.shares.proofs.places.places_of.Statement.{statement}
 use Rattle.shares.proofs.places.places_of.Tie as tie
 
 abbrev Inv-loop : tie.InvT-loop
-Inv-loop cells sums places₀ i₀ places i = (i ≤ 9) × Filled (placeAt cells) noPlace 36 (4 * i) places
+Inv-loop cells sums places₀ i₀ places i = (i ≤ 9) × Filled (placeAt cells) noPlace subBalanceCount (4 * i) places
 
 abbrev μ-loop : tie.MeasureT-loop
 μ-loop cells sums places₀ i₀ places i = 9 - i
 
 loop-holds : tie.Need-loop-holds Inv-loop μ-loop
-loop-holds c = (omega arith, fill-none (placeAt _) noPlace noPlace 36)
+loop-holds c = (omega arith, fill-none (placeAt _) noPlace noPlace subBalanceCount)
 
 -- what holds at the loop's head: the cells are valid
 valid : (c : tie.At-loop Inv-loop μ-loop) → ValidCells (c .before .args .cells .now)
@@ -120,8 +121,8 @@ loop-again c =
 returns : tie.Need-returns Inv-loop μ-loop
 unfolding placesOf
 returns c =
-    let e : 4 * c .before .loop .i ≡ 36 = omega arith in
-    fill-all (placeAt _) noPlace 36 _ (rw e at (c .before .loop .inv .1))
+    let e : 4 * c .before .loop .i ≡ subBalanceCount = omega arith in
+    fill-all (placeAt _) noPlace subBalanceCount _ (rw e at (c .before .loop .inv .1))
 
 pub places-of-spec : {M : Type 1} → statement M
 places-of-spec =

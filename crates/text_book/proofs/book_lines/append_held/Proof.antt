@@ -2,6 +2,7 @@
 use native.Mathlib.Omega.{arith}
 use mathlib.Core.Path.{_≡_}
 use lib.ListN.{length}
+use Rattle.form.specs.Counts.{placeValueCount}
 use Rattle.text_book.specs.BookLines.{heldLine}
 use borrow.Author.Needs.{needs}
 use Rattle.text_book.proofs.book_lines.append_held.Statement.{statement}
@@ -13,7 +14,7 @@ slice-aggregate-append-numbers c = search needs
 append-numbers-requires : tie.Need-append-numbers-requires
 append-numbers-requires c κs =
     let s = c .before .before .before .before in
-    let n : 14 ≡ length (s .args .held .values) = slice-aggregate-append-numbers c in
+    let n : placeValueCount ≡ length (s .args .held .values) = slice-aggregate-append-numbers c in
     (omega (arith, s .pre), omega (arith, n))
 
 same-length : tie.Need-same-length

@@ -3,6 +3,7 @@ use Prim.Native.Nat.{_-_, _≤_}
 use mathlib.Core.Path.{refl, ap}
 use native.Mathlib.Omega.{arith}
 use lib.ListN.{length, length-append}
+use Rattle.form.specs.Shift.{scenarioCount}
 use Rattle.text_listing.specs.TotalLines.{linesIn}
 use Rattle.text.proofs.AppendLaws.{Remaining, remaining-all, remaining-less, remaining-last}
 use Rattle.text_listing.proofs.TotalLineLaws.{linesFrom, lines-next, lines-end, lines-length}
@@ -10,10 +11,10 @@ use Rattle.text_listing.proofs.total_lines.append_scenarios.Statement.{
 use Rattle.text_listing.proofs.total_lines.append_scenarios.Tie as tie
 
 abbrev Inv-loop : tie.InvT-loop
-Inv-loop out₀ at numbers from end₀ scenario₀ out end scenario = (scenario ≤ 7) × Remaining out₀ at (linesIn numbers from) out end (linesFrom numbers from scenario)
+Inv-loop out₀ at numbers from end₀ scenario₀ out end scenario = (scenario ≤ scenarioCount) × Remaining out₀ at (linesIn numbers from) out end (linesFrom numbers from scenario)
 
 abbrev μ-loop : tie.MeasureT-loop
-μ-loop out₀ at numbers from end₀ scenario₀ out end scenario = 7 - scenario
+μ-loop out₀ at numbers from end₀ scenario₀ out end scenario = scenarioCount - scenario
 
 loop-holds : tie.Need-loop-holds Inv-loop μ-loop
 unfolding linesIn

@@ -3,15 +3,16 @@ use Prim.Native.Nat.{_-_, _≤_}
 use mathlib.Core.Path.{_≡_, refl}
 use native.Mathlib.Numerals.{add-one}
 use native.Mathlib.Omega.{arith}
+use Rattle.form.specs.PlaceOrder.{subBalanceCount}
 use Rattle.value_places.specs.Inner.LongestTerm.{longestTo, longestTerm}
 use Rattle.value_places.proofs.longest_term.longest_term.Statement.{statement}
 use Rattle.value_places.proofs.longest_term.longest_term.Tie as tie
 
 abbrev Inv-loop : tie.InvT-loop
-Inv-loop places longest₀ i₀ longest i = (i ≤ 36) × (longest ≡ longestTo places i)
+Inv-loop places longest₀ i₀ longest i = (i ≤ subBalanceCount) × (longest ≡ longestTo places i)
 
 abbrev μ-loop : tie.MeasureT-loop
-μ-loop places longest₀ i₀ longest i = 36 - i
+μ-loop places longest₀ i₀ longest i = subBalanceCount - i
 
 loop-holds : tie.Need-loop-holds Inv-loop μ-loop
 unfolding longestTo
@@ -41,7 +42,7 @@ loop-again c = (omega arith, rw (add-one, c .greater .ensures, c .before .term-o
 
 returns : tie.Need-returns Inv-loop μ-loop
 unfolding longestTerm
-returns c = let e : c .before .loop .i ≡ 36 = omega arith in rw (c .before .loop .inv .1, e)
+returns c = let e : c .before .loop .i ≡ subBalanceCount = omega arith in rw (c .before .loop .inv .1, e)
 
 pub longest-term-spec : {M : Type 1} → statement M
 longest-term-spec =

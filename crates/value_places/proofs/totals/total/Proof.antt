@@ -5,6 +5,7 @@ use native.Mathlib.Omega.{arith}
 use Rattle.lists.specs.Sums.{sum}
 use Rattle.lists.specs.Tables.{tableFrom}
 use Rattle.lists.proofs.SumLaws.{sum-table-suc}
+use Rattle.form.specs.Counts.{placeNumberCount}
 use Rattle.value_places.specs.RowTotals.{valueLimit, numberAt}
 use Rattle.value_places.proofs.totals.total.Statement.{statement}
 use Rattle.value_places.proofs.totals.total.Tie as tie
@@ -38,7 +39,7 @@ add-sum-3 : tie.Need-add-sum-3 Inv-loop μ-loop
 add-sum-3 c =
     let start = c .before .before .before in
     let a = start .args in
-    omega (arith, start .pre .0 .within (15 * (a .first + c .before .before .loop .i) + a .r) (omega arith))
+    omega (arith, start .pre .0 .within (placeNumberCount * (a .first + c .before .before .loop .i) + a .r) (omega arith))
 
 add-i : tie.Need-add-i Inv-loop μ-loop
 add-i c = omega arith
@@ -52,7 +53,7 @@ loop-again c =
     let start = c .before .before .before in
     let a = start .args in
     let i = c .before .before .loop .i in
-    let limit = start .pre .0 .within (15 * (a .first + i) + a .r) (omega arith) in
+    let limit = start .pre .0 .within (placeNumberCount * (a .first + i) + a .r) (omega arith) in
     (omega arith, omega arith, omega (arith, sum-table-suc (a .first) i (numberAt (a .list .now) (a .r))))
 
 returns : tie.Need-returns Inv-loop μ-loop

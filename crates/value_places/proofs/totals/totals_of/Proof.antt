@@ -6,16 +6,18 @@ use native.Mathlib.Omega.{arith}
 use lib.ListN.{replicate}
 use Rattle.lists.specs.Tables.{tableFrom, table, joined}
 use Rattle.lists.proofs.RunLaws.{Overwritten, overwritten-none, overwritten-row, overwritten-all}
+use Rattle.form.specs.Shift.{scenarioCount}
+use Rattle.form.specs.Counts.{totalCount}
 use Rattle.value_places.specs.RowTotals.{rowTotals}
 use Rattle.value_places.proofs.TotalLaws.{rowTotals-length}
 use Rattle.value_places.proofs.totals.totals_of.Statement.{statement}
 use Rattle.value_places.proofs.totals.totals_of.Tie as tie
 
 abbrev Inv-loop : tie.InvT-loop
-Inv-loop list totals₀ scenario₀ totals scenario = (scenario ≤ 7) × Overwritten (joined (table scenario (rowTotals list))) (4 * scenario) (replicate 28 0) totals
+Inv-loop list totals₀ scenario₀ totals scenario = (scenario ≤ scenarioCount) × Overwritten (joined (table scenario (rowTotals list))) (4 * scenario) (replicate totalCount 0) totals
 
 abbrev μ-loop : tie.MeasureT-loop
-μ-loop list totals₀ scenario₀ totals scenario = 7 - scenario
+μ-loop list totals₀ scenario₀ totals scenario = scenarioCount - scenario
 
 loop-holds : tie.Need-loop-holds Inv-loop μ-loop
 unfolding tableFrom joined
@@ -49,13 +51,13 @@ loop-again c =
     let state = at .loop in (
       omega arith,
       rw (c .before .write .ensures) (overwritten-row [] (rowTotals (at .before .before .args .list .now)) 4 (rowTotals-length _) (state .scenario)
-          (4 * state .scenario) (4 * (state .scenario + 1)) (replicate 28 0) (state .totals) (four .scenario-totals .result) (state .inv .1)
+          (4 * state .scenario) (4 * (state .scenario + 1)) (replicate totalCount 0) (state .totals) (four .scenario-totals .result) (state .inv .1)
           (four .scenario-totals .ensures) (omega arith) (omega arith)),
     )
 
 returns : tie.Need-returns Inv-loop μ-loop
 returns c =
-    let e : c .before .loop .scenario ≡ 7 = omega arith in
+    let e : c .before .loop .scenario ≡ scenarioCount = omega arith in
     overwritten-all _ _ _ _ (c .before .loop .inv .1) (omega arith) ∙ rw e
 
 pub totals-of-spec : {M : Type 1} → statement M

@@ -2,7 +2,7 @@
 use Prim.Native.Nat.{ℕ, _-_, _≤_}
 use mathlib.Core.Path.{_≡_, ap, _∙_}
 use native.Mathlib.Omega.{arith}
-use Rattle.form.specs.Shift.{shiftedRate, shiftedLimit}
+use Rattle.form.specs.Shift.{shiftedRate, shiftedLimit, scenarioCount}
 use Rattle.form.proofs.ShiftLaws.{shifted-rate-le}
 use Rattle.withdrawal.specs.Inner.Incentives.{incentiveFrom}
 use Rattle.withdrawal.proofs.IncentiveLaws.{incentive-small}
@@ -14,13 +14,13 @@ use Rattle.withdrawal_months.proofs.month_levels.month_levels.Tie as ti
 
 abbrev Inv-loop : tie.InvT-loop
 Inv-loop brokered count edges parts rate left levels₀ i₀ levels i =
-    (i ≤ 7) × FilledBy (λ (j : ℕ) (p : ℕ). LevelFor brokered count edges (incentiveFrom parts (shiftedRate j rate) left) p) 0 7 i levels
+    (i ≤ scenarioCount) × FilledBy (λ (j : ℕ) (p : ℕ). LevelFor brokered count edges (incentiveFrom parts (shiftedRate j rate) left) p) 0 scenarioCount i levels
 
 abbrev μ-loop : tie.MeasureT-loop
-μ-loop brokered count edges parts rate left levels₀ i₀ levels i = 7 - i
+μ-loop brokered count edges parts rate left levels₀ i₀ levels i = scenarioCount - i
 
 loop-holds : tie.Need-loop-holds Inv-loop μ-loop
-loop-holds c = (omega arith, filled-none _ 0 0 7)
+loop-holds c = (omega arith, filled-none _ 0 0 scenarioCount)
 
 cast-loop : tie.Need-cast-loop Inv-loop μ-loop
 cast-loop c = omega arith
@@ -84,7 +84,7 @@ loop-less c = omega arith
 loop-again : tie.Need-loop-again Inv-loop μ-loop
 loop-again c =
     let at = c .before .before .before .before .before in
-    (omega arith, filled-more _ 0 7 (at .loop .i) (at .loop .levels) (c .level-for .result) (omega arith) (levelled c) (at .loop .inv .1))
+    (omega arith, filled-more _ 0 scenarioCount (at .loop .i) (at .loop .levels) (c .level-for .result) (omega arith) (levelled c) (at .loop .inv .1))
 
 returns : tie.Need-returns Inv-loop μ-loop
 returns c i h = c .before .loop .inv .1 .holds i (omega arith)
