@@ -11,7 +11,7 @@ ghost use Rattle.certificate_cells.specs.Cells.{isPresent, valueOf};
 ghost use Rattle.certificate_cells.specs.Inner.Listing.{Bounded};
 
 // What a cell holds.
-pub fn value_of(totals: Totals, e: FormCell) -> u64
+pub(crate) fn value_of(totals: Totals, e: FormCell) -> u64
     requires { ⌜ Bounded totals ⌝ }
     ensures { λ r. ⌜ r ≡ valueOf totals e ⌝ }
 {
@@ -33,7 +33,7 @@ pub fn value_of(totals: Totals, e: FormCell) -> u64
 }
 
 // A cell is handed back.
-pub fn is_present(totals: Totals, e: FormCell) -> bool
+pub(crate) fn is_present(totals: Totals, e: FormCell) -> bool
     ensures { λ r. ⌜ r ≡ isPresent totals e ⌝ }
 {
     if e.cell == TOTAL_CELL {

@@ -7,7 +7,7 @@ ghost use mathlib.Core.Path.{_≡_};
 ghost use Rattle.certificate_cells.specs.Cells.{positionWith, isOfPosition, formCell, isFilled};
 
 // A cell with its class and the index of its position.
-pub fn form_cell(cell: usize) -> FormCell
+pub(crate) fn form_cell(cell: usize) -> FormCell
     ensures { λ r. ⌜ r ≡ formCell cell ⌝ }
 {
     FormCell {
@@ -40,7 +40,7 @@ fn is_of_position(i: usize, cell: usize) -> bool
 }
 
 // A balance, a coupon, remaining months or the total.
-pub fn is_filled(cell: usize) -> bool
+pub(crate) fn is_filled(cell: usize) -> bool
     ensures { λ r. ⌜ r ≡ isFilled cell ⌝ }
 {
     let class = cell_class(cell as u64);

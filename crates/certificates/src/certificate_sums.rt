@@ -24,7 +24,7 @@ pub struct Scanned {
     pub totals: Totals,
 }
 
-pub fn scan(valuation: Date, certificates: &[u64]) -> Scanned
+pub(crate) fn scan(valuation: Date, certificates: &[u64]) -> Scanned
     ensures { λ r. ⌜ verdictOf (r .answer) ≡ eachVerdict valuation (now (certificates .entry)) ⌝ }
     ensures { λ r. ⌜ r .totals ≡ totalsOf valuation (now (certificates .entry)) (summedCount (verdictOf (r .answer)) (certificateCount (now (certificates .entry)))) ⌝ }
 {

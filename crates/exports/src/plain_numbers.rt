@@ -14,7 +14,7 @@ ghost use Rattle.answers.specs.Answers.{numberOf, locationOf};
 ghost use Rattle.exports.specs.CellNumbers.{numbersOf};
 
 // The number of an answer, with its location in a lent number: 0 and 0 for acceptance.
-pub fn answer_numbers(answer: Answer, at: &mut u64) -> u64
+pub(crate) fn answer_numbers(answer: Answer, at: &mut u64) -> u64
     ensures { λ r. ⌜ (r ≡ numberOf answer) × (now (at .exit) ≡ locationOf answer) ⌝ }
 {
     *at = location(answer) as u64;
@@ -22,7 +22,7 @@ pub fn answer_numbers(answer: Answer, at: &mut u64) -> u64
 }
 
 // Writes the cells of an answer that refuses nothing.
-pub fn write_cells(filled: Cells, list: &mut [u64; 56])
+pub(crate) fn write_cells(filled: Cells, list: &mut [u64; 56])
     ensures { λ _. ⌜ now (list .exit) ≡ cond (eqb (numberOf (filled .answer)) 0) (numbersOf (filled .cells)) (now (list .entry)) ⌝ }
 {
     let answer = filled.answer;
@@ -47,7 +47,7 @@ fn cell_numbers(cells: [CellValue; 28]) -> [u64; 56]
 }
 
 // Writes the totals of a book where nothing is refused: the number of the answer is 0.
-pub fn write_totals(refused: u64, balance: u64, totals: &[u64; TOTALS], list: &mut [u64; 29])
+pub(crate) fn write_totals(refused: u64, balance: u64, totals: &[u64; TOTALS], list: &mut [u64; 29])
     ensures { λ _. ⌜ now (list .exit) ≡ cond (eqb refused 0) (balance ∷ now (totals .entry)) (now (list .entry)) ⌝ }
 {
     if refused == 0 {

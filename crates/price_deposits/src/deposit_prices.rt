@@ -24,7 +24,7 @@ pub struct Bounds {
 }
 
 // Lower and upper value in a scenario.
-pub fn value_bounds<'a>(
+pub(crate) fn value_bounds<'a>(
     balance: u64,
     months: u64,
     levels: &Levels,
@@ -99,7 +99,7 @@ fn price_of<'a>(
 }
 
 // The growth of a coupon.
-pub fn coupon_growth(coupon: u64) -> u64
+pub(crate) fn coupon_growth(coupon: u64) -> u64
     requires { ⌜ coupon ≤ couponLimit ⌝ }
     ensures { λ r. ⌜ r ≡ couponGrowth * coupon ⌝ }
 {

@@ -11,7 +11,7 @@ ghost use Rattle.pricing.specs.Inner.Multipliers.{nextBy, nextAllBy, firstBy, c
 
 // Seven chains of n multiplications each: of lower factors, from par, or of one less than upper factors, so that 1 is added before a multiplication and not
 // after it.
-pub fn chained(multipliers: &[u64; SCENARIOS], n: u64, up: bool) -> [u64; SCENARIOS]
+pub(crate) fn chained(multipliers: &[u64; SCENARIOS], n: u64, up: bool) -> [u64; SCENARIOS]
     requires { ⌜ ((i : ℕ) → AtMost par (chainedBy (roundingOf up) (now multipliers) i)) ⌝ }
     ensures { λ r. ⌜ r ≡ chainedBy (roundingOf up) (now (multipliers .entry)) n ⌝ }
 {

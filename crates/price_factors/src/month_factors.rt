@@ -15,7 +15,7 @@ ghost use Rattle.pricing.specs.Inner.Multipliers.{multipliersBy, chainedBy, fac
 
 // The lower discount factors of seven rates after n monthly factors each, in billionths, from the multipliers of the upper ones. The rates, CD yields, are in
 // hundredths of a percent a year.
-pub fn lower_factors(
+pub(crate) fn lower_factors(
     rates: &[u64; SCENARIOS],
     above: &[u64; SCENARIOS],
     n: u64,
@@ -35,7 +35,7 @@ pub fn lower_factors(
 }
 
 // The upper discount factors of seven rates after n monthly factors each, in billionths, from their multipliers: 1 more than their chains.
-pub fn upper_factors(above: &[u64; SCENARIOS], n: u64) -> [u64; SCENARIOS]
+pub(crate) fn upper_factors(above: &[u64; SCENARIOS], n: u64) -> [u64; SCENARIOS]
     requires { ⌜ ((i : ℕ) → AtMost par (chainedBy up (now above) i)) ⌝ }
     ensures { λ r. ⌜ r ≡ table scenarioCount (λ i. suc (getD (chainedBy up (now (above .entry)) n) i 0)) ⌝ }
 {

@@ -14,7 +14,7 @@ const RATE_SCALE: u64 = 120_000;
 const LARGEST: u64 = 18_446_744_073_709_551_615;
 
 // The multipliers of seven rates for their upper factors: too low by less than a factor can bring out. Each rate is divided by once.
-pub fn upper_multipliers(rates: &[u64; SCENARIOS]) -> [u64; SCENARIOS]
+pub(crate) fn upper_multipliers(rates: &[u64; SCENARIOS]) -> [u64; SCENARIOS]
     requires { ⌜ AtMost shiftedLimit (now rates) ⌝ }
     ensures { λ r. ⌜ r ≡ multipliersBy up (now (rates .entry)) ⌝ }
 {
@@ -36,7 +36,7 @@ fn upper_multiplier(rate: u64) -> u64
 }
 
 // The multipliers for the lower factors, from those for the upper ones.
-pub fn lower_multipliers(
+pub(crate) fn lower_multipliers(
     rates: &[u64; SCENARIOS],
     above: &[u64; SCENARIOS],
 ) -> [u64; SCENARIOS]

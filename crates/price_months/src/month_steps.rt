@@ -10,7 +10,7 @@ ghost use Rattle.pricing.specs.Rounding.{down, up};
 ghost use Rattle.price_multipliers.specs.Multipliers.{carriedOf, paidBy, leftBy, productBy, stepBy, lastBy, monthLimit};
 
 // The lower run after a month in which the balance is not yet paid.
-pub fn next_lower(run: Run, m: MonthMultipliers, discount: u64) -> Run
+pub(crate) fn next_lower(run: Run, m: MonthMultipliers, discount: u64) -> Run
     requires { ⌜ (run .balance ≤ amountLimit) × (run .price ≤ amountLimit) ⌝ }
     ensures { λ r. ⌜ r ≡ stepBy down m discount run ⌝ }
 {
@@ -33,7 +33,7 @@ pub fn last_lower(run: Run, m: MonthMultipliers, discount: u64) -> u64
 }
 
 // The upper run after a month in which the balance is not yet paid.
-pub fn next_upper(run: Run, m: MonthMultipliers, discount: u64) -> Run
+pub(crate) fn next_upper(run: Run, m: MonthMultipliers, discount: u64) -> Run
     requires { ⌜ (run .balance ≤ amountLimit) × (run .price ≤ amountLimit) ⌝ }
     requires { ⌜ (0 < m .paid) × (m .carried ≡ carriedOf (m .left)) ⌝ }
     ensures { λ r. ⌜ r ≡ stepBy up m discount run ⌝ }

@@ -75,7 +75,7 @@ fn carried_of(left: u64) -> u64
 }
 
 // What a table holds of a discount factor in billionths: its multiplier, and in an upper table one less.
-pub fn discount_multiplier(factor: u64, up: bool) -> u64
+pub(crate) fn discount_multiplier(factor: u64, up: bool) -> u64
     requires { ⌜ factor ≤ par ⌝ }
     ensures { λ r. ⌜ r ≡ discountMultiplier (roundingOf up) factor ⌝ }
 {

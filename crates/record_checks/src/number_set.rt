@@ -6,7 +6,7 @@ ghost use Rattle.record_checks.specs.Members.{member, withMember};
 pub const WORDS: usize = 1_024;
 
 // The number is in the set.
-pub fn holds(set: &[u64; WORDS], n: u16) -> bool
+pub(crate) fn holds(set: &[u64; WORDS], n: u16) -> bool
     ensures { λ r. ⌜ r ≡ member (now (set .entry)) n ⌝ }
 {
     let i = (n / 64) as usize;
@@ -14,7 +14,7 @@ pub fn holds(set: &[u64; WORDS], n: u16) -> bool
 }
 
 // Puts a number into the set.
-pub fn put(set: &mut [u64; WORDS], n: u16)
+pub(crate) fn put(set: &mut [u64; WORDS], n: u16)
     ensures { λ r. ⌜ now (set .exit) ≡ withMember (now (set .entry)) n ⌝ }
 {
     let i = (n / 64) as usize;

@@ -14,7 +14,7 @@ ghost use Rattle.record_offsets.specs.Inner.Notes.{blockCount, notedBefore};
 ghost use Rattle.record_checks.specs.Inner.Repetitions.{repeats, repetitionsBelow};
 
 // The first record before `end` that amends a cell with a number that an earlier one has: `end` where there is none.
-pub fn first_repetition(s: &[u8], falling: &[bool; BLOCKS], end: usize) -> usize
+pub(crate) fn first_repetition(s: &[u8], falling: &[bool; BLOCKS], end: usize) -> usize
     requires { ⌜ (end ≤ length (now s)) × (now falling ≡ notedBefore (now s) end .falling) ⌝ }
     ensures { λ r. ⌜ r ≡ repetitionsBelow (now (s .entry)) blockCount end ⌝ }
 {

@@ -24,7 +24,7 @@ pub struct Scanned {
 }
 
 // Reads the records up to the first faulty one, each once, and notes those before it.
-pub fn scan(
+pub(crate) fn scan(
     s: &[u8],
     sheets: &mut [usize; KINDS],
     cells: &mut [usize; CELLS],

@@ -19,7 +19,7 @@ pub struct Row {
 }
 
 // The four sub-balances of a row.
-pub fn row_shares(row: Row) -> [u64; 4]
+pub(crate) fn row_shares(row: Row) -> [u64; 4]
     requires { ⌜ RowWithin row ⌝ }
     ensures { λ r. ⌜ r ≡ rowShares row ⌝ }
 {

@@ -17,7 +17,7 @@ use test_lines::verdicts::print_answer;
 const CALL: usize = 48;
 
 // An input has the length of a filing, 8 bytes, the filing, and the calls.
-pub fn print_book(input: &[u8]) {
+pub(crate) fn print_book(input: &[u8]) {
     let n = number_at(input, 0) as usize;
     if 8 <= input.len() {
         print_parts(&input[8..], n);

@@ -9,7 +9,7 @@ ghost use Prim.Native.Nat.{_≤_};
 const NUMBERS: usize = 8192;
 
 // An input has numbers of 8 bytes: year, month and day of the valuation date, and eight for each certificate.
-pub fn print_certificates(input: &[u8]) {
+pub(crate) fn print_certificates(input: &[u8]) {
     let mut numbers = [0u64; NUMBERS];
     for i in 0..NUMBERS {
         numbers[i] = number_at(input, 24 + 8 * i);

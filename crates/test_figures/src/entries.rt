@@ -17,7 +17,7 @@ const ROOM: usize = 65537;
 const MISSING: usize = 18446744073709551615;
 
 // Prints each entry, counted from 0.
-pub fn print_entries() {
+pub(crate) fn print_entries() {
     for i in 0..18446744073709551615 {
         if !print_entry(i) {
             break;

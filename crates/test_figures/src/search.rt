@@ -9,7 +9,7 @@ use withdrawal_filing::tier_search::TierAnswer;
 use withdrawal_filing::tier_search::tier_for;
 
 // Prints the tier that is reached. An input has what the gain adds, what it takes off and the cost, 8 bytes each, and the filing.
-pub fn print_search(input: &[u8]) {
+pub(crate) fn print_search(input: &[u8]) {
     if 24 <= input.len() {
         let incentive = Incentive {
             earned: number_at(input, 0),

@@ -6,7 +6,7 @@ use test_lines::verdicts::print_answer;
 ghost use Prim.Native.Nat.{_≤_};
 
 // Splits a filing into a list of `places` places, 40 at most.
-pub fn print_splitting(filing: &[u8], places: usize) {
+pub(crate) fn print_splitting(filing: &[u8], places: usize) {
     let lent = at_most_40(places);
     let done = split_first(filing, [SEVENS; 40], lent);
     let answer = done.answer;

@@ -3,7 +3,7 @@ use test_lines::values::print_left;
 use test_lines::verdicts::print_answer;
 
 // Values a filing with a list of `numbers` numbers, 600 at most.
-pub fn print_valuing(filing: &[u8], numbers: usize) {
+pub(crate) fn print_valuing(filing: &[u8], numbers: usize) {
     let mut list = [7u64; 600];
     print_first(filing, &mut list, numbers);
 }

@@ -22,7 +22,7 @@ ghost use Rattle.text_listing.specs.TotalLines.{linesIn};
 ghost use Rattle.text_book.specs.BookLines.{openedLine, okLine, unreadableReply, answerLine, heldLine};
 
 // The line of a filing that a book is opened under: `opened`, or its refusal.
-pub fn append_opened(out: &mut [u8], answer: Answer) -> usize
+pub(crate) fn append_opened(out: &mut [u8], answer: Answer) -> usize
     requires { ⌜ 50 ≤ length (now out) ⌝ }
     ensures { λ r. ⌜ Appended (now (out .entry)) 0 (answerLine openedLine (verdictOf answer)) (now (out .exit)) r × (r ≤ 50) ⌝ }
 {
@@ -30,7 +30,7 @@ pub fn append_opened(out: &mut [u8], answer: Answer) -> usize
 }
 
 // The line of a change: `ok`, or its refusal.
-pub fn append_change(out: &mut [u8], answer: Answer) -> usize
+pub(crate) fn append_change(out: &mut [u8], answer: Answer) -> usize
     requires { ⌜ 50 ≤ length (now out) ⌝ }
     ensures { λ r. ⌜ Appended (now (out .entry)) 0 (answerLine okLine (verdictOf answer)) (now (out .exit)) r × (r ≤ 50) ⌝ }
 {
@@ -38,7 +38,7 @@ pub fn append_change(out: &mut [u8], answer: Answer) -> usize
 }
 
 // The line of a line that says no command.
-pub fn append_unreadable(out: &mut [u8]) -> usize
+pub(crate) fn append_unreadable(out: &mut [u8]) -> usize
     requires { ⌜ 50 ≤ length (now out) ⌝ }
     ensures { λ r. ⌜ Appended (now (out .entry)) 0 unreadableReply (now (out .exit)) r × (r ≤ 50) ⌝ }
 {
@@ -57,7 +57,7 @@ fn append_answer(out: &mut [u8], answer: Answer, accepted: &[u8]) -> usize
 }
 
 // What a place holds.
-pub fn append_held(out: &mut [u8], held: SubBalance) -> usize
+pub(crate) fn append_held(out: &mut [u8], held: SubBalance) -> usize
     requires { ⌜ 644 ≤ length (now out) ⌝ }
     ensures { λ r. ⌜ Appended (now (out .entry)) 0 (heldLine held) (now (out .exit)) r × (r ≤ 644) ⌝ }
 {
@@ -92,7 +92,7 @@ fn append_numbers(
 }
 
 // The balance total and the lines of the seven scenarios.
-pub fn append_totals(out: &mut [u8], balance: u64, totals: &[u64; TOTALS]) -> usize
+pub(crate) fn append_totals(out: &mut [u8], balance: u64, totals: &[u64; TOTALS]) -> usize
     requires { ⌜ 644 ≤ length (now out) ⌝ }
     ensures { λ r. ⌜ Appended (now (out .entry)) 0 ((decimal balance ++ (10 ∷ [])) ++ linesIn (now (totals .entry)) 0) (now (out .exit)) r × (r ≤ 644) ⌝ }
 {

@@ -9,7 +9,7 @@ ghost use Rattle.text_book.specs.Commands.{isTotals, beginsWith};
 ghost use Rattle.text_book.specs.Inner.Said.{Said};
 
 // The numbers behind a word, where they are of their form and end the line.
-pub fn numbers_behind(line: &[u8], word: &[u8], form: &[u8]) -> Line
+pub(crate) fn numbers_behind(line: &[u8], word: &[u8], form: &[u8]) -> Line
     requires { ⌜ length (now form) ≤ 8 ⌝ }
     ensures { λ r. ⌜ Said (now (line .entry)) (now (word .entry)) (now (form .entry)) r ⌝ }
 {
@@ -29,7 +29,7 @@ pub fn numbers_behind(line: &[u8], word: &[u8], form: &[u8]) -> Line
 }
 
 // The one word `totals`.
-pub fn is_totals(line: &[u8]) -> bool
+pub(crate) fn is_totals(line: &[u8]) -> bool
     ensures { λ r. ⌜ r ≡ isTotals (now (line .entry)) ⌝ }
 {
     if line.len() != 6 {

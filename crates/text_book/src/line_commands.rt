@@ -6,7 +6,7 @@ ghost use mathlib.Core.Path.{_≡_};
 ghost use Rattle.text_book.specs.Commands.{commandOf};
 
 // The command of a line without its line feed.
-pub fn command_of(line: &[u8]) -> Command
+pub(crate) fn command_of(line: &[u8]) -> Command
     ensures { λ r. ⌜ r ≡ commandOf (now (line .entry)) ⌝ }
 {
     if 1024 < line.len() {

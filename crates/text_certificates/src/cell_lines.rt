@@ -12,7 +12,7 @@ ghost use Rattle.text.specs.Lines.{restOfLine};
 ghost use Rattle.text_certificates.specs.CellLines.{cellLines, unreadableText};
 
 // The line of each cell, at the front.
-pub fn append_cells(out: &mut [u8], cells: Cells) -> usize
+pub(crate) fn append_cells(out: &mut [u8], cells: Cells) -> usize
     requires { ⌜ (1176 ≤ length (now out)) × ((cells .count ≤ 28) × (cells .count ≤ length (cells .cells))) ⌝ }
     ensures { λ r. ⌜ Appended (now (out .entry)) 0 (cellLines (take (cells .count) (cells .cells))) (now (out .exit)) r × (r ≤ 1176) ⌝ }
 {
@@ -36,7 +36,7 @@ fn append_cell(out: &mut [u8], at: usize, cell: u64, value: u64) -> usize
 }
 
 // The line of an unreadable line, at the front.
-pub fn append_unreadable(out: &mut [u8], line: u64) -> usize
+pub(crate) fn append_unreadable(out: &mut [u8], line: u64) -> usize
     requires { ⌜ 42 ≤ length (now out) ⌝ }
     ensures { λ r. ⌜ Appended (now (out .entry)) 0 (unreadableText line) (now (out .exit)) r × (r ≤ 42) ⌝ }
 {

@@ -18,7 +18,7 @@ pub struct Text {
 }
 
 // Reads a text; the certificates' numbers come into a list, where each number has room: it takes at least two bytes of the text.
-pub fn read_text(text: &[u8], numbers: &mut [u64]) -> Text
+pub(crate) fn read_text(text: &[u8], numbers: &mut [u64]) -> Text
     requires { ⌜ length (now text) + 1 ≤ 2 * length (now numbers) ⌝ }
     ensures { λ r. ⌜ TextRead (now (text .entry)) (now (numbers .entry)) (now (numbers .exit)) r ⌝ }
 {

@@ -18,7 +18,7 @@ pub enum Whole {
 }
 
 // The number at an index, where it is followed by its separator.
-pub fn read_number(text: &[u8], at: usize, separator: u8) -> Field
+pub(crate) fn read_number(text: &[u8], at: usize, separator: u8) -> Field
     ensures { λ r. ⌜ r ≡ fieldAt (now (text .entry)) at separator ⌝ }
 {
     let end = number_end(text, at);

@@ -18,7 +18,7 @@ ghost use Rattle.withdrawal.specs.Inner.Incentives.{incentiveFrom, PartsWithin,
 ghost use Rattle.withdrawal_months.specs.TierLevels.{LevelFor, lastLevel, levelSurvival};
 
 // Levels of a month with `left` months to go, at a retail rate that is not shifted: one for each scenario. In each of them the highest edge is tried first.
-pub fn month_levels(
+pub(crate) fn month_levels(
     brokered: bool,
     count: usize,
     edges: &[u64; TIER_LIMIT],
@@ -41,14 +41,14 @@ pub fn month_levels(
 }
 
 // The last level that an account may have.
-pub fn last_level(brokered: bool, count: usize) -> usize
+pub(crate) fn last_level(brokered: bool, count: usize) -> usize
     ensures { λ r. ⌜ r ≡ lastLevel brokered count ⌝ }
 {
     if brokered { 1 } else { count }
 }
 
 // q at a level in billionths.
-pub fn level_survival(
+pub(crate) fn level_survival(
     brokered: bool,
     level: usize,
     count: usize,

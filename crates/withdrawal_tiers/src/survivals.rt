@@ -8,7 +8,7 @@ ghost use Rattle.withdrawal.specs.Survival as spec;
 ghost use Rattle.withdrawal.specs.Survival.{survivalFigures};
 
 // q of an annual withdrawal of w thousandths in billionths, from the figures, which the caller reads once.
-pub fn survival(figures: &[u64; 601], w: u64) -> u64
+pub(crate) fn survival(figures: &[u64; 601], w: u64) -> u64
     requires { ⌜ (now figures ≡ survivalFigures) × (w ≤ withdrawalLimit) ⌝ }
     ensures { λ r. ⌜ r ≡ spec.survival w ⌝ }
 {
@@ -16,7 +16,7 @@ pub fn survival(figures: &[u64; 601], w: u64) -> u64
 }
 
 // All survival figures.
-pub fn all_survivals() -> [u64; 601]
+pub(crate) fn all_survivals() -> [u64; 601]
     ensures { λ r. ⌜ r ≡ survivalFigures ⌝ }
 {
     survival_figures::SURVIVAL

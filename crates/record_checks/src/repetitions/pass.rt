@@ -66,7 +66,7 @@ fn key_of(cell: u64, number: u16) -> u16
 }
 
 // An amendment of a cell with a number stands before `end`.
-pub fn amended_before(s: &[u8], cell: u64, number: u16, end: usize) -> bool
+pub(crate) fn amended_before(s: &[u8], cell: u64, number: u16, end: usize) -> bool
     requires { ⌜ end ≤ length (now s) ⌝ }
     ensures { λ r. ⌜ r ≡ ltb (firstWith (now (s .entry)) (Amendment cell number) end) end ⌝ }
 {
