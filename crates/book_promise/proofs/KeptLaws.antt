@@ -103,6 +103,7 @@ module _ (s : List ℕ) (b : Book) (stands : Standing (contentsOf s) b) where
   unfolding balanceIn
   balance-sum = stands .balance-is
 
+  -- each kept total is the sum over its places, each place encloses its exact value within the width of its balance, and so do the sums
   pub standing-kept : Kept s b
   standing-kept =
       record {

@@ -53,6 +53,7 @@ module _ (k : Contents) (v : Valid k) where
   none-value : (i place : ℕ) → place < subBalanceCount → getD (heldIn (emptyBook k) place .values) (valueOfTotal i) 0 ≡ 0
   none-value i place h = rw (none-held place h) (zeros-getD placeValueCount (valueOfTotal i))
 
+  -- the empty book holds nothing at each place, so that each sum over places is 0, as its totals are
   pub empty-stands : Standing k (emptyBook k)
   unfolding emptyBook
   empty-stands =

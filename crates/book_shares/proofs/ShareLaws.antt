@@ -88,6 +88,7 @@ module _ (k : Contents) (v : Valid k) (place : ℕ) (h : place < subBalanceCount
   unfolding couponAt positionOf
   coupon-fits = v .of-cells .coupon-limit (place / 4) (omega arith)
 
+  -- each test passes: 1 <= share <= balance of its cell <= limit, and coupon, months and penalty are those of a valid filing's cells
   share-fits : fitsPlace place (balanceAt (k .cells) place) (couponAt (k .cells) place) (monthsAt (k .cells) place) (penaltyAt (k .cells) place) ≡ true
   unfolding fitsPlace
   share-fits =
@@ -158,6 +159,7 @@ module _ (s : List ℕ) (a : filingVerdict s ≡ accepted) where
   unfolding BookPromise
   kept n = book-promise s a (shareChanges (k .cells) n)
 
+  -- one place more at a time: a share of 0 leaves the place as it was, holding nothing; any other is set there
   shown : (n : ℕ) → n ≤ subBalanceCount → Shown k (book n) n
   unfolding shareChanges shareChange bookAfterAll openedBook emptyBook
   shown zero l = record { first = λ i h. absurd (not-suc-le-zero h); others = λ i h u. getD-replicate subBalanceCount i noPlace _ u }

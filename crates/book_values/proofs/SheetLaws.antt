@@ -102,6 +102,7 @@ module _ (rates : List ℕ) (tiers : FiledTiers) (lower upper : List ℕ) where
         upper-pos = none-zero upper (fourth .1);
       }
 
+  -- and within the limits each test passes
   pub limits-usable : Limits rates tiers lower upper → sheetsUsable rates tiers lower upper ≡ true
   unfolding sheetsUsable tiersUsable
   limits-usable l =

@@ -52,6 +52,7 @@ module _ (s : List ℕ) (a : Accepted s) where
       table-le 1 120 (sheetNumber s (sheetOffset s 2)) rateLimit
       (λ j l u. limit 2 (leb-false (length s) (sheetOffset s 2) (missing .0)) j l (omega arith)) (t - 1)
 
+  -- a retail rate is a number of the path where one is filed, else of the flat sheet, and each sheet's numbers are within its limit
   number-within : (i : ℕ) → i < rateCount → rateNumber s i ≤ rateLimit
   unfolding rateNumber sheetOf sheetKinds sheetKind
   number-within i h = by (ltb (sheetOffset s ratePathKind) (length s)) refl

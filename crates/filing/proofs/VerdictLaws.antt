@@ -19,6 +19,7 @@ pub record Passed (s : List ℕ) : Type 0 where
   pub none-missing : sheetMissing s ≡ false
   pub cells : contentsVerdict (contentsOf s) .number ≡ 0
 
+-- the first refusal of three is none, so that none of the three refuses
 pub accepted-passed : (s : List ℕ) → Accepted s → Passed s
 unfolding filingVerdict sheetVerdict accepted
 accepted-passed s a =

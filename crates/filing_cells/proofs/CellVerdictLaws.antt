@@ -50,7 +50,7 @@ module _ (cells : List ℕ) (passed : cellsVerdict cells .number ≡ 0) where
       within (eqb (cellIn cells (positionAt i .balance)) 0) (withinRow (positionAt i .row) (cellIn cells (positionAt i .months)))
       (ne-eqb (cellIn cells (positionAt i .balance)) 0 (λ e. omega arith)) (months-inside i l)
 
-  -- 8 holds at none of cells 650 to 655: each is at most its column's sum
+  -- 8 holds at none of the six balances of columns: each is at most its column's sum
   pub column-holds : (i : ℕ) → i < 6 → cellIn cells (i + firstColumnCell) ≤ sum (columnBalances cells (i % 3 + 1))
   unfolding columnVerdict aboveColumn
   column-holds i l =

@@ -33,7 +33,7 @@ module _ (cells : List ℕ) where
   unfolding aboveColumn
   above-sum m n h = rw (sum-before cells 9 m (m + 1) refl h, column-sum cells (m + 1) (omega arith) (omega arith))
 
-  -- 7 at the i-th position, and 8 at the i-th of cells 650 to 655, over columns 1 to 3 twice
+  -- 7 at the i-th position, and 8 at the i-th of the six balances of columns, over columns 1 to 3 twice
   abbrev pub monthsAt : ℕ → Verdict
   monthsAt i = positionVerdict cells (positionAt i)
 

@@ -38,7 +38,7 @@ use Rattle.filing_contents.specs.Contents.{cell}
 use Rattle.filing_contents.proofs.AmountLaws.{amount-past}
 use Rattle.filing_cells.specs.Inner.Sums.{BalancesWithin}
 
--- a cell of 601 to 661, as read from the contents
+-- a cell from the first to the last, as read from the contents
 cell-read : (s : List ℕ) (n : ℕ) → firstCell ≤ n → n ≤ lastCell → cell (contentsOf s) n ≡ cellValue s n
 unfolding cellIn contentsOf
 cell-read s n l u =
@@ -82,6 +82,7 @@ module _ (s : List ℕ) (none : firstFaulty s ≡ length s) where
     coupon : recordKind s at ≡ fineCouponKind → cellClass (recordCell s at) ≡ couponClass
     limited : filedValue s at ≤ valueLimit s at
 
+  -- a record of a cell: a sound record's value is within the limit of its kind
   cell-holds : (n at : ℕ) → Sound s at → recordItem s at ≡ Cell n → Holds n at
   unfolding filedValue
   cell-holds n at sound e =
@@ -92,6 +93,7 @@ module _ (s : List ℕ) (none : firstFaulty s ≡ length s) where
         limited = rw (gives-plain (recordKind s at) (of .gives)) (sound .value-limit (of .gives));
       }
 
+  -- an amendment: its value is within the limit of its cell's class, or the cell is withdrawn, which is 0; it is not of kind 6
   amendment-holds : (n number at : ℕ) → Sound s at → recordItem s at ≡ Amendment n number → Holds n at
   unfolding filedValue valueLimit
   amendment-holds n number at sound e =
@@ -110,6 +112,7 @@ module _ (s : List ℕ) (none : firstFaulty s ≡ length s) where
       by fit true v = fit .limited (eqb-true (amendmentState s at) 0 v)
       by fit false v = omega arith
 
+  -- a record that counts for cell n ranks above 0, and so is of that cell or amends it
   holds : (n : ℕ) → cellOffset s n < length s → Holds n (cellOffset s n)
   unfolding itemRank
   holds n h = let c = counting-sound n h in by (recordItem s (cellOffset s n)) refl (c .0) (c .1)

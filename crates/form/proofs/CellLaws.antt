@@ -10,7 +10,7 @@ use Rattle.lists.proofs.TestLaws.{allFrom, all-at}
 use Rattle.form.specs.Cells.{position, positions, positionAt, brokeredCell, penaltyBalanceCell, penaltyMonthsCell, firstCell, lastCell}
 use Rattle.form.specs.Limits.{cellClass}
 
--- a cell is one of 601 to 661, and of a class
+-- a cell lies from the first to the last, and is of a class
 pub record CellOf (n class : ℕ) : Type 0 where
   pub from-first : firstCell ≤ n
   pub to-last : n ≤ lastCell

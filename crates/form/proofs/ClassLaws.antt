@@ -1,4 +1,4 @@
--- The cells outside 601 to 661 are not listed, and the listed ones lie among them.
+-- The cells before the first and behind the last are not listed, and the listed ones lie between.
 -- Assumes nothing.
 use Prim.Native.Nat.{ℕ, _<_, _≤_}
 use native.Mathlib.Omega.{arith}
@@ -13,7 +13,7 @@ use Rattle.form.specs.declared.Position.{Position}
 use Rattle.form.specs.Cells.{position, positions, brokeredCell, penaltyBalanceCell, penaltyMonthsCell, totalCell, unusedCells, firstCell, lastCell}
 use Rattle.form.specs.Limits.{cellClass}
 
--- each number of the list is one of 601 to 661
+-- each number of the list lies from the first cell to the last
 abbrev inRange : List ℕ → Bool
 inRange [] = true
 inRange (x ∷ xs) = leb firstCell x && (leb x lastCell && inRange xs)
@@ -39,7 +39,7 @@ contains-outside (y ∷ ys) x t o =
     one-outside x y (leb firstCell y) (leb y lastCell) (inRange ys) (contains ys x) (leb→le firstCell y) (leb→le y lastCell)
     (λ r. contains-outside ys x r o) t o
 
--- a cell outside 601 to 661 is not listed
+-- a cell outside is not listed
 pub class-outside : (x : ℕ) → Outside x → cellClass x ≡ 0
 unfolding cellClass positions position brokeredCell penaltyBalanceCell penaltyMonthsCell unusedCells
 class-outside x o =
@@ -54,7 +54,7 @@ class-outside x o =
       contains-outside unusedCells x tt o,
     )
 
--- a listed cell is one of 601 to 661
+-- a listed cell lies from the first to the last
 pub class-listed : (x : ℕ) → (cellClass x ≡ 0 → ⊥) → (firstCell ≤ x) × (x ≤ lastCell)
 class-listed x h = (from (ltb x firstCell) refl, to (ltb lastCell x) refl)
   where

@@ -113,6 +113,7 @@ module _ (ρ : Rounding) (t : WithdrawalTiers) (d : Deposit) (rates : List ℕ) 
   pub priced-le : tabledPrice ρ (tierTable t) d (shiftedPath scenario rates column) factors scenario ≤ amountLimit
   priced-le = tabled-price-limit ρ (tierTable t) d (shiftedPath scenario rates column) factors scenario l within-par
 
+  -- the walk stays in range: levels below their limit, each month's multiplier above 0, and the run's balances and prices within those of the run by the table
   pub walkable : Walkable ρ paid left carried whole levels discounts scenario (d .months)
   walkable =
       record {

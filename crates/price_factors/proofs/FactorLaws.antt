@@ -46,6 +46,7 @@ module _ (ρ : Rounding) (yields : List ℕ) (longest : ℕ) where
   unfolding monthFactors
   month-within month h = rw (lt-ltb month longest h)
 
+  -- a month past the longest term adds seven zeros
   months-past : (month more : ℕ) → longest ≤ month
       → joined (table (month + more) (monthFactors ρ yields longest)) ≡ joined (table month (monthFactors ρ yields longest)) ++ replicate (scenarioCount * more) 0
   unfolding monthFactors

@@ -102,6 +102,7 @@ module _ (s w a : ℕ) (pos : 0 < w) (some : 0 < s) where
       let h : quotient up (a * s) w * w ≤ a * s + w = omega (arith, ceiling-lt (a * s) w pos) in
       floor-near x a w s (quotient up (a * s) w) pos some (ceiling-ge (a * s) w pos) (omega (arith, mul-le-mul-left x h, near))
 
+  -- with m the multiplier, a s <= m w < a s + w: then x a s <= x m w < x a s + s by x w < s, which leaves x a / w as the quotient rounded up; 0 apart
   part-up : (x m : ℕ) → x * w < s → m ≡ quotient up (a * s) w → partBy up s x m ≡ quotient up (x * a) w
   unfolding partBy
   part-up zero m near e = sym (quotient-zero up a w pos)

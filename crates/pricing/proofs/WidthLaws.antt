@@ -20,6 +20,7 @@ discounted-width : (k : Terms) (z : ℕ → ℕ) (t : ℕ) → t ≤ monthsLimit
     ≤ discountedBy down k (discountFactorBy down z) t * par + paymentsBy up k t * par + paymentsBy down k t * monthsLimit + t * (2 * par)
 discounted-width k z t h = sum-width (flowBy down k) (flowBy up k) z monthsLimit (λ i. encloses-le (flow-encloses k i)) t h
 
+-- at the last month: upper - lower <= (paid upper - paid lower) + paid lower × 120 / 10^9 + 2 × 120, and what is paid is bounded
 last-width : (k : Terms) (z : ℕ → ℕ) → Bounded k → (t : ℕ) → suc t ≡ k .months
     → discountedBy up k (discountFactorBy up z) (suc t) ≤ discountedBy down k (discountFactorBy down z) (suc t) + 4000
 last-width k z b t e =

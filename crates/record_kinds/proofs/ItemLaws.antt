@@ -39,6 +39,16 @@ same-item (Amendment m a) (Amendment n b) e =
 same-item (Amendment m a) Nothing e = absurd (true≢false (sym e))
 same-item Nothing b e = absurd (true≢false (sym e))
 
+-- the sort of an item; items of two sorts are not equal
+abbrev sortOf : Item → ℕ
+sortOf (Cell m) = 0
+sortOf (Sheet m) = 1
+sortOf (Amendment m a) = 2
+sortOf Nothing = 3
+
+not-same-sort : (a b : Item) → eqb (sortOf a) (sortOf b) ≡ false → a ≡ b → ⊥
+not-same-sort a b d e = eqb-false (sortOf a) (sortOf b) d (ap sortOf e)
+
 -- nothing is the same as no item
 pub same-nothing : (a : Item) → sameItem a Nothing ≡ false
 unfolding sameItem
@@ -126,7 +136,7 @@ module _ (s : List ℕ) (at : ℕ) where
 
   of-cell : (cell : ℕ) (gives off amends none : Bool) → givesCell (recordKind s at) ≡ gives → eqb (recordClass s at) 0 ≡ off
       → itemBy gives off amends none ≡ Cell cell → OfCell s at cell
-  of-cell cell true true amends none a b e = let z : _≡_ {A = ℕ} 0 1 = cc in absurd (omega arith)
+  of-cell cell true true amends none a b e = absurd (not-same-sort _ _ refl e)
   of-cell cell true false amends none a b e =
       let is : recordCell s at ≡ cell = cc in
       let class = eqb-false (recordClass s at) 0 b in
@@ -137,16 +147,16 @@ module _ (s : List ℕ) (at : ℕ) where
         to-last = rw is at (cell-listed class .1);
         coupon = λ k. rw is at (class-is class .1 (eq-eqb (recordKind s at) fineCouponKind k));
       }
-  of-cell cell false true true none a b e = let z : _≡_ {A = ℕ} 0 1 = cc in absurd (omega arith)
-  of-cell cell false false true none a b e = let z : _≡_ {A = ℕ} 0 1 = cc in absurd (omega arith)
-  of-cell cell false off false true a b e = let z : _≡_ {A = ℕ} 0 1 = cc in absurd (omega arith)
-  of-cell cell false off false false a b e = let z : _≡_ {A = ℕ} 0 1 = cc in absurd (omega arith)
+  of-cell cell false true true none a b e = absurd (not-same-sort _ _ refl e)
+  of-cell cell false false true none a b e = absurd (not-same-sort _ _ refl e)
+  of-cell cell false off false true a b e = absurd (not-same-sort _ _ refl e)
+  of-cell cell false off false false a b e = absurd (not-same-sort _ _ refl e)
 
   of-amendment : (cell number : ℕ) (gives off amends none : Bool) → eqb (recordKind s at) amendmentKind ≡ amends → eqb (recordClass s at) 0 ≡ off
       → itemBy gives off amends none ≡ Amendment cell number → OfAmendment s at cell number
-  of-amendment cell number true true amends none a b e = let z : _≡_ {A = ℕ} 0 1 = cc in absurd (omega arith)
-  of-amendment cell number true false amends none a b e = let z : _≡_ {A = ℕ} 0 1 = cc in absurd (omega arith)
-  of-amendment cell number false true true none a b e = let z : _≡_ {A = ℕ} 0 1 = cc in absurd (omega arith)
+  of-amendment cell number true true amends none a b e = absurd (not-same-sort _ _ refl e)
+  of-amendment cell number true false amends none a b e = absurd (not-same-sort _ _ refl e)
+  of-amendment cell number false true true none a b e = absurd (not-same-sort _ _ refl e)
   of-amendment cell number false false true none a b e =
       let is : recordCell s at ≡ cell = cc in
       let class = eqb-false (recordClass s at) 0 b in
@@ -157,17 +167,17 @@ module _ (s : List ℕ) (at : ℕ) where
         from-first = rw is at (cell-listed class .0);
         to-last = rw is at (cell-listed class .1);
       }
-  of-amendment cell number false off false true a b e = let z : _≡_ {A = ℕ} 0 1 = cc in absurd (omega arith)
-  of-amendment cell number false off false false a b e = let z : _≡_ {A = ℕ} 0 1 = cc in absurd (omega arith)
+  of-amendment cell number false off false true a b e = absurd (not-same-sort _ _ refl e)
+  of-amendment cell number false off false false a b e = absurd (not-same-sort _ _ refl e)
 
   of-sheet : (kind : ℕ) (gives off amends none : Bool) → givesCell (recordKind s at) ≡ gives → eqb (recordKind s at) amendmentKind ≡ amends
       → eqb (dueLength s at) 0 ≡ none
       → itemBy gives off amends none ≡ Sheet kind → OfSheet s at kind
-  of-sheet kind true true amends none a b d e = let z : _≡_ {A = ℕ} 0 1 = cc in absurd (omega arith)
-  of-sheet kind true false amends none a b d e = let z : _≡_ {A = ℕ} 0 1 = cc in absurd (omega arith)
-  of-sheet kind false true true none a b d e = let z : _≡_ {A = ℕ} 0 1 = cc in absurd (omega arith)
-  of-sheet kind false false true none a b d e = let z : _≡_ {A = ℕ} 0 1 = cc in absurd (omega arith)
-  of-sheet kind false off false true a b d e = let z : _≡_ {A = ℕ} 0 1 = cc in absurd (omega arith)
+  of-sheet kind true true amends none a b d e = absurd (not-same-sort _ _ refl e)
+  of-sheet kind true false amends none a b d e = absurd (not-same-sort _ _ refl e)
+  of-sheet kind false true true none a b d e = absurd (not-same-sort _ _ refl e)
+  of-sheet kind false false true none a b d e = absurd (not-same-sort _ _ refl e)
+  of-sheet kind false off false true a b d e = absurd (not-same-sort _ _ refl e)
   of-sheet kind false off false false a b d e =
       let is : recordKind s at ≡ kind = cc in
       record {

@@ -29,6 +29,7 @@ module _ (s before : List ℕ) (short : length before < numberCount) where
   unfolding verdictOn
   short-verdict = list-short numberCount (length before) (filingVerdict s) short
 
+  -- the verdict is 10, which is not 0: the list stays, and nothing is promised of it
   pub short-list : Valued s before (ListTooShort (length before)) before
   unfolding listAfter verdictOf refused accepted
   short-list =

@@ -33,6 +33,7 @@ module _ (s : List ℕ) (flat : length s ≤ sheetOffset s ratePathKind) where
       let row : place / monthsLimit + 1 ≡ column = omega arith in
       rw (table-getD rateCount (rateNumber s) place 0 (omega arith), le-ltb _ _ flat, row)
 
+  -- each month t of the term is within 120, where the rate of the place's column is that of the flat sheet
   pub flat-terms-at : Valid (contentsOf s) → (scenario place : ℕ) → place < subBalanceCount
       → let k = contentsOf s in
       termsHeld k scenario place (placeAt (k .cells) place)

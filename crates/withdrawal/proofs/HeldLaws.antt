@@ -39,6 +39,7 @@ module _ (f : ℕ → ℕ) where
   pub stored-none : Stored f 0 (replicate tierLimit 0)
   stored-none = record { within = omega arith; filled = fill-none f 0 0 tierLimit; rest = refl }
 
+  -- entry i is set to f i, and the zeros behind it are one fewer
   pub stored-more : (i : ℕ) (l : List ℕ) (a : ℕ) → i < tierLimit → a ≡ f i → Stored f i l → Stored f (i + 1) (set l i a)
   stored-more i l a h e s =
       record {
@@ -168,6 +169,7 @@ module _ (count otherwise : ℕ) (edge withdrawal : ℕ → ℕ) where
       ap (λ (xs : List WithdrawalTier). record { tiers = xs; otherwise = otherwise })
       (table-ext count _ _ (λ i h. rw (padded-holds count edge i h, padded-holds count withdrawal i h)))
 
+  -- the first `count` entries of both arrays are those of the table, so that the held tiers are made of the same lists
   padded-held : withSurvivals count edges withdrawals otherwise ≡ held (tierTableOf count edges withdrawals otherwise)
   unfolding withSurvivals held tierTableOf tier
   padded-held =

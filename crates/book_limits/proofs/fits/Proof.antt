@@ -32,6 +32,7 @@ position-requires c κs = search needs
 within-row-requires : tie.Need-within-row-requires
 within-row-requires c κs = search needs
 
+-- the first four tests pass and the months lie outside the row
 returns-5 : tie.Need-returns-5
 unfolding fitsPlace positionOf
 returns-5 c =
@@ -50,6 +51,7 @@ returns-5 c =
 penalty-within-requires : tie.Need-penalty-within-requires
 penalty-within-requires c κs = search needs
 
+-- all but the last test pass: the answer is that of the penalty
 returns-6 : tie.Need-returns-6
 unfolding fitsPlace positionOf
 returns-6 c =

@@ -22,6 +22,7 @@ slice-aggregate-some-above c = search needs
 some-above-requires : tie.Need-some-above-requires
 some-above-requires c κs = search needs
 
+-- the count is within its limit and the edges rise: the answer is that of the withdrawals
 returns-3 : tie.Need-returns-3
 unfolding tiersUsable noneAbove
 returns-3 c =

@@ -22,6 +22,7 @@ returns-2 c = rw (← c .before .before .before .some-above .ensures, c .before 
 above-par-requires : tie.Need-above-par-requires
 above-par-requires c κs = search needs
 
+-- the rates and the tiers pass, and a lower factor is above par
 returns-3 : tie.Need-returns-3
 unfolding sheetsUsable noneAbove
 returns-3 c =
@@ -39,6 +40,7 @@ returns-3 c =
 above-par-requires-2 : tie.Need-above-par-requires-2
 above-par-requires-2 c κs = search needs
 
+-- these and the lower factors pass, and an upper factor is above par
 returns-4 : tie.Need-returns-4
 unfolding sheetsUsable noneAbove
 returns-4 c =
@@ -59,6 +61,7 @@ returns-4 c =
 some-zero-requires : tie.Need-some-zero-requires
 some-zero-requires c κs = search needs
 
+-- these and the upper factors pass: the answer is whether one of them is 0
 returns-5 : tie.Need-returns-5
 unfolding sheetsUsable noneAbove noneZero
 returns-5 c =

@@ -37,6 +37,7 @@ to-multipliers-requires-2 : tie.Need-to-multipliers-requires-2
 unfolding depositAt
 to-multipliers-requires-2 c κs = let test = c .before .before .before .before .before .before in (limits test .upper-le, test .before .before .pre .2 .months-le)
 
+-- both tables are of multipliers: the lower factors are at most par, the upper ones too and above 0 within the term
 held-values-requires : tie.Need-held-values-requires
 unfolding depositAt roundingOf
 held-values-requires c κs =
@@ -57,6 +58,7 @@ held-values-requires c κs =
       ),
     )
 
+-- the values by multipliers are those by factors, with the tiers of the filing, which are usable
 returns-2 : tie.Need-returns-2
 unfolding valuesUnder depositAt roundingOf
 returns-2 c =

@@ -24,6 +24,7 @@ first-refusal-requires c κs = search needs
 first-refusal-requires-2 : tie.Need-first-refusal-requires-2
 first-refusal-requires-2 c κs = search needs
 
+-- the first refusal of 7, then 8, then 9
 returns : tie.Need-returns
 returns c =
     let total = c .before .before in

@@ -51,6 +51,7 @@ tested c =
 add-t12 : tie.Need-add-t12 Inv-loop μ-loop
 add-t12 c = omega arith
 
+-- 8 holds at the i-th of the six and at none before: that is the verdict
 returns : tie.Need-returns Inv-loop μ-loop
 unfolding verdictOf refused columnVerdict
 returns c =

@@ -36,6 +36,7 @@ tested : (c : tie.After-months-outside Inv-loop μ-loop)
     ≡ monthsOutside (c .before .before .before .before .args .cells .now) (positionAt (c .before .before .before .loop .i))
 tested c = c .months-outside .ensures ∙ ap (monthsOutside (c .before .before .before .before .args .cells .now)) (c .before .position .ensures)
 
+-- 7 holds at the i-th of the nine and at none before: that is the verdict
 returns : tie.Need-returns Inv-loop μ-loop
 unfolding verdictOf refused positionVerdict
 returns c =

@@ -76,6 +76,7 @@ upper-are : (yields rates multipliers factors : List ℕ) (month : ℕ) → rate
 unfolding yieldFactors
 upper-are yields rates multipliers factors month r h m f = f ∙ rw (m, upper-chained rates h (month + 1), r, add-one)
 
+-- the seven lower and the seven upper factors are those of the month's shifted yields
 returns : tie.Need-returns
 unfolding yieldFactors
 returns c =

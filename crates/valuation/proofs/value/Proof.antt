@@ -28,6 +28,7 @@ returns-2 c =
     let reading = c .before .before in
     refused-filing _ _ (long reading) _ (reading .read .ensures .0) (λ e. c .if2 .taken (c .before .number .ensures ∙ e))
 
+-- an accepted filing's contents are valid, the sums are those of its cells, and the list is long enough
 write-numbers-requires : tie.Need-write-numbers-requires
 write-numbers-requires c κs =
     let accepted = c .before .before .before .before .before .before in

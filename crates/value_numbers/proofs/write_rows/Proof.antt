@@ -56,9 +56,13 @@ discount-tables-requires c κs =
     let start = term .before .before .before .before in
     (yields-within (contents start) (start .pre .0), rw (longest-is term) (longest-limit (contents start) (start .pre .0)), refl, refl)
 
+-- the call's start, from the tables
+abbrev start : tie.After-discount-tables Inv-loop μ-loop → tie.Start Inv-loop μ-loop
+start c = c .before .before .before .before .before .before .before
+
 -- the code is prepared for the filing when the loop begins
 prepared : (c : tie.After-discount-tables Inv-loop μ-loop)
-    → Prepared (contents (c .before .before .before .before .before .before .before)) (c .before .before .before .before .before .tiers-of .result)
+    → Prepared (contents (start c)) (c .before .before .before .before .before .tiers-of .result)
     (c .before .before .before .before .places-of .result) (c .discount-tables .last .1 .1 .0) (c .discount-tables .last .1 .1 .1 .0)
 prepared c =
     let term = c .before .before .before in
@@ -74,12 +78,12 @@ prepared c =
 
 loop-holds : tie.Need-loop-holds Inv-loop μ-loop
 unfolding tableFrom joined
-loop-holds c = (omega arith, c .before .before .before .before .before .before .before .pre .2, λ filed p. overwritten-none _)
+loop-holds c = (omega arith, start c .pre .2, λ filed p. overwritten-none _)
 
 -- at the loop's head: the rows of the places passed are written
 written : (c : tie.At-loop Inv-loop μ-loop)
-    → Overwritten (joined (table (c .loop .place) (placeNumbers (contents (c .before .before .before .before .before .before .before .before)))))
-    (placeNumberCount * c .loop .place) (c .before .before .before .before .before .before .before .before .args .list .now) (c .loop .list)
+    → Overwritten (joined (table (c .loop .place) (placeNumbers (contents (start (c .before))))))
+    (placeNumberCount * c .loop .place) (start (c .before) .args .list .now) (c .loop .list)
 written c = c .loop .inv .2 _ (prepared (c .before))
 
 -- the loop's head, from the row of a place
@@ -114,6 +118,7 @@ add-place c = omega arith
 loop-less : tie.Need-loop-less Inv-loop μ-loop
 loop-less c = omega arith
 
+-- the row of the place is written behind those before it, for every filing that the code is prepared for
 loop-again : tie.Need-loop-again Inv-loop μ-loop
 loop-again c =
     let row = c .before .before .before .before .before in

@@ -51,6 +51,7 @@ add-left c = omega arith
 sub-left : tie.Need-sub-left Inv-loop μ-loop
 sub-left c = omega arith
 
+-- the parts of the incentive are within their limits, and so is the rate of the month
 month-levels-requires : tie.Need-month-levels-requires Inv-loop μ-loop
 month-levels-requires c κs =
     let parts = c .before .before .before .before in
@@ -84,6 +85,7 @@ add-t c = omega arith
 loop-less : tie.Need-loop-less Inv-loop μ-loop
 loop-less c = omega arith
 
+-- the levels of month t are set, and the months behind it stay
 loop-again : tie.Need-loop-again Inv-loop μ-loop
 loop-again c =
     let at = c .before .before .before in

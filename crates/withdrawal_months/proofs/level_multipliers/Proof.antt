@@ -31,6 +31,7 @@ abbrev μ-loop : tie.MeasureT-loop
 last-level-requires : tie.Need-last-level-requires Inv-loop μ-loop
 last-level-requires c κs = tt
 
+-- four lists of zeros hold nothing at any level
 loop-holds : tie.Need-loop-holds Inv-loop μ-loop
 loop-holds c =
     let zeros = c .before .pre .1 in
@@ -94,6 +95,7 @@ multipliers-are c = rw (c .multipliers-of .ensures, c .before .level-survival .e
 loop-less : tie.Need-loop-less Inv-loop μ-loop
 loop-less c = omega arith
 
+-- level i is set in the four lists, and the levels behind it stay
 loop-again : tie.Need-loop-again Inv-loop μ-loop
 loop-again c =
     let state = c .before .before .before .loop in (

@@ -45,6 +45,7 @@ mul-last-upper c = search needs
 element-copy-out-last-upper : tie.Need-element-copy-out-last-upper
 element-copy-out-last-upper c = search needs
 
+-- the run before the last month is the walk's, whose balance and price are within their limits
 last-upper-requires : tie.Need-last-upper-requires
 last-upper-requires c κs =
     let runs = c .before .before .before in
@@ -55,6 +56,7 @@ last-upper-requires c κs =
       (start .pre .1 .last-paid-pos, start .pre .1 .last-carried-is),
     )
 
+-- the price is the last month's step on the run before it, at either rounding
 returns-2 : tie.Need-returns-2
 unfolding walkedPrices
 returns-2 c =

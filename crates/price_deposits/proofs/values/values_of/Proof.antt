@@ -62,6 +62,7 @@ early-levels-requires c κs =
       (limits .2 .within, limits .2 .first-le, limits .2 .last-le),
     )
 
+-- coupon, servicing cost and survivals are within the limits of a deposit and of usable tiers
 level-multipliers-requires : tie.Need-level-multipliers-requires Inv-loop μ-loop
 level-multipliers-requires c κs =
     let servicing = c .before .before .before .before .before .before .before in
@@ -94,6 +95,7 @@ loop-holds : tie.Need-loop-holds Inv-loop μ-loop
 unfolding tableFrom joined
 loop-holds c = (omega arith, overwritten-none _)
 
+-- the deposit is priceable with these levels and multipliers, and its prices are within the limit
 value-bounds-requires : tie.Need-value-bounds-requires Inv-loop μ-loop
 value-bounds-requires c κs =
     let test = c .before .before .before .before .before in
@@ -134,6 +136,7 @@ add-scenario c = omega arith
 loop-less : tie.Need-loop-less Inv-loop μ-loop
 loop-less c = omega arith
 
+-- lower and upper value of one scenario more are written
 loop-again : tie.Need-loop-again Inv-loop μ-loop
 unfolding valuesAt
 loop-again c =
@@ -146,6 +149,7 @@ loop-again c =
           (bounds .value-bounds .result) (state .inv .1) (bounds .value-bounds .ensures) (omega (arith, more)) (omega (arith, more))),
     )
 
+-- all seven scenarios are written, each with the values by the tables
 returns-2 : tie.Need-returns-2 Inv-loop μ-loop
 unfolding tabledValues
 returns-2 c =

@@ -33,6 +33,7 @@ mul-lower-multiplier-2 c = omega arith
 element-copy-out-lower-multiplier-2 : tie.Need-element-copy-out-lower-multiplier-2 Inv-loop μ-loop
 element-copy-out-lower-multiplier-2 c = omega arith
 
+-- the i-th rate is within its limit, and the i-th upper multiplier is its own
 lower-multiplier-requires : tie.Need-lower-multiplier-requires Inv-loop μ-loop
 unfolding multipliersBy
 lower-multiplier-requires c κs =

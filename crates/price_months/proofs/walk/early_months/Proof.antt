@@ -64,6 +64,7 @@ mul-next-upper c = omega (arith, factor-index (c .before .before .before .before
 element-copy-out-next-upper : tie.Need-element-copy-out-next-upper Inv-loop μ-loop
 element-copy-out-next-upper c = factor-index (c .before .before .before .before)
 
+-- the run is the walk's to month t, and the multipliers are those of the month's level
 next-upper-requires : tie.Need-next-upper-requires Inv-loop μ-loop
 next-upper-requires c κs =
     let multipliers = c .before .before .before in
@@ -82,6 +83,7 @@ add-t c = omega (arith, factor-index (c .before .before .before .before .before 
 loop-less : tie.Need-loop-less Inv-loop μ-loop
 loop-less c = omega arith
 
+-- one month more: both runs step by the multipliers of the month's level
 loop-again : tie.Need-loop-again Inv-loop μ-loop
 unfolding walkedBy
 loop-again c =

@@ -20,6 +20,7 @@ to-multipliers-requires-2 c κs =
     let start = factors .before .before .before in
     (rw (factors .fill-factors .ensures .1) (factors-at-most-par up (start .args .yields .now) (start .args .longest)), start .pre .1)
 
+-- the factors filled in become multipliers, lower then upper, and what stands behind is left
 returns : tie.Need-returns
 unfolding roundingOf
 returns c =

@@ -1,5 +1,5 @@
 -- `price_rounding::products::upper_half` meets its contract: no product of halves, with what is carried into it, leaves 64 bits. Assumes nothing.
-use Prim.Native.Nat.{_-_, _/_, _%_, _^_, _≤_}
+use Prim.Native.Nat.{_*_, _-_, _/_, _%_, _^_, _≤_}
 use mathlib.Core.Path.{refl}
 use native.Mathlib.Nat.{mul-le-mul}
 use native.Mathlib.Omega.{arith}
@@ -12,29 +12,39 @@ use Rattle.price_rounding.proofs.products.upper_half.Tie as tie
 halves-le : (c : tie.Start) → (c .args .x / 2 ^ 32 ≤ 2 ^ 32 - 1) × (c .args .x % 2 ^ 32 ≤ 2 ^ 32 - 1) × (c .args .y / 2 ^ 32 ≤ 2 ^ 32 - 1) × (c .args .y % 2 ^ 32 ≤ 2 ^ 32 - 1)
 halves-le c = (omega arith, omega arith, omega arith, omega arith)
 
+-- and so each of the four products of halves leaves room for two halves below 2^64
+products-le : (c : tie.Start)
+    → (c .args .x / 2 ^ 32 * (c .args .y % 2 ^ 32) ≤ (2 ^ 32 - 1) * (2 ^ 32 - 1))
+    × (c .args .x % 2 ^ 32 * (c .args .y % 2 ^ 32) ≤ (2 ^ 32 - 1) * (2 ^ 32 - 1))
+    × (c .args .x % 2 ^ 32 * (c .args .y / 2 ^ 32) ≤ (2 ^ 32 - 1) * (2 ^ 32 - 1))
+    × (c .args .x / 2 ^ 32 * (c .args .y / 2 ^ 32) ≤ (2 ^ 32 - 1) * (2 ^ 32 - 1))
+products-le c =
+    let h = halves-le c in
+    (mul-le-mul (h .0) (h .3), mul-le-mul (h .1) (h .3), mul-le-mul (h .1) (h .2), mul-le-mul (h .0) (h .2))
+
 mul-carried : tie.Need-mul-carried
-mul-carried c = omega (arith, mul-le-mul (halves-le c .0) (halves-le c .3), mul-le-mul (halves-le c .1) (halves-le c .3), mul-le-mul (halves-le c .1) (halves-le c .2), mul-le-mul (halves-le c .0) (halves-le c .2))
+mul-carried c = omega (arith, products-le c)
 
 mul-carried-2 : tie.Need-mul-carried-2
-mul-carried-2 c = omega (arith, mul-le-mul (halves-le c .0) (halves-le c .3), mul-le-mul (halves-le c .1) (halves-le c .3), mul-le-mul (halves-le c .1) (halves-le c .2), mul-le-mul (halves-le c .0) (halves-le c .2))
+mul-carried-2 c = omega (arith, products-le c)
 
 add-carried : tie.Need-add-carried
-add-carried c = omega (arith, mul-le-mul (halves-le c .0) (halves-le c .3), mul-le-mul (halves-le c .1) (halves-le c .3), mul-le-mul (halves-le c .1) (halves-le c .2), mul-le-mul (halves-le c .0) (halves-le c .2))
+add-carried c = omega (arith, products-le c)
 
 mul-middle : tie.Need-mul-middle
-mul-middle c = omega (arith, mul-le-mul (halves-le c .0) (halves-le c .3), mul-le-mul (halves-le c .1) (halves-le c .3), mul-le-mul (halves-le c .1) (halves-le c .2), mul-le-mul (halves-le c .0) (halves-le c .2))
+mul-middle c = omega (arith, products-le c)
 
 add-middle : tie.Need-add-middle
-add-middle c = omega (arith, mul-le-mul (halves-le c .0) (halves-le c .3), mul-le-mul (halves-le c .1) (halves-le c .3), mul-le-mul (halves-le c .1) (halves-le c .2), mul-le-mul (halves-le c .0) (halves-le c .2))
+add-middle c = omega (arith, products-le c)
 
 mul-result : tie.Need-mul-result
-mul-result c = omega (arith, mul-le-mul (halves-le c .0) (halves-le c .3), mul-le-mul (halves-le c .1) (halves-le c .3), mul-le-mul (halves-le c .1) (halves-le c .2), mul-le-mul (halves-le c .0) (halves-le c .2))
+mul-result c = omega (arith, products-le c)
 
 add-result : tie.Need-add-result
-add-result c = omega (arith, mul-le-mul (halves-le c .0) (halves-le c .3), mul-le-mul (halves-le c .1) (halves-le c .3), mul-le-mul (halves-le c .1) (halves-le c .2), mul-le-mul (halves-le c .0) (halves-le c .2))
+add-result c = omega (arith, products-le c)
 
 add-result-2 : tie.Need-add-result-2
-add-result-2 c = omega (arith, mul-le-mul (halves-le c .0) (halves-le c .3), mul-le-mul (halves-le c .1) (halves-le c .3), mul-le-mul (halves-le c .1) (halves-le c .2), mul-le-mul (halves-le c .0) (halves-le c .2))
+add-result-2 c = omega (arith, products-le c)
 
 returns : tie.Need-returns
 returns c =

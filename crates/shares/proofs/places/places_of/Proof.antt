@@ -103,6 +103,7 @@ add-i c = omega arith
 loop-less : tie.Need-loop-less Inv-loop μ-loop
 loop-less c = omega arith
 
+-- the four places of position i follow one another
 loop-again : tie.Need-loop-again Inv-loop μ-loop
 loop-again c =
     let shares = c .before .before .before .before in

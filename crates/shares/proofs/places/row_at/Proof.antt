@@ -76,6 +76,7 @@ add-cell-value-3 c =
 cell-value-requires-6 : tie.Need-cell-value-requires-6
 cell-value-requires-6 c κs = search needs
 
+-- each number of the row is read from its own cell, or is a sum over the position's column
 returns : tie.Need-returns
 unfolding rowAt brokeredCell penaltyBalanceCell penaltyMonthsCell
 returns c =

@@ -14,6 +14,7 @@ deposit-at-requires c κs = search needs
 position-requires : tie.Need-position-requires
 position-requires c κs = search needs
 
+-- the deposit is the one that the place holds, and its column is 1 to 3
 values-of-requires : tie.Need-values-of-requires
 values-of-requires c κs =
     let column = c .before in

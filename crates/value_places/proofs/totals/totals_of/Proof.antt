@@ -44,6 +44,7 @@ add-scenario c = omega arith
 loop-less : tie.Need-loop-less Inv-loop μ-loop
 loop-less c = omega arith
 
+-- the four totals of one scenario more are written
 loop-again : tie.Need-loop-again Inv-loop μ-loop
 loop-again c =
     let four = c .before .before .before .before in

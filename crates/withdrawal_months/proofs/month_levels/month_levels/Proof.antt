@@ -59,6 +59,7 @@ levelled c =
     ∙ ap (λ (r : ℕ). incentiveFrom (a .parts) r (a .left)) (shifted .shifted .ensures ∙ ap (λ (s : ℕ). shiftedRate s (a .rate)) (shifted .before .new .ensures)) in
     rw (← same) (c .level-for .ensures)
 
+-- a level is at most the last one, which is at most 16
 cast-levels : tie.Need-cast-levels Inv-loop μ-loop
 cast-levels c =
     let start = c .before .before .before .before .before .before in

@@ -1,4 +1,4 @@
--- `cell_value` meets its contract: only a number of 601 to 661 has an index among the cells.
+-- `cell_value` meets its contract: only a number from the first cell to the last has an index among the cells.
 -- Assumes nothing.
 use borrow.Author.Needs.{needs}
 use borrow.Author.Tests.{le-leb, lt-leb}

@@ -82,6 +82,7 @@ add-i c = omega arith
 loop-less : tie.Need-loop-less Inv-loop μ-loop
 loop-less c = omega arith
 
+-- the balance of position i is added to its column's sum, and the sum before it is the one above the position
 loop-again : tie.Need-loop-again Inv-loop μ-loop
 loop-again c =
     let cells = c .before .before .before .before .before .args .cells .now in
