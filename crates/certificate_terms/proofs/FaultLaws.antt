@@ -73,7 +73,6 @@ pub record Sound (v : Date) (c : Certificate) : Type 0 where
   pub issue-day : isDate (c .issue) ≡ true
   pub maturity-day : isDate (c .maturity) ≡ true
   pub issued : onOrAfter v (c .issue) ≡ true
-  pub outstanding : onOrAfter v (c .maturity) ≡ false
   pub months-le : remainingMonths v c ≤ monthsLimit
 
 pub own-sound : (v : Date) (k : ℕ) (c : Certificate) → ownVerdict v k c .number ≡ 0 → Sound v c
@@ -93,7 +92,6 @@ own-sound v k c h =
       issue-day = days .1 .0;
       maturity-day = days .1 .1;
       issued = not-false _ (order .0);
-      outstanding = order .1;
       months-le = ltb-false _ _ (condition-fails (tooManyMonths v c) 14 k (four .0));
     }
 

@@ -74,12 +74,6 @@ sharesFrom-getD amount total before (x ∷ xs) (suc i) =
     sharesFrom-getD amount total (before + x) xs i
     ∙ ap (λ (b : ℕ). shareBehind amount total b (getD xs i 0)) (add-assoc before x (sum (take i xs)))
 
-sharesFrom-zero : (amount before : ℕ) (parts : List ℕ) (i : ℕ) → getD (sharesFrom amount 0 before parts) i 0 ≡ 0
-unfolding sharesFrom cumulativeShare
-sharesFrom-zero amount before [] i = refl
-sharesFrom-zero amount before (x ∷ xs) zero = omega (arith, div-zero (amount * (before + x)))
-sharesFrom-zero amount before (x ∷ xs) (suc i) = sharesFrom-zero amount (before + x) xs i
-
 -- the shares add up to the amount
 pub apportion-sum : (amount : ℕ) (parts : List ℕ) → amount ≤ sum parts → sum (apportion amount parts) ≡ amount
 unfolding apportion
@@ -106,8 +100,3 @@ apportion-getD amount parts i = sharesFrom-getD amount (sum parts) 0 parts i ∙
 pub apportion-length : (amount : ℕ) (parts : List ℕ) → length (apportion amount parts) ≡ length parts
 unfolding apportion
 apportion-length amount parts = sharesFrom-length amount (sum parts) 0 parts
-
--- parts that add up to 0 have no shares, whatever the amount
-pub apportion-zero : (amount : ℕ) (parts : List ℕ) → sum parts ≡ 0 → (i : ℕ) → getD (apportion amount parts) i 0 ≡ 0
-unfolding apportion
-apportion-zero amount parts h i = rw h (sharesFrom-zero amount 0 parts i)

@@ -24,7 +24,7 @@ use Rattle.shares.proofs.PartLaws.{parts-sum, retail-part, brokered-par
 -- a column whose brokered balance is within its sum
 module _ (cells : List ℕ) (j : ℕ) (within : cellIn cells (brokeredCell j) ≤ sum (columnBalances cells j)) where
   -- a column's brokered shares add up to its brokered balance
-  pub brokered-sum : sum (brokeredShares cells j) ≡ cellIn cells (brokeredCell j)
+  brokered-sum : sum (brokeredShares cells j) ≡ cellIn cells (brokeredCell j)
   unfolding brokeredShares
   brokered-sum = apportion-sum (cellIn cells (brokeredCell j)) (columnBalances cells j) within
 
@@ -45,7 +45,7 @@ module _ (cells : List ℕ) (j : ℕ) (within : cellIn cells (brokeredCell j) �
     penalty-within = rw (parts-sum (columnBalances cells j) (brokeredShares cells j) brokered-length brokered-le) penalized
 
     -- a column's penalty shares add up to its balance subject to penalty
-    pub penalty-sum : sum (penaltyShares cells j) ≡ cellIn cells (penaltyBalanceCell j)
+    penalty-sum : sum (penaltyShares cells j) ≡ cellIn cells (penaltyBalanceCell j)
     unfolding penaltyShares
     penalty-sum = apportion-sum _ _ penalty-within
 

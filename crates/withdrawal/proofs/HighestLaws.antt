@@ -125,7 +125,7 @@ module _ (table : TierTable) (gain : ℤ) (cost : ℕ) where
   unfolding annualWithdrawal
   highest-withdrawal f i h = first-highest gain cost (table .otherwise) (table .tiers) f i h
 
-  pub none-withdrawal : someReached gain cost (table .tiers) ≡ false → annualWithdrawal table gain cost ≡ table .otherwise
+  none-withdrawal : someReached gain cost (table .tiers) ≡ false → annualWithdrawal table gain cost ≡ table .otherwise
   unfolding annualWithdrawal
   none-withdrawal n = first-none gain cost (table .otherwise) (table .tiers) n
 
