@@ -21,6 +21,7 @@ use denote.Struct.Laws as LL
 use Rattle.form.specs.declared.sub_balances.SubBalance.{SubBalance}
 use Rattle.form.proofs.sub_balances.SubBalance as T
 use Rattle.form.proofs.sub_balances.SubBalance.Laws as T′
+use Rattle.form.specs.PlaceOrder.{subBalanceCount}
 
 -- the type of a local, as a function's table has it
 abbrev typeOf : Local → Ty
@@ -41,7 +42,7 @@ abbrev pub PlacesOf : ℕ → RattleType
 PlacesOf n = Array Place n
 
 abbrev pub Places : RattleType
-Places = PlacesOf 36
+Places = PlacesOf subBalanceCount
 
 abbrev pub placeVal : SubBalance → Val
 placeVal = LL.val T.the-type T′.the-laws

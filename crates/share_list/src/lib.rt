@@ -3,11 +3,13 @@ pub mod split_outcomes;
 
 use crate::split_outcomes::outcome_of;
 use answers::Answer;
+use form::sub_balances::SUB_BALANCES;
 use form::sub_balances::SubBalance;
 ghost use mathlib.Core.Path.{_≡_};
 ghost use mathlib.Core.List.{_++_};
 ghost use Prim.Native.Nat.{_≤_};
 ghost use lib.ListN.{length, take, drop};
+ghost use Rattle.form.specs.PlaceOrder.{subBalanceCount};
 ghost use Rattle.share_list.specs.Split.{SplitOf, SplitFirst};
 
 // The answer on a filing and the first places of an array, and the array after the call.
@@ -40,8 +42,8 @@ pub fn split_first(filing: &[u8], places: [SubBalance; 40], count: usize) -> Spl
 }
 
 // Stores the first `count` of the places in the list, from its start on.
-fn fill(places: &mut [SubBalance], from: [SubBalance; 36], count: usize)
-    requires { ⌜ (count ≤ 36) × (count ≤ length (now places)) ⌝ }
+fn fill(places: &mut [SubBalance], from: [SubBalance; SUB_BALANCES], count: usize)
+    requires { ⌜ (count ≤ subBalanceCount) × (count ≤ length (now places)) ⌝ }
     ensures { λ _. ⌜ now (places .exit) ≡ take count from ++ drop count (now (places .entry)) ⌝ }
 {
     let mut i = 0;

@@ -6,17 +6,19 @@ use form::CELLS;
 use form::limits::MONTHS;
 use form::limits::RATES;
 use form::sub_balances::NO_PLACE;
+use form::sub_balances::SUB_BALANCES;
 use form::sub_balances::SubBalance;
 use shares::places::places_of;
 ghost use mathlib.Core.Path.{_≡_};
 ghost use lib.ListN.{replicate};
 ghost use Rattle.form.specs.Places.{noPlace};
+ghost use Rattle.form.specs.PlaceOrder.{subBalanceCount};
 ghost use Rattle.share_list.specs.Outcomes.{OutcomeOf};
 
 // What is made of a filing and a list: the answer, the places to be written, and how many of them are, 36 or none.
 pub struct Outcome {
     pub answer: Answer,
-    pub places: [SubBalance; 36],
+    pub places: [SubBalance; SUB_BALANCES],
     pub count: usize,
 }
 
@@ -24,7 +26,7 @@ pub struct Outcome {
 pub fn outcome_of(filing: &[u8], size: usize) -> Outcome
     ensures { λ r. ⌜ OutcomeOf (now (filing .entry)) size r ⌝ }
 {
-    if size < 36 {
+    if size < SUB_BALANCES {
         return refusal(Answer::ListTooShort(size));
     }
     let mut cells = [0; CELLS];
@@ -40,17 +42,17 @@ pub fn outcome_of(filing: &[u8], size: usize) -> Outcome
     Outcome {
         answer,
         places,
-        count: 36,
+        count: SUB_BALANCES,
     }
 }
 
 // A refusal writes no place.
 fn refusal(answer: Answer) -> Outcome
-    ensures { λ r. ⌜ (r .answer ≡ answer) × (r .places ≡ replicate 36 noPlace) × (r .count ≡ 0) ⌝ }
+    ensures { λ r. ⌜ (r .answer ≡ answer) × (r .places ≡ replicate subBalanceCount noPlace) × (r .count ≡ 0) ⌝ }
 {
     Outcome {
         answer,
-        places: [NO_PLACE; 36],
+        places: [NO_PLACE; SUB_BALANCES],
         count: 0,
     }
 }

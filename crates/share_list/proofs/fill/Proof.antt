@@ -40,6 +40,7 @@ use denote.Triple.Walked.{needs, walkOf, goes-slice, goes-none, Walks, walked, w
 use denote.Exit.{yes}
 use denote.Signature.{plain}
 use Rattle.form.specs.declared.sub_balances.SubBalance.{SubBalance}
+use Rattle.form.specs.PlaceOrder.{subBalanceCount}
 use Rattle.share_list.proofs.PlaceRows.{Place, Places, placesVals, places-tells, places-typed, places-makes}
 use Rattle.share_list.proofs.fill.Key.{name as #share-list·fill}
 use Rattle.share_list.proofs.fill as fill′
@@ -48,7 +49,7 @@ use Rattle.share_list.proofs.fill.Code as code
 use Rattle.share_list.proofs.fill.Proof.Turns.{stayed, ty, loops}
 
 module _ {M : Type 1} (𝓤 : URA M) (H : Heap 𝓤) (A : Atoms 𝓤) (W : Given 𝓤 H A) (at-mem : Memory → SProp 𝓤) (run : Routine → Fun 𝓤) (κ : Lft) (q : Share) (b o : ℕ) (γ : GName) (ys fs : List SubBalance) (arr : Val) (m : ℕ)
-    (room : Room Place (length ys)) (are : Is Places fs (arr ∷ [])) (m-fits : m < 2 ^ 64) (few : m ≤ 36) (within : m ≤ length ys) where
+    (room : Room Place (length ys)) (are : Is Places fs (arr ∷ [])) (m-fits : m < 2 ^ 64) (few : m ≤ subBalanceCount) (within : m ≤ length ys) where
   abbrev x : RefT (List SubBalance)
   x = record { ptr = (b, o); name = γ; now = ys }
 
@@ -79,20 +80,20 @@ module _ {M : Type 1} (𝓤 : URA M) (H : Heap 𝓤) (A : Atoms 𝓤) (W : Given
       pureL ! (at-slice Place x (s ∷ [])) (λ _. fsplit ! $ move ! (29 ∷ []) $ split ! $ move ! (2 ∷ 3 ∷ 0 ∷ []) $ opens-slice ! tt Place ys b o $
       move ! (5 ∷ []) $ leave ! $ move ! (4 ∷ []) $ leave ! $
       -- the array's local, with what the array owns, is taken apart into its elements
-      owned ! Places (Is Places) (places-makes 𝓤 H A W 36) fs (arr ∷ []) are $
+      owned ! Places (Is Places) (places-makes 𝓤 H A W subBalanceCount) fs (arr ∷ []) are $
       move ! (21 ∷ []) $ use1 W (‵ (cellAt fullShare (Places .mir) (arr ∷ []) l₄ 0)) (W .laws .at-raw fullShare (ty 4) l₄ 0 arr) $
       fjoin ! $ fpack ! (List Val) (λ vs. fsep (cellAt fullShare (Places .mir) vs l₄ 0) (Places .own fs vs)) (arr ∷ []) $
-      use1 W (‵ (arr-parts (shares Place) 36 .part fullShare fs l₄ 0)) (array-apart 𝓤 H A W Place fullShare tt 36 fs l₄ 0) $ fsplit ! $ feqL ! (λ e.
+      use1 W (‵ (arr-parts (shares Place) subBalanceCount .part fullShare fs l₄ 0)) (array-apart 𝓤 H A W Place fullShare tt subBalanceCount fs l₄ 0) $ fsplit ! $ feqL ! (λ e.
       by ! (loops 𝓤 H A W at-mem run κ q b o γ ys fs arr m room are m-fits few within 𝓣 e l₀ l₁ l₂ l₃ l₄ l₅ l₆ l₇ l₈ l₉ l₁₀ l₁₁ l₁₂))))))))))))))))
     where
       wt : Holds (hasTy (ty 2) arr) × WT arr
-      wt = places-typed 𝓤 H A W 36 fs arr are
+      wt = places-typed 𝓤 H A W subBalanceCount fs arr are
 
 module _ {M : Type 1} (𝓤 : URA M) (H : Heap 𝓤) (A : Atoms 𝓤) (W : Given 𝓤 H A) (at-mem : Memory → SProp 𝓤) (run : Routine → Fun 𝓤) (𝓣 : Tables 𝓤 H) where
   fill-walks : Walks 𝓤 H A fill′.ended stayed (WpFn 𝓤 H (𝓣 .C) (𝓣 .Λ) code.function) (fill′.clauses 𝓤 H A at-mem run)
   fill-walks = walked 𝓤 H A fill′.ended stayed (fill′.clauses 𝓤 H A at-mem run) (WpFn 𝓤 H (𝓣 .C) (𝓣 .Λ) code.function)
-      (λ κs. (slice-vals, (placesVals, (uint-vals w64, tt)))) (λ κs. (mut-slice-tells (named 0) (κs .0) Place, (places-tells 36, (uint-tells w64, tt))))
-      (λ κs qs bounds a g are. needs 𝓤 ((a .1 .1 .0 ≤ 36) × (a .1 .1 .0 ≤ length (a .0 .now))) _ (λ asked.
+      (λ κs. (slice-vals, (placesVals, (uint-vals w64, tt)))) (λ κs. (mut-slice-tells (named 0) (κs .0) Place, (places-tells subBalanceCount, (uint-tells w64, tt))))
+      (λ κs qs bounds a g are. needs 𝓤 ((a .1 .1 .0 ≤ subBalanceCount) × (a .1 .1 .0 ≤ length (a .0 .now))) _ (λ asked.
       walk 𝓤 H A W at-mem run (κs .0) (qs .0) (a .0 .ptr .0) (a .0 .ptr .1) (a .0 .name) (a .0 .now) (a .1 .0) _ (a .1 .1 .0) (are .0 .0 .1) (are .1 .0) (are .1 .1 .0 .1) (asked .0) (asked .1) 𝓣))
 
   fill-meets : Meets 𝓤 H A fill′.signature (WpFn 𝓤 H (𝓣 .C) (𝓣 .Λ) code.function) (fill′.spec 𝓤 H A at-mem run)

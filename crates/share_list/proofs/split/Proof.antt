@@ -45,6 +45,7 @@ use Rattle.answers.proofs.Answer.Laws as N′
 use Rattle.share_list.specs.Outcomes.{OutcomeOf}
 use Rattle.share_list.specs.Split.{SplitOf}
 use Rattle.form.specs.declared.sub_balances.SubBalance.{SubBalance}
+use Rattle.form.specs.PlaceOrder.{subBalanceCount}
 use Rattle.share_list.specs.declared.split_outcomes.Outcome.{Outcome}
 use Rattle.share_list.proofs.PlaceRows.{Place, Places, localType, places-of-field, places-makes}
 use Rattle.share_list.proofs.split_outcomes.Outcome as O
@@ -127,7 +128,7 @@ module _ {M : Type 1} (𝓤 : URA M) (H : Heap 𝓤) (A : Atoms 𝓤) (W : Given
     answer-is = LL.owed O.the-type O′.the-laws r _ is .0
 
     places-are : Is Places (r .places) (places-val r ∷ [])
-    places-are = places-of-field 36 (r .places) _ (LL.owed O.the-type O′.the-laws r _ is .1 .0)
+    places-are = places-of-field subBalanceCount (r .places) _ (LL.owed O.the-type O′.the-laws r _ is .1 .0)
 
     count-fits : r .count < 2 ^ 64
     count-fits = LL.owed O.the-type O′.the-laws r _ is .1 .1 .0 .1
@@ -136,12 +137,12 @@ module _ {M : Type 1} (𝓤 : URA M) (H : Heap 𝓤) (A : Atoms 𝓤) (W : Given
   abbrev to-fill : Outcome → FillFn 𝓤 H A at-mem run .Ghost
   to-fill r = (((κ₁, tt), (q₁, tt), tt, (x, (r .places, (r .count, tt))), (s ∷ [], (places-val r ∷ [], (vint w64 (r .count) ∷ [], tt)))), tt)
 
-  goes-fill : (r : Outcome) (u : Val) → Is O.the-row r (u ∷ []) → (r .count ≤ 36) × (r .count ≤ length ys)
+  goes-fill : (r : Outcome) (u : Val) → Is O.the-row r (u ∷ []) → (r .count ≤ subBalanceCount) × (r .count ≤ length ys)
       → ent 𝓤 (⋆ 𝓤 H A ((‵ (flft κ₁ q₁) ⊛ ‵ ftrue) ∷ ‵ (MutSlice (named 1) κ₁ Place .own x (s ∷ [])) ∷ [])) (FillFn 𝓤 H A at-mem run .pre (to-fill r))
   goes-fill r u is asked =
       qed W ((‵ (flft κ₁ q₁) ⊛ ‵ ftrue) ∷ ‵ (MutSlice (named 1) κ₁ Place .own x (s ∷ [])) ∷ []) ∵ says ! asked $ frame ! $
       nothing ! $ owned ! usize (Is usize) (uint-makes 𝓤 H A W w64) (r .count) _ (refl, count-fits r u is) $ fjoin ! $
-      owned ! Places (Is Places) (places-makes 𝓤 H A W 36) (r .places) _ (places-are r u is) $ fjoin ! $ move ! (1 ∷ 0 ∷ []) $ fjoin ! $ done !
+      owned ! Places (Is Places) (places-makes 𝓤 H A W subBalanceCount) (r .places) _ (places-are r u is) $ fjoin ! $ move ! (1 ∷ 0 ∷ []) $ fjoin ! $ done !
 
   -- the list that `fill` leaves
   abbrev written : Outcome → List SubBalance

@@ -41,6 +41,7 @@ use denote.Exit.{yes}
 use denote.Signature.{plain}
 use Rattle.form.specs.declared.sub_balances.SubBalance.{SubBalance}
 use Rattle.form.specs.Places.{noPlace}
+use Rattle.form.specs.PlaceOrder.{subBalanceCount}
 use Rattle.share_list.proofs.PlaceRows.{Place, Places, localType, placeSize, placeVals, placesVals, place-tells, places-tells, place-typed, place-makes, places-makes}
 use Rattle.share_list.proofs.OverwriteLaws.{overwrite-length, overwrite-suc}
 use Rattle.share_list.proofs.fill as fill′
@@ -54,7 +55,7 @@ abbrev pub ty : ℕ → Ty
 ty = localType mir′.locals
 
 module _ {M : Type 1} (𝓤 : URA M) (H : Heap 𝓤) (A : Atoms 𝓤) (W : Given 𝓤 H A) (at-mem : Memory → SProp 𝓤) (run : Routine → Fun 𝓤) (κ : Lft) (q : Share) (b o : ℕ) (γ : GName) (ys fs : List SubBalance) (arr : Val) (m : ℕ)
-    (room : Room Place (length ys)) (are : Is Places fs (arr ∷ [])) (m-fits : m < 2 ^ 64) (few : m ≤ 36) (within : m ≤ length ys) where
+    (room : Room Place (length ys)) (are : Is Places fs (arr ∷ [])) (m-fits : m < 2 ^ 64) (few : m ≤ subBalanceCount) (within : m ≤ length ys) where
   -- the borrow at a list
   abbrev x : List SubBalance → RefT (List SubBalance)
   x l = record { ptr = (b, o); name = γ; now = l }
@@ -83,10 +84,10 @@ module _ {M : Type 1} (𝓤 : URA M) (H : Heap 𝓤) (A : Atoms 𝓤) (W : Given
       nothing ! $ move ! (3 ∷ 0 ∷ []) $ join ! $ frame ! $
       fjoin ! $ pureI ! (at-slice Place (x (mixed m)) (s ∷ [])) (tt, (tt, tt)) (ap (λ (n : ℕ). sliceVal (b, o) n ∷ []) (sym l), subst (Room Place) (sym l) room) $ fjoin ! $
       nothing ! $ owned ! usize (Is usize) (uint-makes 𝓤 H A W w64) m _ (refl, m-fits) $ fjoin ! $
-      owned ! Places (Is Places) (places-makes 𝓤 H A W 36) fs _ are $ fjoin ! $ move ! (1 ∷ 0 ∷ []) $ fjoin ! $
+      owned ! Places (Is Places) (places-makes 𝓤 H A W subBalanceCount) fs _ are $ fjoin ! $ move ! (1 ∷ 0 ∷ []) $ fjoin ! $
       feqI ! (List Val) (vunit ∷ []) (vunit ∷ []) refl $ move ! (1 ∷ 0 ∷ []) $ done !
 
-  module _ (𝓣 : Tables 𝓤 H) (long : length fs ≡ 36) (l₀ l₁ l₂ l₃ l₄ l₅ l₆ l₇ l₈ l₉ l₁₀ l₁₁ l₁₂ : ℕ) where
+  module _ (𝓣 : Tables 𝓤 H) (long : length fs ≡ subBalanceCount) (l₀ l₁ l₂ l₃ l₄ l₅ l₆ l₇ l₈ l₉ l₁₀ l₁₁ l₁₂ : ℕ) where
     abbrev C : Calls 𝓤 H
     C = 𝓣 .C
 
@@ -171,9 +172,9 @@ module _ {M : Type 1} (𝓤 : URA M) (H : Heap 𝓤) (A : Atoms 𝓤) (W : Given
         leaves-loop ! (load ! (from ! (stop !)) (look ! 17 refl)) $ exec ! C Λ En mir′.t-4 (atRet En Post) $
         assigns ! (of-opd ! (unit-lit !)) (from ! (stop !)) (init ! 28 refl (tt, tt)) $
         move ! (1 ∷ 2 ∷ 3 ∷ 4 ∷ []) $ closes-slice ! tt Place ys (mixed m) l b o $
-        move ! (3 ∷ []) $ feqI ! ℕ (length fs) 36 long $ fjoin ! $ use1 W (‵ (partAt Places fullShare fs l₄ 0)) (array-whole 𝓤 H A W Place fullShare 36 fs l₄ 0) $
+        move ! (3 ∷ []) $ feqI ! ℕ (length fs) subBalanceCount long $ fjoin ! $ use1 W (‵ (partAt Places fullShare fs l₄ 0)) (array-whole 𝓤 H A W Place fullShare subBalanceCount fs l₄ 0) $
         fpick ! (λ vs. fsplit ! $ move ! (1 ∷ []) $ peeks ! Places (Is Places) (shows 𝓤 H A Places) fs vs (λ r. leave ! $
-        rewrite ! 0 (λ (us : List Val). ‵ (cellAt fullShare (Places .mir) us l₄ 0)) (places-tells 36 fs vs r) refl $
+        rewrite ! 0 (λ (us : List Val). ‵ (cellAt fullShare (Places .mir) us l₄ 0)) (places-tells subBalanceCount fs vs r) refl $
         use1 W (‵ (fat fullShare (ty 4) l₄ 0 (only (placesVals fs)))) (W .laws .raw-at fullShare (ty 4) l₄ 0 (only (placesVals fs))) $
         -- [_4; obs; the borrow; the token; then the locals from _12 down, without _4]
         returns ! (look ! 27 refl) $ forget ! 0 refl $ forget ! 16 refl $ forget ! 18 refl $ forget ! 21 refl $ forget ! 23 refl $ forget ! 25 refl $
