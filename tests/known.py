@@ -12,7 +12,7 @@ import fine_coupons
 import monthly_rates
 import searches
 
-OUTPUT = filings.CRATES / "second" / "stdout"
+OUTPUT = filings.CRATES / "test_second" / "stdout"
 
 
 def printed():
