@@ -7,7 +7,7 @@ use mathlib.Core.List.{List, []}
 use borrow.Author.Tests.{eqb-true}
 use lib.Dec.{eqb}
 use Rattle.lists.proofs.TableLaws.{table-le}
-use Rattle.form.specs.Limits.{monthsLimit, rateLimit}
+use Rattle.form.specs.Limits.{monthsLimit, sheetMonths, rateLimit}
 use Rattle.answers.specs.declared.Answer.{Answer}
 use Rattle.answers.specs.Verdict.{Verdict}
 use Rattle.answers.specs.Answers.{verdictOf}
@@ -35,7 +35,7 @@ no-bytes i = refl
 
 empty-yields : WithinRates (emptyContents .yields)
 unfolding emptyContents contentsOf
-empty-yields = table-le 1 120 _ rateLimit (λ j l u. rw (no-bytes _) zero-le)
+empty-yields = table-le 1 sheetMonths _ rateLimit (λ j l u. rw (no-bytes _) zero-le)
 
 pub opened-yields : (s : List ℕ) (a : Answer) (k : Contents) → verdictOf a ≡ filingVerdict s → k ≡ readContents s → WithinRates (k .yields)
 unfolding verdictOf readOver readContents

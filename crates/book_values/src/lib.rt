@@ -1,7 +1,7 @@
 // The values of a place under the sheets and tiers that a book holds.
 use filing_contents::FiledTiers;
-use form::limits::MONTHS;
 use form::limits::RATE_LIMIT;
+use form::limits::TERM_MONTHS;
 use form::limits::TIER_LIMIT;
 use form::limits::WITHDRAWAL_LIMIT;
 use form::sub_balances::PLACE_VALUES;
@@ -46,7 +46,7 @@ pub fn values_in<'a>(
     let mut above = *upper;
     to_multipliers(&mut below, held.remaining_months, false);
     to_multipliers(&mut above, held.remaining_months, true);
-    let mut months = [[0u8; SCENARIOS]; MONTHS];
+    let mut months = [[0u8; SCENARIOS]; TERM_MONTHS];
     held_values(
         held,
         place,

@@ -11,13 +11,12 @@ use lib.ListN.{length}
 use Rattle.lists.specs.Sums.{sum}
 use Rattle.lists.proofs.TableLaws.{table-le}
 use Rattle.form.specs.Cells.{positionAt, brokeredCell, penaltyBalanceCell, penaltyMonthsCell}
-use Rattle.form.specs.Limits.{classLimit, heldLimit, monthsLimit, rateLimit}
+use Rattle.form.specs.Limits.{classLimit, heldLimit, sheetMonths, rateLimit, rateCount}
 use Rattle.form.specs.Shift.{pathRate}
 use Rattle.form.proofs.CellLaws.{coupon-cell, months-cell, penalty-months-cell}
 use Rattle.record_fields.specs.Records.{sheetNumber}
 use Rattle.record_kinds.specs.Kinds.{flatRatesKind, ratePathKind, sheetOf, sheetKinds, sheetKind}
 use Rattle.lists.proofs.TestLaws.{neither}
-use Rattle.filing_contents.specs.Sheets.{rateCount}
 use Rattle.filing_decode.specs.Contents.{sheetOffset, rateNumber, contentsOf}
 use Rattle.filing_contents.specs.Contents.{cell, cdYield, retailRate}
 use Rattle.filing_cells.specs.Balances.{columnBalances}
@@ -49,7 +48,7 @@ module _ (s : List ℕ) (a : Accepted s) where
   yield-within : (t : ℕ) → cdYield (contentsOf s) t ≤ rateLimit
   unfolding cdYield contentsOf sheetOf sheetKinds sheetKind
   yield-within t =
-      table-le 1 120 (sheetNumber s (sheetOffset s 2)) rateLimit
+      table-le 1 sheetMonths (sheetNumber s (sheetOffset s 2)) rateLimit
       (λ j l u. limit 2 (leb-false (length s) (sheetOffset s 2) (missing .0)) j l (omega arith)) (t - 1)
 
   -- a retail rate is a number of the path where one is filed, else of the flat sheet, and each sheet's numbers are within its limit
@@ -58,14 +57,14 @@ module _ (s : List ℕ) (a : Accepted s) where
   number-within i h = by (ltb (sheetOffset s ratePathKind) (length s)) refl
     where
       by : (b : Bool) → ltb (sheetOffset s ratePathKind) (length s) ≡ b
-          → cond b (sheetNumber s (sheetOffset s ratePathKind) (i + 1)) (sheetNumber s (sheetOffset s flatRatesKind) (i / monthsLimit + 1)) ≤ rateLimit
+          → cond b (sheetNumber s (sheetOffset s ratePathKind) (i + 1)) (sheetNumber s (sheetOffset s flatRatesKind) (i / sheetMonths + 1)) ≤ rateLimit
       by true e = limit ratePathKind (ltb-true (sheetOffset s ratePathKind) (length s) e) (i + 1) (omega arith) (omega arith)
       by false e =
-          limit flatRatesKind (flat-present (ltb-false (sheetOffset s ratePathKind) (length s) e)) (i / monthsLimit + 1) (omega arith) (omega arith)
+          limit flatRatesKind (flat-present (ltb-false (sheetOffset s ratePathKind) (length s) e)) (i / sheetMonths + 1) (omega arith) (omega arith)
 
   rate-within : (j t : ℕ) → retailRate (contentsOf s) j t ≤ rateLimit
   unfolding pathRate contentsOf
-  rate-within j t = table-le 0 rateCount (rateNumber s) rateLimit (λ i l u. number-within i (omega arith)) (monthsLimit * (j - 1) + (t - 1))
+  rate-within j t = table-le 0 rateCount (rateNumber s) rateLimit (λ i l u. number-within i (omega arith)) (sheetMonths * (j - 1) + (t - 1))
 
   -- what an accepted filing says is valid
   pub accepted-valid : Valid (contentsOf s)

@@ -6,15 +6,14 @@ use mathlib.Core.List.{List}
 use borrow.Author.Tests.{eq-eqb, ne-eqb}
 use lib.ListN.{replicate}
 use Rattle.form.specs.Cells.{cellCount}
-use Rattle.form.specs.Limits.{monthsLimit}
+use Rattle.form.specs.Limits.{sheetNumberCount}
 use Rattle.answers.specs.declared.Answer.{Answer}
 use Rattle.answers.specs.Verdict.{Verdict, firstRefusal}
 use Rattle.answers.specs.Answers.{numberOf, verdictOf}
 use Rattle.answers.proofs.VerdictLaws.{first-passed, first-refused}
 use Rattle.record_verdicts.specs.RecordVerdicts.{recordsVerdict}
 use Rattle.filing_cells.specs.Inner.Sums.{columnSums}
-use Rattle.filing_contents.specs.Contents.{Contents, contentsWith}
-use Rattle.filing_contents.specs.Sheets.{rateCount}
+use Rattle.filing_contents.specs.Contents.{Contents, contentsIn}
 use Rattle.filing_decode.specs.Contents.{contentsOf}
 use Rattle.filing.specs.declared.readings.Reading.{Reading}
 use Rattle.filing.specs.RequiredSheets.{sheetVerdict}
@@ -60,23 +59,23 @@ module _ (s : List ℕ) where
   refused-contents h = refused-over emptyContents h
 
   -- read into zeros
-  pub over-zeros : readOver s (lent (replicate cellCount 0) (replicate monthsLimit 0) (replicate rateCount 0)) ≡ readContents s
+  pub over-zeros : readOver s (lent (replicate cellCount 0) (replicate sheetNumberCount 0)) ≡ readContents s
   unfolding readContents
   over-zeros = ap (readOver s) zeros-said
 
   -- a refusal with the filing's verdict leaves what is lent, with no tiers and sums of 0
-  pub refused-reading : (cells yields rates : List ℕ) (r : Reading) (a : Answer)
+  pub refused-reading : (cells numbers : List ℕ) (r : Reading) (a : Answer)
       → (r .answer ≡ a) × (r .tiers ≡ emptyContents .tiers) × (r .sums ≡ columnSums (emptyContents .cells))
       → verdictOf a ≡ filingVerdict s
       → (numberOf a ≡ 0 → ⊥)
       → (verdictOf (r .answer) ≡ filingVerdict s)
-      × ((contentsWith cells yields rates (r .tiers) ≡ readOver s (lent cells yields rates)) × (r .sums ≡ columnSums (readContents s .cells)))
+      × ((contentsIn cells numbers (r .tiers) ≡ readOver s (lent cells numbers)) × (r .sums ≡ columnSums (readContents s .cells)))
   unfolding verdictOf
-  refused-reading cells yields rates r a e v h =
+  refused-reading cells numbers r a e v h =
       let refused : filingVerdict s .number ≡ 0 → ⊥ = λ z. h (ap (λ (u : Verdict). u .number) v ∙ z) in (
         ap verdictOf (e .0) ∙ v,
         (
-          ap (contentsWith cells yields rates) (e .1) ∙ refused-over (lent cells yields rates) refused,
+          ap (contentsIn cells numbers) (e .1) ∙ refused-over (lent cells numbers) refused,
           e .2 ∙ ap (λ (k : Contents). columnSums (k .cells)) (refused-contents refused),
         ),
       )

@@ -10,8 +10,7 @@ use filing_cells::check_cells;
 use filing_decode::fill_cells;
 use filing_decode::fill_sheets;
 use form::CELLS;
-use form::limits::MONTHS;
-use form::limits::RATES;
+use form::limits::SHEET_NUMBERS;
 use record_checks::check_records;
 use record_kinds::KINDS;
 use record_offsets::BLOCKS;
@@ -20,7 +19,7 @@ ghost use lib.ListN.{length};
 ghost use Rattle.answers.specs.Answers.{verdictOf};
 ghost use Rattle.record_offsets.specs.Inner.Notes.{notedBefore};
 ghost use Rattle.record_verdicts.specs.RecordVerdicts.{recordsVerdict};
-ghost use Rattle.filing_contents.specs.Contents.{contentsWith};
+ghost use Rattle.filing_contents.specs.Contents.{contentsIn};
 ghost use Rattle.filing_cells.specs.Inner.Sums.{columnSums};
 ghost use Rattle.filing.specs.RequiredSheets.{sheetVerdict};
 ghost use Rattle.filing.specs.Verdict.{filingVerdict};
@@ -28,14 +27,9 @@ ghost use Rattle.filing.specs.Readings.{readOver, lent, readContents};
 
 // Reads a filing: its records front to back, then the sheets that must be there, then the conditions on its cells. Only then is what it says written into the
 // lent arrays: a refusal leaves them as they were, and has no tiers and sums of 0.
-pub fn read(
-    filing: &[u8],
-    cells: &mut [u64; CELLS],
-    yields: &mut [u16; MONTHS],
-    rates: &mut [u16; RATES],
-) -> Reading
+pub fn read(filing: &[u8], cells: &mut [u64; CELLS], numbers: &mut [u16; SHEET_NUMBERS]) -> Reading
     ensures { λ r. ⌜ verdictOf (r .answer) ≡ filingVerdict (now (filing .entry)) ⌝ }
-    ensures { λ r. ⌜ contentsWith (now (cells .exit)) (now (yields .exit)) (now (rates .exit)) (r .tiers) ≡ readOver (now (filing .entry)) (lent (now (cells .entry)) (now (yields .entry)) (now (rates .entry))) ⌝ }
+    ensures { λ r. ⌜ contentsIn (now (cells .exit)) (now (numbers .exit)) (r .tiers) ≡ readOver (now (filing .entry)) (lent (now (cells .entry)) (now (numbers .entry))) ⌝ }
     ensures { λ r. ⌜ r .sums ≡ columnSums (readContents (now (filing .entry)) .cells) ⌝ }
 {
     let mut sheets = [0; KINDS];
@@ -51,7 +45,7 @@ pub fn read(
     if number(missing) != 0 {
         return refusal(missing);
     }
-    read_contents(filing, &sheets, &counting, cells, yields, rates)
+    read_contents(filing, &sheets, &counting, cells, numbers)
 }
 
 // Reads what a filing says whose records are sound and whose sheets are there.
@@ -60,13 +54,12 @@ fn read_contents(
     sheets: &[usize; KINDS],
     counting: &[usize; CELLS],
     cells: &mut [u64; CELLS],
-    yields: &mut [u16; MONTHS],
-    rates: &mut [u16; RATES],
+    numbers: &mut [u16; SHEET_NUMBERS],
 ) -> Reading
     requires { ⌜ (recordsVerdict (now filing) .number ≡ 0) × (sheetVerdict (now filing) .number ≡ 0) ⌝ }
     requires { ⌜ (now sheets ≡ notedBefore (now filing) (length (now filing)) .sheets) × (now counting ≡ notedBefore (now filing) (length (now filing)) .counting) ⌝ }
     ensures { λ r. ⌜ verdictOf (r .answer) ≡ filingVerdict (now (filing .entry)) ⌝ }
-    ensures { λ r. ⌜ contentsWith (now (cells .exit)) (now (yields .exit)) (now (rates .exit)) (r .tiers) ≡ readOver (now (filing .entry)) (lent (now (cells .entry)) (now (yields .entry)) (now (rates .entry))) ⌝ }
+    ensures { λ r. ⌜ contentsIn (now (cells .exit)) (now (numbers .exit)) (r .tiers) ≡ readOver (now (filing .entry)) (lent (now (cells .entry)) (now (numbers .entry))) ⌝ }
     ensures { λ r. ⌜ r .sums ≡ columnSums (readContents (now (filing .entry)) .cells) ⌝ }
 {
     let mut said = [0; CELLS];
@@ -78,7 +71,7 @@ fn read_contents(
     }
     let sums = checked.sums;
     *cells = said;
-    let tiers = fill_sheets(filing, sheets, yields, rates);
+    let tiers = fill_sheets(filing, sheets, numbers);
     Reading {
         answer,
         tiers,

@@ -1,7 +1,8 @@
 -- What a filing says, read by cell, by month and by column. Definitions only.
 use Prim.Native.Nat.{ℕ, _-_}
 use mathlib.Core.List.{List}
-use lib.ListN.{getD}
+use lib.ListN.{getD, take, drop}
+use Rattle.form.specs.Limits.{sheetMonths, rateCount, yieldsStart, ratesStart}
 use Rattle.form.specs.Shift.{pathRate}
 use Rattle.filing_cells.specs.Balances.{cellIn}
 use Rattle.filing_contents.specs.declared.FiledTiers.{FiledTiers}
@@ -18,6 +19,17 @@ pub record Contents : Type 0 where
 -- of its parts. Nowhere else are they put together
 abbrev pub contentsWith : List ℕ → List ℕ → List ℕ → FiledTiers → Contents
 contentsWith cells yields rates tiers = record { cells = cells; yields = yields; rates = rates; tiers = tiers }
+
+-- of a list of the numbers of all sheets: the CD yields, and the retail rates. Nowhere else is it known where a number stands
+unfoldable pub yieldsIn : List ℕ → List ℕ
+yieldsIn numbers = take sheetMonths (drop yieldsStart numbers)
+
+unfoldable pub ratesIn : List ℕ → List ℕ
+ratesIn numbers = take rateCount (drop ratesStart numbers)
+
+-- of cells, the numbers of all sheets, and tiers
+abbrev pub contentsIn : List ℕ → List ℕ → FiledTiers → Contents
+contentsIn cells numbers tiers = contentsWith cells (yieldsIn numbers) (ratesIn numbers) tiers
 
 -- the value of a cell in what a filing says
 abbrev pub cell : Contents → ℕ → ℕ

@@ -1,4 +1,4 @@
--- What the numbers of a sheet say, by its offset: the count of the retail rates (02:CR 3), and the tiers of a record (02:CR 1). Definitions only.
+-- What the numbers of a sheet say, by its offset: the tiers of a record (02:CR 1). Definitions only.
 use Prim.Native.Nat.{ℕ, _+_, _*_}
 use mathlib.Core.Bool.{cond}
 use mathlib.Core.List.{List}
@@ -7,10 +7,6 @@ use Rattle.lists.specs.Tables.{table}
 use Rattle.form.specs.Limits.{tierLimit}
 use Rattle.record_fields.specs.Records.{sheetNumber, tierCount}
 use Rattle.filing_contents.specs.declared.FiledTiers.{FiledTiers}
-
--- how many retail rates a filing says: three columns of 120 months
-abbrev pub rateCount : ℕ
-rateCount = 360
 
 -- of a record of kind 4 with `count` tiers (02:CR 1): every second number from `first` on, one for the i-th tier, from 0; 0 past the last tier
 unfoldable pub tierNumber : List ℕ → ℕ → ℕ → ℕ → ℕ → ℕ

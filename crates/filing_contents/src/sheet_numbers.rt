@@ -1,6 +1,5 @@
 // The numbers of the sheet at an offset: in an array that is lent, flat rates in each month, and tiers.
 use crate::FiledTiers;
-use form::limits::RATES;
 use form::limits::TIER_LIMIT;
 use record_fields::holds_numbers;
 use record_fields::number_of;
@@ -12,9 +11,9 @@ ghost use Prim.Native.Nat.{_+_, _/_, _≤_, _<_};
 ghost use lib.Dec.{ltb};
 ghost use lib.ListN.{length, getD};
 ghost use Rattle.lists.specs.Tables.{table, tableFrom};
-ghost use Rattle.form.specs.Limits.{monthsLimit, tierLimit};
+ghost use Rattle.form.specs.Limits.{sheetMonths, tierLimit, rateCount};
 ghost use Rattle.record_fields.specs.Records.{sheetNumber};
-ghost use Rattle.filing_contents.specs.Sheets.{rateCount, tierNumber, tiersAt};
+ghost use Rattle.filing_contents.specs.Sheets.{tierNumber, tiersAt};
 
 // Fills in the numbers of the sheet at an offset, from the first on.
 pub fn fill_numbers(s: &[u8], at: usize, numbers: &mut [u16])
@@ -29,24 +28,25 @@ pub fn fill_numbers(s: &[u8], at: usize, numbers: &mut [u16])
 }
 
 // Fills in the retail rates of a sheet of flat ones: each in the 120 months of its column.
-pub fn fill_flat(s: &[u8], flat: usize, rates: &mut [u16; RATES])
-    ensures { λ _. ⌜ now (rates .exit) ≡ table rateCount (λ i. sheetNumber (now (s .entry)) flat (i / monthsLimit + 1)) ⌝ }
+pub fn fill_flat(s: &[u8], flat: usize, rates: &mut [u16])
+    requires { ⌜ length (now rates) ≡ rateCount ⌝ }
+    ensures { λ _. ⌜ now (rates .exit) ≡ table rateCount (λ i. sheetNumber (now (s .entry)) flat (i / sheetMonths + 1)) ⌝ }
 {
     let first = sheet_number(s, flat, 1);
     let second = sheet_number(s, flat, 2);
     let third = sheet_number(s, flat, 3);
-    *rates = [first; RATES];
+    fill_from(rates, 0, first);
     fill_from(rates, 120, second);
     fill_from(rates, 240, third);
 }
 
 // Fills in a rate from an index on.
-fn fill_from(rates: &mut [u16; RATES], from: usize, rate: u16)
+fn fill_from(rates: &mut [u16], from: usize, rate: u16)
     requires { ⌜ (from ≤ rateCount) × (length (now rates) ≡ rateCount) ⌝ }
     ensures { λ _. ⌜ now (rates .exit) ≡ table rateCount (λ i. cond (ltb i from) (getD (now (rates .entry)) i 0) rate) ⌝ }
 {
     let mut i = from;
-    while i < RATES {
+    while i < rates.len() {
         rates[i] = rate;
         i += 1;
     }

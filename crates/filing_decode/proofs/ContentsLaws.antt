@@ -5,23 +5,25 @@ use native.Mathlib.Nat.{add-comm}
 use native.Mathlib.Omega.{arith}
 use mathlib.Core.Path.{_≡_, refl, sym, ap, _∙_}
 use mathlib.Core.Bool.{Bool, true, false, cond}
-use mathlib.Core.List.{List}
+use mathlib.Core.List.{List, _++_}
 use borrow.Author.Tests.{ltb-false, lt-ltb, le-ltb}
-use lib.Dec.{ltb}
-use lib.ListN.{length, getD}
-use lib.Seq.{ext-getD}
+use lib.Dec.{ltb, lit≤}
+use lib.ListN.{length, getD, take, drop, length-drop}
+use lib.Seq.{ext-getD, length-take-le}
+use Rattle.lists.specs.Runs.{written}
 use Rattle.lists.specs.Tables.{table, tableFrom}
 use Rattle.lists.proofs.TableLaws.{tableFrom-getD, table-getD, table-length, table-ext}
+use Rattle.lists.proofs.RunLaws.{written-back, part-written, part-before}
 use Rattle.form.specs.Cells.{firstCell, cellCount}
-use Rattle.form.specs.Limits.{monthsLimit}
+use Rattle.form.specs.Limits.{sheetMonths, rateCount, yieldsStart, ratesStart, sheetNumberCount}
 use Rattle.record_kinds.specs.declared.items.Item.the-variants.{Sheet}
 use Rattle.record_fields.specs.Records.{sheetNumber}
 use Rattle.record_kinds.specs.Kinds.{kindCount, flatRatesKind, ratePathKind}
 use Rattle.record_offsets.specs.Inner.Notes.{notedBefore}
 use Rattle.record_offsets.proofs.NoteLaws.{noted-counting, noted-sheet, offset-end}
+use Rattle.filing_contents.specs.Contents.{yieldsIn, ratesIn}
 use Rattle.filing_contents.specs.Amounts.{amountAt}
 use Rattle.filing_contents.proofs.AmountLaws.{amount-past}
-use Rattle.filing_contents.specs.Sheets.{rateCount}
 use Rattle.filing_decode.specs.Contents.{cellOffset, cellValue, sheetOffset, rateNumber, contentsOf}
 
 -- a table from 1 on, counted from 0
@@ -52,6 +54,42 @@ pub sheet-noted : (s : List ℕ) (kind : ℕ) → kind < kindCount → getD (not
 unfolding sheetOffset
 sheet-noted s kind h = noted-sheet s (length s) kind h ∙ offset-end s (Sheet kind)
 
+-- a part of the numbers that is lent to be filled: its numbers are written where it stands
+pub part-filled : (l run : List ℕ) (start n k : ℕ) (f : ℕ → ℕ) → start + n ≤ length l → k ≡ n → run ≡ tableFrom 1 (length (take k (drop start l))) f
+    → take start l ++ (run ++ drop k (drop start l)) ≡ written l start (tableFrom 1 n f)
+part-filled l run start n k f h e r =
+    let long : length (take k (drop start l)) ≡ n = length-take-le k (drop start l) (omega (arith, length-drop start l)) ∙ e in
+    let is : run ≡ tableFrom 1 n f = rw long at r in
+    written-back l start k run (ap length is ∙ table-length 1 n f ∙ sym e) ∙ ap (written l start) is
+
+-- a filing says a yield for each month of a sheet, and as many rates as the columns have
+pub yields-long : (s : List ℕ) → length (contentsOf s .yields) ≡ sheetMonths
+unfolding contentsOf
+yields-long s = table-length 1 sheetMonths _
+
+pub rates-long : (s : List ℕ) → length (contentsOf s .rates) ≡ rateCount
+unfolding contentsOf
+rates-long s = table-length 0 rateCount _
+
+-- the yields written, and then the rates: each part of the numbers is what the filing says
+module _ (s l middle after : List ℕ) (as-long : length middle ≡ sheetNumberCount)
+    (first : middle ≡ written l yieldsStart (contentsOf s .yields)) (then : after ≡ written middle ratesStart (contentsOf s .rates)) where
+  pub yields-filled : yieldsIn after ≡ contentsOf s .yields
+  unfolding yieldsIn
+  yields-filled =
+      ap yieldsIn then
+      ∙ part-before middle ratesStart (contentsOf s .rates) yieldsStart sheetMonths (omega (arith, as-long)) (lit≤ tt)
+      ∙ ap yieldsIn first
+      ∙ ap (λ (n : ℕ). take n (drop yieldsStart (written l yieldsStart (contentsOf s .yields)))) (sym (yields-long s))
+      ∙ part-written l yieldsStart (contentsOf s .yields) (omega arith)
+
+  pub rates-filled : ratesIn after ≡ contentsOf s .rates
+  unfolding ratesIn
+  rates-filled =
+      ap ratesIn then
+      ∙ ap (λ (n : ℕ). take n (drop ratesStart (written middle ratesStart (contentsOf s .rates)))) (sym (rates-long s))
+      ∙ part-written middle ratesStart (contentsOf s .rates) (omega (arith, as-long))
+
 -- the rates of a filing, by the sheet that holds them
 module _ (s : List ℕ) {path : ℕ} (path-is : path ≡ sheetOffset s ratePathKind) where
   month-rate : (i : ℕ) → path < length s → sheetNumber s path (i + 1) ≡ rateNumber s i
@@ -63,10 +101,10 @@ module _ (s : List ℕ) {path : ℕ} (path-is : path ≡ sheetOffset s ratePathK
   rates-by-month l = table-shift rateCount (sheetNumber s path) ∙ table-ext rateCount _ _ (λ i u. month-rate i l)
 
   module _ {flat : ℕ} (flat-is : flat ≡ sheetOffset s flatRatesKind) (none : length s ≤ path) where
-    column-rate : (i : ℕ) → sheetNumber s flat (i / monthsLimit + 1) ≡ rateNumber s i
+    column-rate : (i : ℕ) → sheetNumber s flat (i / sheetMonths + 1) ≡ rateNumber s i
     unfolding rateNumber
     column-rate i = rw (← flat-is, ← path-is) (sym (simp (le-ltb path (length s) none)))
 
-    pub rates-flat : table rateCount (λ (i : ℕ). sheetNumber s flat (i / monthsLimit + 1)) ≡ contentsOf s .rates
+    pub rates-flat : table rateCount (λ (i : ℕ). sheetNumber s flat (i / sheetMonths + 1)) ≡ contentsOf s .rates
     unfolding contentsOf
     rates-flat = table-ext rateCount _ _ (λ i u. column-rate i)

@@ -6,7 +6,7 @@ use lib.ListN.{length}
 use lib.Dec.{ltb}
 use Rattle.lists.specs.Tables.{table, tableFrom}
 use Rattle.form.specs.Cells.{firstCell, cellCount}
-use Rattle.form.specs.Limits.{monthsLimit}
+use Rattle.form.specs.Limits.{sheetMonths, rateCount}
 use Rattle.record_fields.specs.Records.{sheetNumber}
 use Rattle.record_kinds.specs.Kinds.{yieldsKind, flatRatesKind, tiersKind, ratePathKind}
 use Rattle.record_kinds.specs.declared.items.Item.the-variants.{Sheet}
@@ -14,7 +14,7 @@ use Rattle.record_kinds.specs.Items.{firstWith}
 use Rattle.record_offsets.specs.Counting.{countingBefore}
 use Rattle.filing_contents.specs.Contents.{Contents, contentsWith}
 use Rattle.filing_contents.specs.Amounts.{amountAt}
-use Rattle.filing_contents.specs.Sheets.{rateCount, tiersAt}
+use Rattle.filing_contents.specs.Sheets.{tiersAt}
 
 -- the offset of the record that counts for a cell (02:CR 6), or the input's length where there is none
 unfoldable pub cellOffset : List ℕ → ℕ → ℕ
@@ -33,13 +33,13 @@ sheetOffset s kind = firstWith s (Sheet kind) (length s)
 unfoldable pub rateNumber : List ℕ → ℕ → ℕ
 rateNumber s i =
     cond (ltb (sheetOffset s ratePathKind) (length s)) (sheetNumber s (sheetOffset s ratePathKind) (i + 1))
-    (sheetNumber s (sheetOffset s flatRatesKind) (i / monthsLimit + 1))
+    (sheetNumber s (sheetOffset s flatRatesKind) (i / sheetMonths + 1))
 
 -- the cells from 601 on, the yields of kind 2 by month from 1 on, the retail rates of kinds 3 and 5 column by column, the tiers of kind 4
 unfoldable pub contentsOf : List ℕ → Contents
 contentsOf s =
     contentsWith
     (tableFrom firstCell cellCount (cellValue s))
-    (tableFrom 1 monthsLimit (sheetNumber s (sheetOffset s yieldsKind)))
+    (tableFrom 1 sheetMonths (sheetNumber s (sheetOffset s yieldsKind)))
     (table rateCount (rateNumber s))
     (tiersAt s (sheetOffset s tiersKind))

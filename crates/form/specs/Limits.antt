@@ -56,6 +56,23 @@ penaltyLimit = 3600
 abbrev pub rateLimit : ℕ
 rateLimit = 2500
 
+-- the months of a sheet by month (01:8), also of each column of retail rates (02:CR 3), and how many of these rates there are
+abbrev pub sheetMonths : ℕ
+sheetMonths = 120
+
+abbrev pub rateCount : ℕ
+rateCount = 360
+
+-- the numbers of all sheets stand in one list: where the CD yields begin, where the retail rates do, and how many numbers there are
+abbrev pub yieldsStart : ℕ
+yieldsStart = 0
+
+abbrev pub ratesStart : ℕ
+ratesStart = 120
+
+abbrev pub sheetNumberCount : ℕ
+sheetNumberCount = 480
+
 -- the most tiers of a filing, the largest edge, hundredths, and the largest annual withdrawal, thousandths (01:51; 02:CR 1)
 abbrev pub tierLimit : ℕ
 tierLimit = 16

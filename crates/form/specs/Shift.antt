@@ -4,7 +4,7 @@ use Prim.Native.Nat.{ℕ, _+_, _*_, _-_}
 use mathlib.Core.List.{List}
 use lib.ListN.{getD}
 use Rattle.lists.specs.Tables.{table}
-use Rattle.form.specs.Limits.{monthsLimit}
+use Rattle.form.specs.Limits.{sheetMonths}
 
 abbrev pub scenarioCount : ℕ
 scenarioCount = 7
@@ -24,4 +24,4 @@ shiftedLimit = 2800
 
 -- of retail rates by month, column by column (02:CR 3): the rate of a column, from 1, in a month, from 1, hundredths of a percent a year
 unfoldable pub pathRate : List ℕ → ℕ → ℕ → ℕ
-pathRate rates column month = getD rates (monthsLimit * (column - 1) + (month - 1)) 0
+pathRate rates column month = getD rates (sheetMonths * (column - 1) + (month - 1)) 0

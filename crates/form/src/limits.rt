@@ -13,13 +13,10 @@ pub const FILED_COUPON_LIMIT: u64 = 1_500;
 
 pub const COUPON_LIMIT: u64 = 15_000;
 
-// Of remaining months, also as the length of an array with an entry for each month, or for each month of the three columns, and of a penalty in hundredths
-// of a month.
-pub const MONTHS: usize = 120;
+// Of remaining months, the longest term, also as the length of an array with an entry for each month of a term, and of a penalty in hundredths of a month.
+pub const TERM_MONTHS: usize = 120;
 
-pub const RATES: usize = 360;
-
-pub const MONTHS_LIMIT: u64 = MONTHS as u64;
+pub const MONTHS_LIMIT: u64 = TERM_MONTHS as u64;
 
 pub const PENALTY_LIMIT: u64 = 3_600;
 
@@ -28,6 +25,18 @@ pub const UNUSED_LIMIT: u64 = 18_446_744_073_709_551_615;
 
 // Of a yield or a retail rate, in hundredths of a percent a year.
 pub const RATE_LIMIT: u16 = 2_500;
+
+// The months of a sheet, and how many retail rates there are by month, column by column.
+pub const SHEET_MONTHS: usize = 120;
+
+pub const RATES: usize = 360;
+
+// The numbers of all sheets in one array: where those of each begin, and how many there are.
+pub const YIELDS_START: usize = 0;
+
+pub const RATES_START: usize = 120;
+
+pub const SHEET_NUMBERS: usize = 480;
 
 // Of tiers, and of their annual withdrawal, in thousandths.
 pub const TIER_LIMIT: usize = 16;

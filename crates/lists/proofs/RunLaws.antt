@@ -2,8 +2,9 @@
 use Prim.Native.Nat.{ℕ, _+_, _≤_}
 use mathlib.Core.Path.{_≡_, refl, ap, sym, _∙_}
 use mathlib.Core.List.{List, [], _++_, append-assoc}
-use lib.ListN.{length, take, drop, length-append}
-use lib.Seq.{length-take-le, length-front, take-all, take-at, drop-drop, drop-append-add}
+use native.Mathlib.Omega.{arith}
+use lib.ListN.{length, take, drop, length-append, length-drop, take-append-drop}
+use lib.Seq.{length-take-le, length-front, take-all, take-at, take-append-le, take-append-seam, drop-at, drop-drop, drop-append-le, drop-append-add}
 use Rattle.lists.specs.Runs.{written}
 use Rattle.lists.specs.Tables.{table, joined}
 use Rattle.lists.proofs.TableLaws.{joined-suc}
@@ -45,6 +46,28 @@ module _ {ℓ} {A : Type ℓ} where
       → Overwritten (first ++ joined (table (i + 1) f)) next before (written after n row)
   overwritten-row first f m sized i n next before after row w r e h =
       rw (joined-suc i f, ← append-assoc, r) (overwritten-more (first ++ joined (table i f)) (f i) n next before after w (rw (sized i) (sym e)) h)
+
+  -- a part of a list that comes back with a run of as many elements
+  pub written-back : (l : List A) (at n : ℕ) (run : List A) → length run ≡ n → take at l ++ (run ++ drop n (drop at l)) ≡ written l at run
+  unfolding written
+  written-back l at n run e = rw (append-assoc, drop-drop, e)
+
+  -- the part of a list where a run is written is the run
+  pub part-written : (l : List A) (at : ℕ) (run : List A) → at ≤ length l → take (length run) (drop at (written l at run)) ≡ run
+  unfolding written
+  part-written l at run h = rw (append-assoc, drop-at (take at l) (run ++ drop (at + length run) l) at (length-take-le at l h)) (take-append-seam run _)
+
+  part-front : (xs ys : List A) (a n : ℕ) → a + n ≤ length xs → take n (drop a (xs ++ ys)) ≡ take n (drop a xs)
+  part-front xs ys a n h = rw (drop-append-le a xs ys (omega arith)) (take-append-le n (drop a xs) ys (omega (arith, length-drop a xs)))
+
+  -- a part before it is as it was
+  pub part-before : (l : List A) (at : ℕ) (run : List A) (a n : ℕ) → at ≤ length l → a + n ≤ at → take n (drop a (written l at run)) ≡ take n (drop a l)
+  unfolding written
+  part-before l at run a n h e =
+      let fits : a + n ≤ length (take at l) = omega (arith, length-take-le at l h) in
+      rw append-assoc (part-front (take at l) (run ++ drop (at + length run) l) a n fits)
+      ∙ sym (part-front (take at l) (drop at l) a n fits)
+      ∙ ap (λ (x : List A). take n (drop a x)) (take-append-drop at l)
 
   -- all entries
   pub overwritten-all : (front : List A) (n : ℕ) (before after : List A) → Overwritten front n before after → length before ≤ n → after ≡ front

@@ -1,6 +1,5 @@
 // The value of a balance: lower and upper in each scenario.
 use crate::Deposit;
-use crate::RatePaths;
 use crate::deposit_prices::coupon_growth;
 use crate::deposit_prices::value_bounds;
 use form::limits::TIER_LIMIT;
@@ -32,7 +31,7 @@ ghost use Rattle.price_deposits.specs.Inner.Values.{tabledValues};
 pub fn values_of<'a>(
     balance: u64,
     d: Deposit,
-    rates: &RatePaths,
+    rates: &[u16],
     column: usize,
     count: usize,
     edges: &'a [u64; TIER_LIMIT],

@@ -6,13 +6,13 @@ pub mod rate_multipliers;
 use crate::month_factors::lower_factors;
 use crate::month_factors::upper_factors;
 use crate::rate_multipliers::upper_multipliers;
-use form::limits::MONTHS;
+use form::limits::TERM_MONTHS;
 use form::sub_balances::SCENARIOS;
 use form_scenarios::shifted_rates;
 use lists::write;
 ghost use mathlib.Core.Path.{_≡_};
-ghost use Prim.Native.Nat.{_*_, _<_};
-ghost use lib.ListN.{replicate};
+ghost use Prim.Native.Nat.{_*_, _≤_, _<_};
+ghost use lib.ListN.{length, replicate};
 ghost use Rattle.lists.specs.Runs.{written};
 ghost use Rattle.form.specs.Limits.{monthsLimit};
 ghost use Rattle.form.specs.Shift.{scenarioCount};
@@ -21,23 +21,18 @@ ghost use Rattle.pricing.specs.Rounding.{down, up};
 ghost use Rattle.price_factors.specs.Inner.Factors.{yieldFactors, factorsBy, WithinRates};
 
 // A factor for each month and scenario.
-pub const FACTORS: usize = SCENARIOS * MONTHS;
+pub const FACTORS: usize = SCENARIOS * TERM_MONTHS;
 
 // Seven factors for each month, in billionths: month t and scenario s stand at index 7 (t - 1) + s.
 pub type FactorTable = [u64; FACTORS];
 
 // The lower and the upper factors of a sheet of CD yields, written into tables of zeros. Months past the longest term are left 0.
-pub fn fill_factors(
-    yields: &[u16; MONTHS],
-    longest: u64,
-    lower: &mut FactorTable,
-    upper: &mut FactorTable,
-)
-    requires { ⌜ WithinRates (now yields) × (now lower ≡ replicate factorCount 0) × (now upper ≡ replicate factorCount 0) ⌝ }
+pub fn fill_factors(yields: &[u16], longest: u64, lower: &mut FactorTable, upper: &mut FactorTable)
+    requires { ⌜ WithinRates (now yields) × (monthsLimit ≤ length (now yields)) × (now lower ≡ replicate factorCount 0) × (now upper ≡ replicate factorCount 0) ⌝ }
     ensures { λ _. ⌜ (now (lower .exit) ≡ factorsBy down (now (yields .entry)) longest) × (now (upper .exit) ≡ factorsBy up (now (yields .entry)) longest) ⌝ }
 {
     let mut month: usize = 0;
-    while month < MONTHS {
+    while month < TERM_MONTHS {
         if longest <= month as u64 {
             return;
         }
@@ -47,13 +42,8 @@ pub fn fill_factors(
 }
 
 // The factors of a month, counted from 0, in the seven scenarios. The lower ones are written before the upper ones are made, so that both are made in registers.
-fn fill_month(
-    yields: &[u16; MONTHS],
-    month: usize,
-    lower: &mut FactorTable,
-    upper: &mut FactorTable,
-)
-    requires { ⌜ WithinRates (now yields) × (month < monthsLimit) ⌝ }
+fn fill_month(yields: &[u16], month: usize, lower: &mut FactorTable, upper: &mut FactorTable)
+    requires { ⌜ WithinRates (now yields) × (monthsLimit ≤ length (now yields)) × (month < monthsLimit) ⌝ }
     ensures { λ _. ⌜ (now (lower .exit) ≡ written (now (lower .entry)) (scenarioCount * month) (yieldFactors down (now (yields .entry)) month))
         × (now (upper .exit) ≡ written (now (upper .entry)) (scenarioCount * month) (yieldFactors up (now (yields .entry)) month)) ⌝ }
 {

@@ -1,13 +1,12 @@
 // Tables of the multipliers of discount factors, of every month and scenario.
 use crate::discount_multiplier;
-use form::limits::MONTHS;
 use form::sub_balances::SCENARIOS;
 use price_factors::FACTORS;
 use price_factors::FactorTable;
 use price_factors::fill_factors;
 ghost use mathlib.Core.Path.{_≡_};
 ghost use Prim.Native.Nat.{_≤_};
-ghost use lib.ListN.{replicate};
+ghost use lib.ListN.{length, replicate};
 ghost use Rattle.form.specs.Limits.{monthsLimit};
 ghost use Rattle.form.specs.Counts.{factorCount};
 ghost use Rattle.pricing.specs.Rounding.{down, up, roundingOf};
@@ -19,12 +18,12 @@ pub type MultiplierTable = [u64; FACTORS];
 
 // The multipliers of the lower and the upper factors of a sheet of CD yields up to the longest term, written into tables of zeros.
 pub fn discount_tables(
-    yields: &[u16; MONTHS],
+    yields: &[u16],
     longest: u64,
     lower: &mut MultiplierTable,
     upper: &mut MultiplierTable,
 )
-    requires { ⌜ WithinRates (now yields) × (longest ≤ monthsLimit) × (now lower ≡ replicate factorCount 0) × (now upper ≡ replicate factorCount 0) ⌝ }
+    requires { ⌜ WithinRates (now yields) × (monthsLimit ≤ length (now yields)) × (longest ≤ monthsLimit) × (now lower ≡ replicate factorCount 0) × (now upper ≡ replicate factorCount 0) ⌝ }
     ensures { λ _. ⌜ HoldsFactors down longest (factorsBy down (now (yields .entry)) longest) (now (lower .exit)) × HoldsFactors up longest (factorsBy up (now (yields .entry)) longest) (now (upper .exit))
         × SameBehind longest (factorsBy down (now (yields .entry)) longest) (now (lower .exit)) × SameBehind longest (factorsBy up (now (yields .entry)) longest) (now (upper .exit)) ⌝ }
 {

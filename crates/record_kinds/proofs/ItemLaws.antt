@@ -77,7 +77,7 @@ unknown-due s at h =
       ne-eqb (recordKind s at) fineCouponKind (λ e. omega arith),
       ne-eqb (recordKind s at) amendmentKind (λ e. omega arith),
       ne-eqb (recordKind s at) tiersKind (λ e. omega arith),
-      List·getD-eq-default sheetKinds (sheetOf 0 0) {n = recordKind s at} h,
+      List·getD-eq-default sheetKinds (sheetOf 0 0 0) {n = recordKind s at} h,
     )
 
 -- a kind with a length is one of the kinds

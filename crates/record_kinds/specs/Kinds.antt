@@ -4,7 +4,7 @@ use mathlib.Core.Bool.{Bool, cond, _||_}
 use mathlib.Core.List.{List, [], _∷_}
 use lib.ListN.{getD}
 use lib.Dec.{eqb}
-use Rattle.form.specs.Limits.{rateLimit}
+use Rattle.form.specs.Limits.{rateLimit, sheetMonths, rateCount, yieldsStart, ratesStart}
 use Rattle.record_kinds.specs.declared.SheetKind.{SheetKind}
 use Rattle.record_fields.specs.Records.{recordKind, tierCount}
 
@@ -12,26 +12,26 @@ use Rattle.record_fields.specs.Records.{recordKind, tierCount}
 abbrev pub kindCount : ℕ
 kindCount = 8
 
--- a sheet of so many numbers, 2 bytes each, up to a limit
-unfoldable pub sheetOf : ℕ → ℕ → SheetKind
-sheetOf numbers limit = record { numbers = numbers; limit = limit }
+-- a sheet of so many numbers, 2 bytes each, up to a limit, which stand from `start` on in the list of the numbers of all sheets
+unfoldable pub sheetOf : ℕ → ℕ → ℕ → SheetKind
+sheetOf numbers limit start = record { numbers = numbers; limit = limit; start = start }
 
 -- The sheets by kind (01:8-9, 01:24; 02:CR 3): 2, the CD yields of months 1 to 120; 3, the flat retail rates of columns 1 to 3; 5, the retail rates of
--- months 1 to 120, column by column. A kind that is no sheet holds no number
+-- months 1 to 120, column by column, where a flat one stands in each month of its column. A kind that is no sheet holds no number
 unfoldable pub sheetKinds : List SheetKind
 sheetKinds =
-    sheetOf 0 0
-    ∷ sheetOf 0 0
-    ∷ sheetOf 120 rateLimit
-    ∷ sheetOf 3 rateLimit
-    ∷ sheetOf 0 0
-    ∷ sheetOf 360 rateLimit
-    ∷ sheetOf 0 0
-    ∷ sheetOf 0 0
+    sheetOf 0 0 0
+    ∷ sheetOf 0 0 0
+    ∷ sheetOf sheetMonths rateLimit yieldsStart
+    ∷ sheetOf 3 rateLimit ratesStart
+    ∷ sheetOf 0 0 0
+    ∷ sheetOf rateCount rateLimit ratesStart
+    ∷ sheetOf 0 0 0
+    ∷ sheetOf 0 0 0
     ∷ []
 
 unfoldable pub sheetKind : ℕ → SheetKind
-sheetKind kind = getD sheetKinds kind (sheetOf 0 0)
+sheetKind kind = getD sheetKinds kind (sheetOf 0 0 0)
 
 -- the length of a sheet, bytes: its kind and its numbers; 0, which no complete record has, where the kind is no sheet
 unfoldable pub sheetLength : ℕ → ℕ

@@ -2,6 +2,10 @@
 pub mod items;
 
 use form::limits::RATE_LIMIT;
+use form::limits::RATES;
+use form::limits::RATES_START;
+use form::limits::SHEET_MONTHS;
+use form::limits::YIELDS_START;
 use record_fields::record_kind;
 use record_fields::tier_count;
 ghost use mathlib.Core.Path.{_≡_};
@@ -25,10 +29,12 @@ pub const FINE_COUPON_KIND: usize = 6;
 
 pub const AMENDMENT_KIND: usize = 7;
 
-// A kind of sheet: how many numbers it holds, 2 bytes each, and the largest that each may be. One that is no sheet holds none.
+// A kind of sheet: how many numbers it holds, 2 bytes each, the largest that each may be, and where the first stands in the array of the numbers of all
+// sheets. One that is no sheet holds none.
 pub struct SheetKind {
     pub numbers: u16,
     pub limit: u16,
+    pub start: usize,
 }
 
 // The sheet of a kind.
@@ -36,23 +42,27 @@ pub fn sheet_kind(kind: usize) -> SheetKind
     ensures { λ r. ⌜ r ≡ sheetKind kind ⌝ }
 {
     match kind {
-        0 => sheet_of(0, 0),
-        1 => sheet_of(0, 0),
-        2 => sheet_of(120, RATE_LIMIT),
-        3 => sheet_of(3, RATE_LIMIT),
-        4 => sheet_of(0, 0),
-        5 => sheet_of(360, RATE_LIMIT),
-        6 => sheet_of(0, 0),
-        7 => sheet_of(0, 0),
-        _ => sheet_of(0, 0),
+        0 => sheet_of(0, 0, 0),
+        1 => sheet_of(0, 0, 0),
+        2 => sheet_of(SHEET_MONTHS as u16, RATE_LIMIT, YIELDS_START),
+        3 => sheet_of(3, RATE_LIMIT, RATES_START),
+        4 => sheet_of(0, 0, 0),
+        5 => sheet_of(RATES as u16, RATE_LIMIT, RATES_START),
+        6 => sheet_of(0, 0, 0),
+        7 => sheet_of(0, 0, 0),
+        _ => sheet_of(0, 0, 0),
     }
 }
 
-// A sheet of so many numbers up to a limit.
-fn sheet_of(numbers: u16, limit: u16) -> SheetKind
-    ensures { λ r. ⌜ r ≡ sheetOf numbers limit ⌝ }
+// A sheet of so many numbers up to a limit, from `start` on in the array.
+fn sheet_of(numbers: u16, limit: u16, start: usize) -> SheetKind
+    ensures { λ r. ⌜ r ≡ sheetOf numbers limit start ⌝ }
 {
-    SheetKind { numbers, limit }
+    SheetKind {
+        numbers,
+        limit,
+        start,
+    }
 }
 
 // A kind that gives a cell its value.

@@ -3,8 +3,7 @@ use answers::Answer;
 use answers::number;
 use filing::read;
 use form::CELLS;
-use form::limits::MONTHS;
-use form::limits::RATES;
+use form::limits::SHEET_NUMBERS;
 use form::sub_balances::NO_PLACE;
 use form::sub_balances::SUB_BALANCES;
 use form::sub_balances::SubBalance;
@@ -30,9 +29,8 @@ pub fn outcome_of(filing: &[u8], size: usize) -> Outcome
         return refusal(Answer::ListTooShort(size));
     }
     let mut cells = [0; CELLS];
-    let mut yields = [0; MONTHS];
-    let mut rates = [0; RATES];
-    let reading = read(filing, &mut cells, &mut yields, &mut rates);
+    let mut sheets = [0; SHEET_NUMBERS];
+    let reading = read(filing, &mut cells, &mut sheets);
     let answer = reading.answer;
     if number(answer) != 0 {
         return refusal(answer);

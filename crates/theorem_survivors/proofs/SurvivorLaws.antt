@@ -12,12 +12,12 @@ use lib.ListN.{length}
 use Rattle.lists.proofs.TestLaws.{and-true}
 use Rattle.lists.proofs.TableLaws.{tableFrom-ext}
 use Rattle.form.specs.Cells.{firstCell, lastCell, cellCount}
-use Rattle.form.specs.Limits.{couponClass, cellClass, monthsLimit, tierLimit}
+use Rattle.form.specs.Limits.{couponClass, cellClass, sheetMonths, tierLimit, rateCount}
 use Rattle.record_fields.specs.Records.{recordKind, recordCell, amendmentState, sheetNumber, tierCount}
 use Rattle.record_fields.proofs.ByteLaws.{number-past}
 use Rattle.record_kinds.specs.Kinds.{kindCount, sheetOf, sheetKinds, sheetKind, fineCouponKind, amendmentKind, yieldsKind, tiersKind, ratePathKind, flatRatesKind}
 use Rattle.filing_contents.specs.Amounts.{filedValue, amountAt}
-use Rattle.filing_contents.specs.Sheets.{rateCount, tierNumber, tiersAt}
+use Rattle.filing_contents.specs.Sheets.{tierNumber, tiersAt}
 use Rattle.filing_decode.specs.Contents.{cellOffset, cellValue, sheetOffset, rateNumber, contentsOf}
 use Rattle.theorem_survivors.specs.Survivors.{withdraws, survives, ownOffset, hasSheet, numbersOf, Surviving}
 use Rattle.theorem_survivors.proofs.OwnLaws.{own-counts}
@@ -81,7 +81,7 @@ module _ (s t : List ℕ) (u : Surviving s t) where
       by true h = u .same-numbers kind i k h l m
       by false h = absent-number t kind i (u .same-sheets kind k ∙ h) ∙ sym (absent-number s kind i h)
 
-  yield-same : (i : ℕ) → 1 ≤ i → i ≤ monthsLimit → sheetNumber t (sheetOffset t yieldsKind) i ≡ sheetNumber s (sheetOffset s yieldsKind) i
+  yield-same : (i : ℕ) → 1 ≤ i → i ≤ sheetMonths → sheetNumber t (sheetOffset t yieldsKind) i ≡ sheetNumber s (sheetOffset s yieldsKind) i
   unfolding numbersOf sheetKind sheetKinds sheetOf
   yield-same i l m = number-same yieldsKind i (lit< tt) l m
 
@@ -91,7 +91,7 @@ module _ (s t : List ℕ) (u : Surviving s t) where
       rw (
         u .same-sheets ratePathKind (lit< tt),
         number-same ratePathKind (i + 1) (lit< tt) (omega arith) (omega arith),
-        number-same flatRatesKind (i / monthsLimit + 1) (lit< tt) (omega arith) (omega arith),
+        number-same flatRatesKind (i / sheetMonths + 1) (lit< tt) (omega arith) (omega arith),
       )
 
   abbrev countOf : List ℕ → ℕ
@@ -121,7 +121,7 @@ module _ (s t : List ℕ) (u : Surviving s t) where
   survivors-say =
       rw (
         tableFrom-ext firstCell cellCount (cellValue t) (cellValue s) (λ n l m. cell-same n l (omega arith)),
-        tableFrom-ext 1 monthsLimit (sheetNumber t (sheetOffset t yieldsKind)) (sheetNumber s (sheetOffset s yieldsKind)) (λ i l m. yield-same i l (omega arith)),
+        tableFrom-ext 1 sheetMonths (sheetNumber t (sheetOffset t yieldsKind)) (sheetNumber s (sheetOffset s yieldsKind)) (λ i l m. yield-same i l (omega arith)),
         tableFrom-ext 0 rateCount (rateNumber t) (rateNumber s) (λ i l m. rate-same i m),
         tableFrom-ext 0 tierLimit _ _ (λ i l m. tier-same 2 i (omega arith) (omega arith)),
         tableFrom-ext 0 tierLimit _ _ (λ i l m. tier-same 3 i (omega arith) (omega arith)),

@@ -3,8 +3,7 @@ use answers::Answer;
 use answers::number;
 use filing::read;
 use form::CELLS;
-use form::limits::MONTHS;
-use form::limits::RATES;
+use form::limits::SHEET_NUMBERS;
 use form::sub_balances::NUMBERS;
 use value_numbers::write_numbers;
 ghost use Rattle.valuation.specs.Promise.{Valued};
@@ -18,15 +17,14 @@ pub fn value(filing: &[u8], numbers: &mut [u64]) -> Answer
         return Answer::ListTooShort(numbers.len());
     }
     let mut cells = [0; CELLS];
-    let mut yields = [0; MONTHS];
-    let mut rates = [0; RATES];
-    let reading = read(filing, &mut cells, &mut yields, &mut rates);
+    let mut sheets = [0; SHEET_NUMBERS];
+    let reading = read(filing, &mut cells, &mut sheets);
     let answer = reading.answer;
     if number(answer) != 0 {
         return answer;
     }
     let sums = reading.sums;
     let tiers = reading.tiers;
-    write_numbers(&cells, sums, &yields, &rates, tiers, numbers);
+    write_numbers(&cells, sums, &sheets, tiers, numbers);
     answer
 }

@@ -1,10 +1,14 @@
-// The 568 numbers of what an accepted filing says, written into a list. Its cells, yields and rates are lent: in the contracts k is the filing's contents,
-// with these arrays and the tiers passed.
+// The 568 numbers of what an accepted filing says, written into a list. Its cells and the numbers of its sheets are lent: in the contracts k is the filing's
+// contents, with these arrays and the tiers passed.
 use filing_cells::column_sums::ColumnSums;
 use filing_contents::FiledTiers;
 use form::CELLS;
-use form::limits::MONTHS;
 use form::limits::RATES;
+use form::limits::RATES_START;
+use form::limits::SHEET_MONTHS;
+use form::limits::SHEET_NUMBERS;
+use form::limits::TERM_MONTHS;
+use form::limits::YIELDS_START;
 use form::sub_balances::PLACE_NUMBERS;
 use form::sub_balances::SCENARIOS;
 use form::sub_balances::SUB_BALANCES;
@@ -23,7 +27,7 @@ ghost use Prim.Native.Nat.{_≤_};
 ghost use lib.ListN.{length, drop};
 ghost use Rattle.lists.specs.Tables.{table, joined};
 ghost use Rattle.filing_cells.specs.Inner.Sums.{columnSums};
-ghost use Rattle.filing_contents.specs.Contents.{Contents, contentsWith};
+ghost use Rattle.filing_contents.specs.Contents.{Contents, contentsIn};
 ghost use Rattle.filing_contents.specs.Valid.{Valid};
 ghost use Rattle.form.specs.PlaceOrder.{subBalanceCount};
 ghost use Rattle.form.specs.Counts.{totalsStart, numberCount};
@@ -33,17 +37,16 @@ ghost use Rattle.value_numbers.specs.Numbers.{placeNumbers, numbers};
 pub fn write_numbers<'a>(
     cells: &'a [u64; CELLS],
     sums: ColumnSums,
-    yields: &'a [u16; MONTHS],
-    rates: &'a [u16; RATES],
+    sheets: &'a [u16; SHEET_NUMBERS],
     tiers: FiledTiers,
     list: &mut [u64],
 )
     ghost { Contents }
-    requires { λ k. ⌜ k ≡ contentsWith (now cells) (now yields) (now rates) tiers ⌝ }
+    requires { λ k. ⌜ k ≡ contentsIn (now cells) (now sheets) tiers ⌝ }
     requires { λ k. ⌜ Valid k × (sums ≡ columnSums (k .cells)) × (numberCount ≤ length (now list)) ⌝ }
     ensures { λ k _. ⌜ now (list .exit) ≡ numbers k ++ drop numberCount (now (list .entry)) ⌝ }
 {
-    write_rows(cells, sums, yields, rates, tiers, list);
+    write_rows(cells, sums, sheets, tiers, list);
     let totals = totals_of(list);
     write(list, TOTALS_START, &totals);
 }
@@ -52,13 +55,12 @@ pub fn write_numbers<'a>(
 fn write_rows(
     cells: &[u64; CELLS],
     sums: ColumnSums,
-    yields: &[u16; MONTHS],
-    rates: &[u16; RATES],
+    sheets: &[u16; SHEET_NUMBERS],
     filed: FiledTiers,
     list: &mut [u64],
 )
     ghost { Contents }
-    requires { λ k. ⌜ k ≡ contentsWith (now cells) (now yields) (now rates) filed ⌝ }
+    requires { λ k. ⌜ k ≡ contentsIn (now cells) (now sheets) filed ⌝ }
     requires { λ k. ⌜ Valid k × (sums ≡ columnSums (k .cells)) × (totalsStart ≤ length (now list)) ⌝ }
     ensures { λ k _. ⌜ now (list .exit) ≡ joined (table subBalanceCount (placeNumbers k)) ++ drop totalsStart (now (list .entry)) ⌝ }
 {
@@ -67,8 +69,11 @@ fn write_rows(
     let longest = longest_term(places);
     let mut lower = [0u64; FACTORS];
     let mut upper = [0u64; FACTORS];
+    let numbers: &[u16] = sheets;
+    let yields = &numbers[YIELDS_START..YIELDS_START + SHEET_MONTHS];
+    let rates = &numbers[RATES_START..RATES_START + RATES];
     discount_tables(yields, longest, &mut lower, &mut upper);
-    let mut months = [[0u8; SCENARIOS]; MONTHS];
+    let mut months = [[0u8; SCENARIOS]; TERM_MONTHS];
     let mut place: usize = 0;
     while place < SUB_BALANCES {
         let row = row_of(

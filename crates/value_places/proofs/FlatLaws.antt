@@ -8,12 +8,11 @@ use native.Mathlib.Omega.{arith}
 use borrow.Author.Tests.{le-ltb}
 use lib.ListN.{length}
 use Rattle.lists.proofs.TableLaws.{table-getD}
-use Rattle.form.specs.Limits.{monthsLimit}
+use Rattle.form.specs.Limits.{sheetMonths, rateCount}
 use Rattle.form.specs.Shift.{shiftedRate, pathRate}
 use Rattle.record_fields.specs.Records.{sheetNumber}
 use Rattle.record_kinds.specs.Kinds.{flatRatesKind, ratePathKind}
 use Rattle.filing_cells.proofs.SumLaws.{column-range}
-use Rattle.filing_contents.specs.Sheets.{rateCount}
 use Rattle.filing_decode.specs.Contents.{sheetOffset, rateNumber, contentsOf}
 use Rattle.filing_contents.specs.Contents.{retailRate}
 use Rattle.filing_contents.specs.Valid.{Valid}
@@ -26,11 +25,11 @@ use Rattle.value_places.specs.PlaceTerms.{depositAt, rateAt, termsHeld}
 use Rattle.value_places.proofs.PlaceTermsLaws.{deposit-limits}
 
 module _ (s : List ℕ) (flat : length s ≤ sheetOffset s ratePathKind) where
-  flat-rate : (column t : ℕ) → 1 ≤ column → column ≤ 3 → t < monthsLimit → retailRate (contentsOf s) column t ≡ sheetNumber s (sheetOffset s flatRatesKind) column
+  flat-rate : (column t : ℕ) → 1 ≤ column → column ≤ 3 → t < sheetMonths → retailRate (contentsOf s) column t ≡ sheetNumber s (sheetOffset s flatRatesKind) column
   unfolding pathRate contentsOf rateNumber
   flat-rate column t l u h =
-      let place = monthsLimit * (column - 1) + (t - 1) in
-      let row : place / monthsLimit + 1 ≡ column = omega arith in
+      let place = sheetMonths * (column - 1) + (t - 1) in
+      let row : place / sheetMonths + 1 ≡ column = omega arith in
       rw (table-getD rateCount (rateNumber s) place 0 (omega arith), le-ltb _ _ flat, row)
 
   -- each month t of the term is within 120, where the rate of the place's column is that of the flat sheet

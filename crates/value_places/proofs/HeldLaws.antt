@@ -8,7 +8,7 @@ use native.Mathlib.Nat.{mul-le-mul, eq-zero-or-pos}
 use native.Mathlib.Omega.{arith}
 use lib.Dec.{lit<}
 use Rattle.fraction.specs.Fraction.{Encloses}
-use Rattle.form.specs.Limits.{balanceLimit}
+use Rattle.form.specs.Limits.{balanceLimit, sheetMonths}
 use Rattle.form.specs.Shift.{pathRate}
 use Rattle.filing_contents.specs.Contents.{Contents, cdYield}
 use Rattle.filing_contents.specs.Valid.{Valid}
@@ -45,7 +45,7 @@ module _ (k : Contents) (v : Valid k) where
 
   pub rates-within : WithinRates (k .rates)
   unfolding pathRate
-  rates-within i = let e : 120 * (1 - 1) + (suc i - 1) ≡ i = omega arith in rw e at (v .rate-limit 1 (suc i))
+  rates-within i = let e : sheetMonths * (1 - 1) + (suc i - 1) ≡ i = omega arith in rw e at (v .rate-limit 1 (suc i))
 
 module _ (k : Contents) (place : ℕ) (held : SubBalance) where
   pub held-encloses : (scenario : ℕ) → Encloses (valueHeld down k scenario place held) (exactHeld k scenario place held) (valueHeld up k scenario place held)

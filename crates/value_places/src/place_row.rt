@@ -7,12 +7,12 @@ use form::sub_balances::SubBalance;
 use lists::write;
 use price_deposits::Deposit;
 use price_deposits::MonthLevels;
-use price_deposits::RatePaths;
 use price_deposits::values::values_of;
 use price_multipliers::discount_tables::MultiplierTable;
 ghost use mathlib.Core.Path.{_≡_};
 ghost use Prim.Native.Nat.{_≤_, _<_};
-ghost use Rattle.form.specs.Limits.{balanceLimit};
+ghost use lib.ListN.{length};
+ghost use Rattle.form.specs.Limits.{balanceLimit, rateCount};
 ghost use Rattle.form.specs.PlaceOrder.{subBalanceCount, positionOf};
 ghost use Rattle.withdrawal.specs.Inner.TierArrays.{tierTable};
 ghost use Rattle.pricing.specs.Rounding.{down, up};
@@ -28,7 +28,7 @@ ghost use Rattle.value_places.specs.Inner.PlaceRows.{tabledHeld, rowOf};
 pub fn row_of<'a>(
     held: SubBalance,
     place: usize,
-    rates: &RatePaths,
+    rates: &[u16],
     count: usize,
     edges: &'a [u64; TIER_LIMIT],
     survivals: &'a [u64; TIER_LIMIT],
@@ -38,7 +38,7 @@ pub fn row_of<'a>(
     months: &mut MonthLevels,
 ) -> [u64; PLACE_NUMBERS]
     requires { ⌜ (place < subBalanceCount) × (held .balance ≤ balanceLimit) × DepositLimits (depositAt place held) ⌝ }
-    requires { ⌜ WithinRates (now rates) × TiersLent count (now edges) (now survivals) retained ⌝ }
+    requires { ⌜ WithinRates (now rates) × (rateCount ≤ length (now rates)) × TiersLent count (now edges) (now survivals) retained ⌝ }
     requires { ⌜ (0 < held .balance → Discounting down (depositAt place held .months) (now lower) × Discounting up (depositAt place held .months) (now upper)) ⌝ }
     ensures { λ r. ⌜ ((t : TiersLent count (now (edges .entry)) (now (survivals .entry)) retained) → r ≡ rowOf held place (now (rates .entry)) (tierTable (lentTiers t)) (factorsOf down (depositAt place held .months) (now (lower .entry))) (factorsOf up (depositAt place held .months) (now (upper .entry)))) ⌝ }
     ensures { λ r. ⌜ LevelsLeft count (now (edges .entry)) (held .balance) (depositAt place held) (now (rates .entry)) (positionOf place .column) (now (months .entry)) (now (months .exit)) ⌝ }
@@ -67,7 +67,7 @@ pub fn row_of<'a>(
 pub fn held_values<'a>(
     held: SubBalance,
     place: usize,
-    rates: &RatePaths,
+    rates: &[u16],
     count: usize,
     edges: &'a [u64; TIER_LIMIT],
     survivals: &'a [u64; TIER_LIMIT],
@@ -77,7 +77,7 @@ pub fn held_values<'a>(
     months: &mut MonthLevels,
 ) -> [u64; PLACE_VALUES]
     requires { ⌜ (place < subBalanceCount) × (held .balance ≤ balanceLimit) × DepositLimits (depositAt place held) ⌝ }
-    requires { ⌜ WithinRates (now rates) × TiersLent count (now edges) (now survivals) retained ⌝ }
+    requires { ⌜ WithinRates (now rates) × (rateCount ≤ length (now rates)) × TiersLent count (now edges) (now survivals) retained ⌝ }
     requires { ⌜ (0 < held .balance → Discounting down (depositAt place held .months) (now lower) × Discounting up (depositAt place held .months) (now upper)) ⌝ }
     ensures { λ r. ⌜ ((t : TiersLent count (now (edges .entry)) (now (survivals .entry)) retained) → r ≡ tabledHeld held place (now (rates .entry)) (tierTable (lentTiers t)) (factorsOf down (depositAt place held .months) (now (lower .entry))) (factorsOf up (depositAt place held .months) (now (upper .entry)))) ⌝ }
     ensures { λ r. ⌜ LevelsLeft count (now (edges .entry)) (held .balance) (depositAt place held) (now (rates .entry)) (positionOf place .column) (now (months .entry)) (now (months .exit)) ⌝ }

@@ -4,8 +4,7 @@ use answers::Answer;
 use answers::number;
 use filing::read;
 use form::CELLS;
-use form::limits::MONTHS;
-use form::limits::RATES;
+use form::limits::SHEET_NUMBERS;
 use withdrawal::Incentive;
 use withdrawal::ReachedTier;
 use withdrawal_search::reached_tier;
@@ -29,9 +28,8 @@ pub fn tier_for(filing: &[u8], incentive: Incentive) -> TierAnswer
     ensures { λ r. ⌜ TierAnswered (now (filing .entry)) incentive r ⌝ }
 {
     let mut cells = [0; CELLS];
-    let mut yields = [0; MONTHS];
-    let mut rates = [0; RATES];
-    let reading = read(filing, &mut cells, &mut yields, &mut rates);
+    let mut sheets = [0; SHEET_NUMBERS];
+    let reading = read(filing, &mut cells, &mut sheets);
     let answer = reading.answer;
     if number(answer) != 0 {
         return TierAnswer::Refused(answer);

@@ -4,8 +4,8 @@ pub mod month_levels;
 use crate::month_levels::last_level;
 use crate::month_levels::level_survival;
 use crate::month_levels::month_levels;
-use form::limits::MONTHS;
-use form::limits::RATES;
+use form::limits::SHEET_MONTHS;
+use form::limits::TERM_MONTHS;
 use form::limits::TIER_LIMIT;
 use form::sub_balances::SCENARIOS;
 use price_multipliers::multipliers_of;
@@ -13,15 +13,15 @@ use withdrawal_gain::coupon_parts;
 ghost use Prim.Native.Nat.{ℕ, _≤_};
 ghost use mathlib.Core.Path.{_≡_};
 ghost use mathlib.Core.Bool.{false};
-ghost use lib.ListN.{getD, replicate};
-ghost use Rattle.form.specs.Limits.{couponLimit, penaltyLimit, monthsLimit, rateLimit, tierLimit};
+ghost use lib.ListN.{length, getD, replicate};
+ghost use Rattle.form.specs.Limits.{couponLimit, penaltyLimit, monthsLimit, rateLimit, rateCount, tierLimit};
 ghost use Rattle.withdrawal.specs.Inner.TierArrays.{EdgesFit};
 ghost use Rattle.pricing.specs.Scales.{par, growthLimit, servicingLimit};
 ghost use Rattle.withdrawal_months.specs.TierLevels.{lastLevel, levelSurvival};
 ghost use Rattle.withdrawal_months.specs.Levels.{Levelled, LeftBehind, Multiplied, NothingPast};
 
 // Seven levels for each month, one for each scenario.
-pub type Levels = [[u8; SCENARIOS]; MONTHS];
+pub type Levels = [[u8; SCENARIOS]; TERM_MONTHS];
 
 // Writes the levels of all months but the last, at the retail rates of a column, 1 to 3, which are not shifted. As a slice the room is known to have 120
 // months; behind them it is left as it was.
@@ -30,14 +30,14 @@ pub fn early_levels(
     coupon: u64,
     penalty: u64,
     months: u64,
-    rates: &[u16; RATES],
+    rates: &[u16],
     column: usize,
     count: usize,
     edges: &[u64; TIER_LIMIT],
     levels: &mut Levels,
 )
     requires { ⌜ (coupon ≤ couponLimit) × (penalty ≤ penaltyLimit) × (months ≤ monthsLimit) × EdgesFit count (now edges) ⌝ }
-    requires { ⌜ ((i : ℕ) → getD (now rates) i 0 ≤ rateLimit) × (1 ≤ column) × (column ≤ 3) ⌝ }
+    requires { ⌜ ((i : ℕ) → getD (now rates) i 0 ≤ rateLimit) × (1 ≤ column) × (column ≤ 3) × (rateCount ≤ length (now rates)) ⌝ }
     ensures { λ _. ⌜ Levelled brokered coupon penalty months count (now (edges .entry)) (now (rates .entry)) column (now (levels .exit))
         × LeftBehind months (now (levels .entry)) (now (levels .exit)) ⌝ }
 {
@@ -45,7 +45,7 @@ pub fn early_levels(
     let list: &mut [[u8; SCENARIOS]] = levels;
     let mut t: u64 = 0;
     while t + 1 < months {
-        let rate = rates[MONTHS * (column - 1) + t as usize];
+        let rate = rates[SHEET_MONTHS * (column - 1) + t as usize];
         let left = months - (t + 1);
         list[t as usize] = month_levels(brokered, count, edges, parts, rate, left);
         t += 1;

@@ -41,7 +41,7 @@ to-multipliers-requires-2 c κs = let test = c .before .before .before .before .
 held-values-requires : tie.Need-held-values-requires
 unfolding depositAt roundingOf
 held-values-requires c κs =
-    let above = c .before .before .before .before .before .before in
+    let above = c .before .before .before .before .before .before .before in
     let below = above .before .before in
     let tiers = below .before .before .before .before in
     let start = tiers .before .before .before in
@@ -50,7 +50,7 @@ held-values-requires c κs =
     let months : a .held .«remaining_months» ≤ monthsLimit = start .pre .2 .months-le in (
       start .pre,
       (
-        (l .rates-le, lent _ (tiers .tiers-of .ensures .1)),
+        (l .rates-le, omega (arith, c .before .before .before .before .before .before .held-values-arg .given .0), lent _ (tiers .tiers-of .ensures .1)),
         λ pos. (
           lower-discounting (a .lower .now) _ (a .held .«remaining_months») (below .to-multipliers .ensures .0) (l .lower-le),
           upper-discounting (a .upper .now) _ (a .held .«remaining_months») (above .to-multipliers2 .ensures .0) (l .upper-le) (λ i h. l .upper-pos i (omega (arith, h, months))),
@@ -62,7 +62,7 @@ held-values-requires c κs =
 returns-2 : tie.Need-returns-2
 unfolding valuesUnder depositAt roundingOf
 returns-2 c =
-    let above = c .before .before .before .before .before .before .before in
+    let above = c .before .before .before .before .before .before .before .before in
     let below = above .before .before in
     let tiers = below .before .before .before .before in
     let test = tiers .before in

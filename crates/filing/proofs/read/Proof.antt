@@ -43,7 +43,7 @@ records-number c = c .number .ensures ∙ ap (λ (v : Verdict). v .number) (c .b
 returns : tie.Need-returns
 returns c =
     let tested = c .before .before in
-    refused-reading (bytes tested) _ _ _ (c .refusal .result) _ (c .refusal .ensures)
+    refused-reading (bytes tested) _ _ (c .refusal .result) _ (c .refusal .ensures)
     (tested .before .check-records .ensures .0 ∙ records-refuse _ (λ e. c .before .if1 .taken (records-number tested ∙ e)))
     (λ e. c .before .if1 .taken (tested .number .ensures ∙ e))
 
@@ -73,13 +73,13 @@ sheets-number c = c .number2 .ensures ∙ ap (λ (v : Verdict). v .number) (c .b
 returns-2 : tie.Need-returns-2
 returns-2 c =
     let tested = c .before .before in
-    refused-reading (sheet-bytes tested) _ _ _ (c .refusal2 .result) _ (c .refusal2 .ensures)
+    refused-reading (sheet-bytes tested) _ _ (c .refusal2 .result) _ (c .refusal2 .ensures)
     (tested .before .check-sheets .ensures ∙ sheets-refuse _ (none (passed tested)) (λ e. c .before .if2 .taken (sheets-number tested ∙ e)))
     (λ e. c .before .if2 .taken (tested .number2 .ensures ∙ e))
 
 read-contents-requires : tie.Need-read-contents-requires
 read-contents-requires c κs =
-    let tested = c .before .before .before .before .before in
+    let tested = c .before .before .before .before in
     let before = passed (tested .before) in
     let noted = before .before .before .check-records .ensures .1 ∙ all-noted before in (
       (none before, sym (sheets-number (tested .before)) ∙ tested .if2 .left),

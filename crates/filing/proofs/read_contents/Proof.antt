@@ -43,7 +43,7 @@ decided c =
 returns : tie.Need-returns
 returns c =
     let tested = c .before .before in
-    refused-reading _ _ _ _ (c .refusal .result) _ (c .refusal .ensures) (decided (tested .before)) (λ e. c .before .if1 .taken (tested .number .ensures ∙ e))
+    refused-reading _ _ _ (c .refusal .result) _ (c .refusal .ensures) (decided (tested .before)) (λ e. c .before .if1 .taken (tested .number .ensures ∙ e))
 
 fill-sheets-requires : tie.Need-fill-sheets-requires
 fill-sheets-requires c κs = search needs
@@ -51,7 +51,7 @@ fill-sheets-requires c κs = search needs
 returns-2 : tie.Need-returns-2
 unfolding verdictOf
 returns-2 c =
-    let passed = c .before .before .before .before in
+    let passed = c .before .before .before in
     let checked = passed .before .before in
     let cells = checked .before .before .fill-cells .ensures in
     let v = decided checked in

@@ -1,14 +1,18 @@
--- `fill_sheets` meets its contract: each part is what its callee fills in or answers.
--- Assumes nothing.
+-- `fill_sheets` meets its contract: each part is what its callee fills in or answers. Assumes nothing.
 use Prim.Native.Nat.{ℕ, _<_}
 use mathlib.Core.List.{List}
 use mathlib.Core.Path.{_≡_, ap, _∙_}
+use native.Mathlib.Omega.{arith}
+use borrow.Author.Needs.{needs}
 use lib.Dec.{lit<}
 use lib.ListN.{getD}
-use borrow.Author.Needs.{needs}
-use Rattle.record_kinds.specs.Kinds.{kindCount, yieldsKind, flatRatesKind, tiersKind, ratePathKind}
+use Rattle.lists.specs.Runs.{written}
+use Rattle.lists.specs.Tables.{tableFrom}
+use Rattle.form.specs.Limits.{sheetMonths, yieldsStart}
+use Rattle.record_fields.specs.Records.{sheetNumber}
+use Rattle.record_kinds.specs.Kinds.{kindCount, yieldsKind, flatRatesKind, tiersKind, ratePathKind, sheetOf, sheetKinds, sheetKind}
 use Rattle.filing_decode.specs.Contents.{sheetOffset, contentsOf}
-use Rattle.filing_decode.proofs.ContentsLaws.{sheet-noted}
+use Rattle.filing_decode.proofs.ContentsLaws.{sheet-noted, yields-filled, rates-filled}
 use Rattle.filing_decode.proofs.fill_sheets.Statement.{statement}
 use Rattle.filing_decode.proofs.fill_sheets.Tie as tie
 
@@ -16,12 +20,12 @@ use Rattle.filing_decode.proofs.fill_sheets.Tie as tie
 sheet-is : (c : tie.Start) (kind : ℕ) → kind < kindCount → getD (c .args .sheets .now) kind 0 ≡ sheetOffset (c .args .s .now) kind
 sheet-is c kind h = ap (λ (l : List ℕ). getD l kind 0) (c .pre) ∙ sheet-noted _ kind h
 
-element-copy-out-fill-yields : tie.Need-element-copy-out-fill-yields
-element-copy-out-fill-yields c = search needs
+element-copy-out-fill-sheet : tie.Need-element-copy-out-fill-sheet
+element-copy-out-fill-sheet c = search needs
 
-fill-yields-requires : tie.Need-fill-yields-requires
-fill-yields-requires c κs =
-    sheet-is (c .before .before .before) yieldsKind (lit< tt)
+fill-sheet-requires : tie.Need-fill-sheet-requires
+unfolding sheetOf sheetKinds sheetKind
+fill-sheet-requires c κs = omega arith
 
 element-copy-out-fill-rates : tie.Need-element-copy-out-fill-rates
 element-copy-out-fill-rates c = search needs
@@ -32,7 +36,7 @@ element-copy-out-fill-rates-2 c = search needs
 fill-rates-requires : tie.Need-fill-rates-requires
 fill-rates-requires c κs =
     let start = c .before .before .before .before .before .before .before in
-    (sheet-is start flatRatesKind (lit< tt), sheet-is start ratePathKind (lit< tt))
+    (sheet-is start flatRatesKind (lit< tt), sheet-is start ratePathKind (lit< tt), omega arith)
 
 element-copy-out-tiers-at : tie.Need-element-copy-out-tiers-at
 element-copy-out-tiers-at c = search needs
@@ -41,14 +45,17 @@ tiers-at-requires : tie.Need-tiers-at-requires
 tiers-at-requires c κs = search needs
 
 returns : tie.Need-returns
-unfolding contentsOf
+unfolding contentsOf sheetOf sheetKinds sheetKind
 returns c =
     let rates = c .before .before in
     let yields = rates .before .before .before .before in
     let start = yields .before .before .before .before in
+    let s = start .args .s .now in
+    let l = start .args .numbers .now in
+    let first = yields .fill-sheet .ensures ∙ ap (λ (at : ℕ). written l yieldsStart (tableFrom 1 sheetMonths (sheetNumber s at))) (sheet-is start yieldsKind (lit< tt)) in
     rw (
-      yields .fill-yields .ensures,
-      rates .fill-rates .ensures,
+      yields-filled s l _ _ (omega arith) first (rates .fill-rates .ensures),
+      rates-filled s l _ _ (omega arith) first (rates .fill-rates .ensures),
       c .tiers-at .ensures,
       sheet-is start tiersKind (lit< tt),
     )
@@ -57,8 +64,8 @@ pub fill-sheets-spec : {M : Type 1} → statement M
 fill-sheets-spec =
     tie.close
     (tie.spec
-    element-copy-out-fill-yields
-    fill-yields-requires
+    element-copy-out-fill-sheet
+    fill-sheet-requires
     element-copy-out-fill-rates
     element-copy-out-fill-rates-2
     fill-rates-requires

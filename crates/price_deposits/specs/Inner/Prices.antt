@@ -1,8 +1,8 @@
 -- The run of a deposit with discount factors from a list, and the limits of a deposit (01:24). Definitions only.
 use Prim.Native.Nat.{ℕ, _≤_}
 use mathlib.Core.List.{List}
-use lib.ListN.{getD}
-use Rattle.form.specs.Limits.{couponLimit, penaltyLimit, monthsLimit, rateLimit}
+use lib.ListN.{length, getD}
+use Rattle.form.specs.Limits.{couponLimit, penaltyLimit, monthsLimit, rateLimit, rateCount}
 use Rattle.form.specs.Shift.{shiftedRate, pathRate}
 use Rattle.withdrawal.specs.Tiers.{TierTable}
 use Rattle.pricing.specs.Rounding.{Rounding, down, up}
@@ -31,8 +31,9 @@ pub record DepositLimits (d : Deposit) : Type 0 where
   pub penalty-le : d .penalty ≤ penaltyLimit
   pub months-le : d .months ≤ monthsLimit
 
--- retail rates within the limit, and a column among theirs
+-- retail rates within the limit, a column among theirs, and as many as the columns have
 pub record ColumnRates (rates : List ℕ) (column : ℕ) : Type 0 where
   pub within : (i : ℕ) → getD rates i 0 ≤ rateLimit
   pub first-le : 1 ≤ column
   pub last-le : column ≤ 3
+  pub long : rateCount ≤ length rates

@@ -28,7 +28,7 @@ abbrev μ-loop : tie.MeasureT-loop
 
 loop-holds : tie.Need-loop-holds Inv-loop μ-loop
 unfolding tableFrom joined
-loop-holds c = rw (c .pre .1, c .pre .2) (omega arith, overwritten-none _, overwritten-none _)
+loop-holds c = rw (c .before .pre .2, c .before .pre .3) (omega arith, overwritten-none _, overwritten-none _)
 
 returns : tie.Need-returns Inv-loop μ-loop
 returns c =
@@ -36,7 +36,7 @@ returns c =
     (inv .1 .is ∙ factors-left _ _ _ _ (c .if1 .taken) (inv .0), inv .2 .is ∙ factors-left _ _ _ _ (c .if1 .taken) (inv .0))
 
 fill-month-requires : tie.Need-fill-month-requires Inv-loop μ-loop
-fill-month-requires c κs = (c .before .before .before .before .before .pre .0, omega arith)
+fill-month-requires c κs = let limits = c .before .before .before .before .before .before .pre in (limits .0, limits .1, omega arith)
 
 add-month : tie.Need-add-month Inv-loop μ-loop
 add-month c = omega arith

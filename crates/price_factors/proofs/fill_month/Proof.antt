@@ -21,15 +21,15 @@ add-n c = search needs
 mul-shifted-rates : tie.Need-mul-shifted-rates
 mul-shifted-rates c = search needs
 
-element-copy-out-shifted-rates : tie.Need-element-copy-out-shifted-rates
-element-copy-out-shifted-rates c = search needs
+shared-slice-read-shifted-rates : tie.Need-shared-slice-read-shifted-rates
+shared-slice-read-shifted-rates c = search needs
 
 shifted-rates-requires : tie.Need-shifted-rates-requires
 shifted-rates-requires c κs = search needs
 
 -- the shifted rates, and their multipliers
 rates-le : (c : tie.After-shifted-rates) → AtMost shiftedLimit (c .shifted-rates .result)
-rates-le c = rw (c .shifted-rates .ensures) (shifted-rates-le _ (c .before .before .pre .0 _))
+rates-le c = rw (c .shifted-rates .ensures) (shifted-rates-le _ (c .before .before .before .pre .0 _))
 
 abbrev shifted : tie.After-upper-multipliers → tie.After-shifted-rates
 shifted c = c .before .before
@@ -84,7 +84,7 @@ returns c =
     let lower = upper .before .before in
     let above = multiplied lower in
     let below = lower .before .before .before in
-    let start = shifted above .before .before in
+    let start = shifted above .before .before .before in
     let rates = shifted above .shifted-rates .ensures in (
       lower .write .ensures ∙ rw (below .lower-factors .ensures, rates, add-one),
       c .write2 .ensures ∙ rw (upper-are (start .args .yields .now) _ _ _ (start .args .month) rates (rates-le (shifted above)) (above .upper-multipliers .ensures) (upper .upper-factors .ensures)),
@@ -96,7 +96,7 @@ fill-month-spec =
     (tie.spec
     add-n
     mul-shifted-rates
-    element-copy-out-shifted-rates
+    shared-slice-read-shifted-rates
     shifted-rates-requires
     upper-multipliers-requires
     lower-factors-requires

@@ -15,6 +15,9 @@ sheet-of-requires c κs = search needs
 sheet-of-requires-2 : tie.Need-sheet-of-requires-2
 sheet-of-requires-2 c κs = search needs
 
+cast-sheet-of : tie.Need-cast-sheet-of
+cast-sheet-of c = search needs
+
 sheet-of-requires-3 : tie.Need-sheet-of-requires-3
 sheet-of-requires-3 c κs = search needs
 
@@ -23,6 +26,9 @@ sheet-of-requires-4 c κs = search needs
 
 sheet-of-requires-5 : tie.Need-sheet-of-requires-5
 sheet-of-requires-5 c κs = search needs
+
+cast-sheet-of-2 : tie.Need-cast-sheet-of-2
+cast-sheet-of-2 c = search needs
 
 sheet-of-requires-6 : tie.Need-sheet-of-requires-6
 sheet-of-requires-6 c κs = search needs
@@ -73,7 +79,7 @@ unfolding sheetOf sheetKinds sheetKind
 returns-9 c =
     let none = c .before .match .rest in
     let past : 8 ≤ c .before .before .args .kind = above 7 (above 6 (above 5 (above 4 (above 3 (above 2 (above 1 (above 0 (omega arith) (none .0 .0 .0 .0 .0 .0 .0 .1)) (none .0 .0 .0 .0 .0 .0 .1)) (none .0 .0 .0 .0 .0 .1)) (none .0 .0 .0 .0 .1)) (none .0 .0 .0 .1)) (none .0 .0 .1)) (none .0 .1)) (none .1) in
-    c .sheet-of9 .ensures ∙ sym (List·getD-eq-default sheetKinds (sheetOf 0 0) past)
+    c .sheet-of9 .ensures ∙ sym (List·getD-eq-default sheetKinds (sheetOf 0 0 0) past)
 
 pub sheet-kind-spec : {M : Type 1} → statement M
 sheet-kind-spec =
@@ -81,9 +87,11 @@ sheet-kind-spec =
     (tie.spec
     sheet-of-requires
     sheet-of-requires-2
+    cast-sheet-of
     sheet-of-requires-3
     sheet-of-requires-4
     sheet-of-requires-5
+    cast-sheet-of-2
     sheet-of-requires-6
     sheet-of-requires-7
     sheet-of-requires-8

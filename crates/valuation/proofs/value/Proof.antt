@@ -20,8 +20,8 @@ number-requires : tie.Need-number-requires
 number-requires c κs = search needs
 
 -- the list is long enough where the filing is read
-long : (c : tie.After-read) → numberCount ≤ length (c .before .before .before .before .before .before .before .args .numbers .now)
-long c = c .before .before .before .before .if1 .left
+long : (c : tie.After-read) → numberCount ≤ length (c .before .before .before .before .before .before .args .numbers .now)
+long c = c .before .before .before .if1 .left
 
 returns-2 : tie.Need-returns-2
 returns-2 c =
@@ -31,7 +31,7 @@ returns-2 c =
 -- an accepted filing's contents are valid, the sums are those of its cells, and the list is long enough
 write-numbers-requires : tie.Need-write-numbers-requires
 write-numbers-requires c κs =
-    let accepted = c .before .before .before .before .before .before in
+    let accepted = c .before .before .before .before .before in
     let reading = accepted .before .before in
     let zero = sym (accepted .before .number .ensures) ∙ accepted .if2 .left in
     let read = reading .read .ensures in (
@@ -46,7 +46,7 @@ same-length c = search needs
 returns-3 : tie.Need-returns-3
 returns-3 c =
     let written = c .before .before in
-    let accepted = written .before .before .before .before .before .before .before in
+    let accepted = written .before .before .before .before .before .before in
     let reading = accepted .before .before in
     valued-filing _ _ (long reading) _ (reading .read .ensures .0) (sym (accepted .before .number .ensures) ∙ accepted .if2 .left)
     _ _ (reading .read .ensures .1 .0) _ (written .write-numbers .ensures)

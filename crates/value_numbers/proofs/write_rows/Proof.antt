@@ -9,7 +9,7 @@ use Rattle.lists.proofs.RunLaws.{Overwritten, overwritten-none, overwritten-row
 use Rattle.form.specs.PlaceOrder.{subBalanceCount}
 use Rattle.form.specs.Counts.{placeNumberCount, totalsStart}
 use Rattle.filing_contents.specs.declared.FiledTiers.{FiledTiers}
-use Rattle.filing_contents.specs.Contents.{Contents, contentsWith}
+use Rattle.filing_contents.specs.Contents.{Contents, yieldsIn, ratesIn, contentsIn}
 use Rattle.value_numbers.specs.Numbers.{placeNumbers}
 use Rattle.shares.specs.Places.{placesOf}
 use Rattle.value_places.specs.Inner.LongestTerm.{longestTerm}
@@ -23,17 +23,17 @@ use Rattle.value_numbers.proofs.write_rows.Tie as tie
 
 -- the filing's own tiers are no variable of the loop: the rows are those of every filing with these arrays that the code is prepared for
 abbrev Inv-loop : tie.InvT-loop
-Inv-loop cells yields rates list₀ tiers places longest lower upper months₀ place₀ list months place =
+Inv-loop cells sheets list₀ tiers places longest lower upper rates months₀ place₀ list months place =
     (place ≤ subBalanceCount)
     × (totalsStart ≤ length list₀)
-    × ((filed : FiledTiers) → Prepared (contentsWith cells yields rates filed) tiers places lower upper
-    → Overwritten (joined (table place (placeNumbers (contentsWith cells yields rates filed)))) (placeNumberCount * place) list₀ list)
+    × ((filed : FiledTiers) → Prepared (contentsIn cells sheets filed) tiers places lower upper
+    → Overwritten (joined (table place (placeNumbers (contentsIn cells sheets filed)))) (placeNumberCount * place) list₀ list)
 
 abbrev μ-loop : tie.MeasureT-loop
-μ-loop cells yields rates list₀ tiers places longest lower upper months₀ place₀ list months place = subBalanceCount - place
+μ-loop cells sheets list₀ tiers places longest lower upper rates months₀ place₀ list months place = subBalanceCount - place
 
 abbrev contents : tie.Start Inv-loop μ-loop → Contents
-contents c = contentsWith (c .args .cells .now) (c .args .yields .now) (c .args .rates .now) (c .args .filed)
+contents c = contentsIn (c .args .cells .now) (c .args .sheets .now) (c .args .filed)
 
 tiers-of-requires : tie.Need-tiers-of-requires Inv-loop μ-loop
 tiers-of-requires c κs = filed-limits (contents (c .before)) (c .before .pre .0)
@@ -50,22 +50,48 @@ longest-term-requires c κs = tt
 longest-is : (c : tie.After-longest-term Inv-loop μ-loop) → c .longest-term .result ≡ longestTerm (placesOf (contents (c .before .before .before .before) .cells))
 longest-is c = c .longest-term .ensures ∙ ap longestTerm (c .before .places-of .ensures)
 
+add-yields : tie.Need-add-yields Inv-loop μ-loop
+add-yields c = omega arith
+
+sub-yields : tie.Need-sub-yields Inv-loop μ-loop
+sub-yields c = omega arith
+
+part-yields-start : tie.Need-part-yields-start Inv-loop μ-loop
+part-yields-start c = omega arith
+
+part-yields-end : tie.Need-part-yields-end Inv-loop μ-loop
+part-yields-end c = omega arith
+
+add-rates : tie.Need-add-rates Inv-loop μ-loop
+add-rates c = omega arith
+
+sub-rates : tie.Need-sub-rates Inv-loop μ-loop
+sub-rates c = omega arith
+
+part-rates-start : tie.Need-part-rates-start Inv-loop μ-loop
+part-rates-start c = omega arith
+
+part-rates-end : tie.Need-part-rates-end Inv-loop μ-loop
+part-rates-end c = omega arith
+
 discount-tables-requires : tie.Need-discount-tables-requires Inv-loop μ-loop
+unfolding yieldsIn
 discount-tables-requires c κs =
-    let term = c .before .before in
+    let term = c .before .before .before .before .before in
     let start = term .before .before .before .before in
-    (yields-within (contents start) (start .pre .0), rw (longest-is term) (longest-limit (contents start) (start .pre .0)), refl, refl)
+    (yields-within (contents start) (start .pre .0), omega arith, rw (longest-is term) (longest-limit (contents start) (start .pre .0)), refl, refl)
 
 -- the call's start, from the tables
 abbrev start : tie.After-discount-tables Inv-loop μ-loop → tie.Start Inv-loop μ-loop
-start c = c .before .before .before .before .before .before .before
+start c = c .before .before .before .before .before .before .before .before .before .before
 
 -- the code is prepared for the filing when the loop begins
 prepared : (c : tie.After-discount-tables Inv-loop μ-loop)
-    → Prepared (contents (start c)) (c .before .before .before .before .before .tiers-of .result)
-    (c .before .before .before .before .places-of .result) (c .discount-tables .last .1 .1 .0) (c .discount-tables .last .1 .1 .1 .0)
+    → Prepared (contents (start c)) (c .before .before .before .before .before .before .before .before .tiers-of .result)
+    (c .before .before .before .before .before .before .before .places-of .result) (c .discount-tables .last .1 .1 .0) (c .discount-tables .last .1 .1 .1 .0)
+unfolding yieldsIn
 prepared c =
-    let term = c .before .before .before in
+    let term = c .before .before .before .before .before .before in
     let tiers = term .before .before in
     record {
       valid = tiers .before .before .pre .0;
@@ -97,11 +123,12 @@ array-copy-out-row-of : tie.Need-array-copy-out-row-of Inv-loop μ-loop
 array-copy-out-row-of c = omega arith
 
 row-of-requires : tie.Need-row-of-requires Inv-loop μ-loop
+unfolding ratesIn
 row-of-requires c κs =
     let loop = c .before .before .before .before .before .before .before .before in
     let p = prepared (loop .before) in
     let held = held-limits _ _ _ _ _ p (loop .loop .place) (omega arith) in
-    ((omega arith, held .0, held .1), ((rates-within _ (p .valid), lent _ (p .usable)), tables _ _ _ _ _ p (loop .loop .place) (omega arith)))
+    ((omega arith, held .0, held .1), ((rates-within _ (p .valid), omega arith, lent _ (p .usable)), tables _ _ _ _ _ p (loop .loop .place) (omega arith)))
 
 mul-write : tie.Need-mul-write Inv-loop μ-loop
 mul-write c = omega arith
@@ -120,6 +147,7 @@ loop-less c = omega arith
 
 -- the row of the place is written behind those before it, for every filing that the code is prepared for
 loop-again : tie.Need-loop-again Inv-loop μ-loop
+unfolding ratesIn
 loop-again c =
     let row = c .before .before .before .before .before in
     let state = head row .loop in
@@ -148,6 +176,14 @@ write-rows-spec =
     tiers-of-requires
     places-of-requires
     longest-term-requires
+    add-yields
+    sub-yields
+    part-yields-start
+    part-yields-end
+    add-rates
+    sub-rates
+    part-rates-start
+    part-rates-end
     discount-tables-requires
     loop-holds
     mul-row-of

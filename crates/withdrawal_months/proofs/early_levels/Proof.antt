@@ -22,7 +22,7 @@ abbrev μ-loop : tie.MeasureT-loop
 μ-loop brokered coupon penalty months rates column count edges parts list₀ t₀ list t = months - t
 
 coupon-parts-requires : tie.Need-coupon-parts-requires Inv-loop μ-loop
-coupon-parts-requires c κs = (c .pre .0 .0, c .pre .0 .1)
+coupon-parts-requires c κs = (c .before .pre .0 .0, c .before .pre .0 .1)
 
 loop-holds : tie.Need-loop-holds Inv-loop μ-loop
 loop-holds c = (omega arith, filled-start _ [] _ (c .list .given .0 .1), omega arith, λ month h. refl)
@@ -31,19 +31,19 @@ add-loop : tie.Need-add-loop Inv-loop μ-loop
 add-loop c = omega arith
 
 sub-rate : tie.Need-sub-rate Inv-loop μ-loop
-sub-rate c = omega (arith, c .before .before .before .before .pre .1 .1)
+sub-rate c = omega (arith, c .before .before .before .before .before .pre .1 .1)
 
 mul-rate : tie.Need-mul-rate Inv-loop μ-loop
-mul-rate c = omega (arith, c .before .before .before .before .pre .1 .2)
+mul-rate c = omega (arith, c .before .before .before .before .before .pre .1 .2)
 
 add-rate : tie.Need-add-rate Inv-loop μ-loop
-add-rate c = omega (arith, c .before .before .before .before .pre .1 .2)
+add-rate c = omega (arith, c .before .before .before .before .before .pre .1 .2)
 
 mul-rate-2 : tie.Need-mul-rate-2 Inv-loop μ-loop
-mul-rate-2 c = omega (arith, c .before .before .before .before .pre .1 .2)
+mul-rate-2 c = omega (arith, c .before .before .before .before .before .pre .1 .2)
 
-element-copy-out-rate : tie.Need-element-copy-out-rate Inv-loop μ-loop
-element-copy-out-rate c = omega (arith, c .before .before .before .before .pre .1 .2)
+shared-slice-read-rate : tie.Need-shared-slice-read-rate Inv-loop μ-loop
+shared-slice-read-rate c = let limits = c .before .before .before .before .before .before .pre .1 in omega (arith, limits .2, limits .3)
 
 add-left : tie.Need-add-left Inv-loop μ-loop
 add-left c = omega arith
@@ -55,7 +55,7 @@ sub-left c = omega arith
 month-levels-requires : tie.Need-month-levels-requires Inv-loop μ-loop
 month-levels-requires c κs =
     let parts = c .before .before .before .before in
-    let start = parts .before in
+    let start = parts .before .before in
     let limits = start .pre .0 in (
       start .pre .0 .3,
       rw (parts .coupon-parts .ensures) (parts-within (limits .0) (limits .1)),
@@ -66,11 +66,11 @@ month-levels-requires c κs =
 -- the levels of the month
 levelled : (c : tie.After-month-levels Inv-loop μ-loop)
     → let at = c .before .before .before in
-    let a = at .before .before .before .args in
+    let a = at .before .before .before .before .args in
     MonthLevelled (a .brokered) (a .coupon) (a .penalty) (a .months) (a .count) (a .edges .now) (a .rates .now) (a .column) (at .loop .t) (c .month-levels .result)
 levelled c i h =
     let at = c .before .before .before in
-    let a = at .before .before .before .args in
+    let a = at .before .before .before .before .args in
     rw (path-suc (a .rates .now) (a .column) (at .loop .t), ← (at .before .before .coupon-parts .ensures), ← (add-one (at .loop .t))) (c .month-levels .ensures i h)
 
 mul-t19 : tie.Need-mul-t19 Inv-loop μ-loop
@@ -117,7 +117,7 @@ early-levels-spec =
     mul-rate
     add-rate
     mul-rate-2
-    element-copy-out-rate
+    shared-slice-read-rate
     add-left
     sub-left
     month-levels-requires

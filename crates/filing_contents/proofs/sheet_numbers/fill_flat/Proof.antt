@@ -1,12 +1,7 @@
 -- `fill_flat` meets its contract: the rates of the three columns, one behind the other.
 -- Assumes nothing.
-use native.Mathlib.Omega.{arith}
-use mathlib.Core.Path.{ap, _∙_}
 use borrow.Author.Needs.{needs}
-use lib.ListN.{length}
-use Rattle.lists.proofs.TableLaws.{table-length}
 use Rattle.record_fields.specs.Records.{sheetNumber}
-use Rattle.filing_contents.specs.Sheets.{rateCount}
 use Rattle.filing_contents.proofs.ArrayLaws.{flat-filled}
 use Rattle.filing_contents.proofs.sheet_numbers.fill_flat.Statement.{statement}
 use Rattle.filing_contents.proofs.sheet_numbers.fill_flat.Tie as tie
@@ -24,16 +19,24 @@ fill-from-requires : tie.Need-fill-from-requires
 fill-from-requires c κs = search needs
 
 fill-from-requires-2 : tie.Need-fill-from-requires-2
-fill-from-requires-2 c κs = (omega arith, ap length (c .before .fill-from .ensures) ∙ table-length 0 rateCount _)
+fill-from-requires-2 c κs = search needs
+
+fill-from-requires-3 : tie.Need-fill-from-requires-3
+fill-from-requires-3 c κs = search needs
+
+same-length : tie.Need-same-length
+same-length c = search needs
 
 returns : tie.Need-returns
 returns c =
-    let filled = c .before .before in
-    let third = filled .before .before .before in
+    let last = c .before .before in
+    let middle = last .before .before .before .before in
+    let all = middle .before .before .before .before in
+    let third = all .before .before in
     let second = third .before in
-    let start = second .before .before .before in
-    flat-filled (sheetNumber (start .args .s .now) (start .args .flat)) (second .before .sheet-number .ensures) (second .sheet-number2 .ensures) (third .sheet-number3 .ensures)
-    (filled .fill-from .ensures) (c .fill-from2 .ensures)
+    let start = second .before .before .before .before in
+    flat-filled (sheetNumber (start .args .s .now) (start .args .flat)) (start .args .rates .now) (second .before .sheet-number .ensures) (second .sheet-number2 .ensures)
+    (third .sheet-number3 .ensures) (all .fill-from .ensures) (middle .fill-from2 .ensures) (last .fill-from3 .ensures)
 
 pub fill-flat-spec : {M : Type 1} → statement M
 fill-flat-spec =
@@ -44,4 +47,6 @@ fill-flat-spec =
     sheet-number-requires-3
     fill-from-requires
     fill-from-requires-2
+    fill-from-requires-3
+    same-length
     returns)

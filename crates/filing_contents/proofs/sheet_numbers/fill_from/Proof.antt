@@ -8,8 +8,8 @@ use mathlib.Core.List.{List}
 use borrow.Author.Tests.{lt-ltb, le-ltb}
 use lib.Dec.{ltb}
 use lib.ListN.{getD}
+use Rattle.form.specs.Limits.{rateCount}
 use Rattle.lists.proofs.FillLaws.{Filled, fill-more, fill-all}
-use Rattle.filing_contents.specs.Sheets.{rateCount}
 use Rattle.filing_contents.proofs.sheet_numbers.fill_from.Statement.{statement}
 use Rattle.filing_contents.proofs.sheet_numbers.fill_from.Tie as tie
 
@@ -29,8 +29,8 @@ loop-holds c = (omega arith, c .pre .0, record { long = c .pre .1; holds = λ j 
 mul-rates : tie.Need-mul-rates Inv-loop μ-loop
 mul-rates c = omega arith
 
-element-write-rates : tie.Need-element-write-rates Inv-loop μ-loop
-element-write-rates c = omega arith
+slice-write-rates : tie.Need-slice-write-rates Inv-loop μ-loop
+slice-write-rates c = omega arith
 
 add-i : tie.Need-add-i Inv-loop μ-loop
 add-i c = omega arith
@@ -47,6 +47,9 @@ loop-again c =
       fill-more _ 0 rateCount (state .i) (state .rates) _ (omega arith) (sym (simp (le-ltb (state .i) (a .from) (state .inv .0)))) (state .inv .2),
     )
 
+same-length : tie.Need-same-length Inv-loop μ-loop
+same-length c = omega (arith, c .before .loop .inv .2 .long, c .before .before .pre .1)
+
 returns : tie.Need-returns Inv-loop μ-loop
 returns c =
     let e : c .before .loop .i ≡ rateCount = omega (arith, c .before .loop .inv .1, c .loop-test .left) in
@@ -60,8 +63,9 @@ fill-from-spec =
     μ-loop
     loop-holds
     mul-rates
-    element-write-rates
+    slice-write-rates
     add-i
     loop-less
     loop-again
+    same-length
     returns)

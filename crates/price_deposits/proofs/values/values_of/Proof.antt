@@ -42,14 +42,14 @@ returns : tie.Need-returns Inv-loop μ-loop
 returns c = ((λ t. rw (c .if1 .taken) (no-values _ _ _ _ _ _)), ((λ e. refl), λ some. absurd (ne-of-gt some (c .if1 .taken))))
 
 coupon-growth-requires : tie.Need-coupon-growth-requires Inv-loop μ-loop
-coupon-growth-requires c κs = c .before .pre .0 .1 .coupon-le
+coupon-growth-requires c κs = c .before .before .pre .0 .1 .coupon-le
 
 servicing-cost-requires : tie.Need-servicing-cost-requires Inv-loop μ-loop
 servicing-cost-requires c κs = tt
 
 multipliers-of-requires : tie.Need-multipliers-of-requires Inv-loop μ-loop
 multipliers-of-requires c κs =
-    let start = c .before .before .before in (
+    let start = c .before .before .before .before in (
       rw (c .before .coupon-growth .ensures) (mul-le-mul-left _ (start .pre .0 .1 .coupon-le)),
       rw (c .servicing-cost .ensures) (servicing-le (accountOf (start .args .d .brokered))),
       le-refl par,
@@ -57,9 +57,9 @@ multipliers-of-requires c κs =
 
 early-levels-requires : tie.Need-early-levels-requires Inv-loop μ-loop
 early-levels-requires c κs =
-    let limits = c .before .before .before .before .before .pre .0 in (
+    let limits = c .before .before .before .before .before .before .pre .0 in (
       (limits .1 .coupon-le, limits .1 .penalty-le, limits .1 .months-le, limits .3 .usable .edges-fit),
-      (limits .2 .within, limits .2 .first-le, limits .2 .last-le),
+      (limits .2 .within, limits .2 .first-le, limits .2 .last-le, limits .2 .long),
     )
 
 -- coupon, servicing cost and survivals are within the limits of a deposit and of usable tiers
@@ -67,7 +67,7 @@ level-multipliers-requires : tie.Need-level-multipliers-requires Inv-loop μ-loo
 level-multipliers-requires c κs =
     let servicing = c .before .before .before .before .before .before .before in
     let growth = servicing .before in
-    let start = growth .before .before in
+    let start = growth .before .before .before in
     let limits = start .pre .0 in (
       (
         rw (growth .coupon-growth .ensures) (mul-le-mul-left _ (limits .1 .coupon-le)),
@@ -80,7 +80,7 @@ level-multipliers-requires c κs =
 
 -- the multipliers of the last month, and the tables of discount factors
 last-known : (c : tie.After-multipliers-of Inv-loop μ-loop)
-    → let a = c .before .before .before .before .args in
+    → let a = c .before .before .before .before .before .args in
     (c .multipliers-of .result ≡ multipliersOf (couponGrowth * a .d .coupon) (servicingCost (accountOf (a .d .brokered))) par)
     × Discounting down (a .d .months) (a .lower .now)
     × Discounting up (a .d .months) (a .upper .now)
@@ -88,7 +88,7 @@ last-known c =
     let servicing = c .before in
     let growth = servicing .before in
     let some = growth .before in
-    let tables = some .before .pre .1 (pos-of-ne-zero (some .if1 .left)) in
+    let tables = some .before .before .pre .1 (pos-of-ne-zero (some .if1 .left)) in
     (rw (← (growth .coupon-growth .ensures), ← (servicing .servicing-cost .ensures)) (c .multipliers-of .ensures), tables .0, tables .1)
 
 loop-holds : tie.Need-loop-holds Inv-loop μ-loop
@@ -102,7 +102,7 @@ value-bounds-requires c κs =
     let m = test .before .before in
     let early = m .before .before .before .before .before in
     let last = early .before .before in
-    let start = last .before .before .before .before in
+    let start = last .before .before .before .before .before in
     let a = start .args in
     let limits = start .pre .0 in
     let known = last-known last in
@@ -156,7 +156,7 @@ returns-2 c =
     let m = c .before .before in
     let early = m .before .before .before .before .before in
     let last = early .before .before in
-    let start = last .before .before .before .before in
+    let start = last .before .before .before .before .before in
     let a = start .args in
     let limits = start .pre .0 in
     let known = last-known last in

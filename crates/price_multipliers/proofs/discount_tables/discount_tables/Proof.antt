@@ -11,14 +11,14 @@ fill-factors-requires c κs = search needs
 to-multipliers-requires : tie.Need-to-multipliers-requires
 to-multipliers-requires c κs =
     let factors = c .before in
-    let start = factors .before .before .before in
-    (rw (factors .fill-factors .ensures .0) (factors-at-most-par down (start .args .yields .now) (start .args .longest)), start .pre .1)
+    let start = factors .before .before .before .before in
+    (rw (factors .fill-factors .ensures .0) (factors-at-most-par down (start .args .yields .now) (start .args .longest)), start .pre .2)
 
 to-multipliers-requires-2 : tie.Need-to-multipliers-requires-2
 to-multipliers-requires-2 c κs =
     let factors = c .before .before .before in
-    let start = factors .before .before .before in
-    (rw (factors .fill-factors .ensures .1) (factors-at-most-par up (start .args .yields .now) (start .args .longest)), start .pre .1)
+    let start = factors .before .before .before .before in
+    (rw (factors .fill-factors .ensures .1) (factors-at-most-par up (start .args .yields .now) (start .args .longest)), start .pre .2)
 
 -- the factors filled in become multipliers, lower then upper, and what stands behind is left
 returns : tie.Need-returns

@@ -36,7 +36,7 @@ refusal-requires-2 c κs = search needs
 
 -- where the filing is read, the bytes and the size, and the contents that are read
 abbrev unread : tie.After-read → tie.Else1
-unread c = c .before .before .before .before
+unread c = c .before .before .before
 
 abbrev bytes : tie.After-read → List ℕ
 bytes c = unread c .before .before .args .filing .now

@@ -18,13 +18,13 @@ position-requires c κs = search needs
 values-of-requires : tie.Need-values-of-requires
 values-of-requires c κs =
     let column = c .before in
-    let start = column .before .before in
+    let start = column .before .before .before in
     let range = column-range (start .args .place / 4) (omega arith) in (
       (
         start .pre .0 .1,
         rw (column .before .deposit-at .ensures) (start .pre .0 .2),
-        rw (column .position .ensures) (record { within = start .pre .1 .0 .0; first-le = range .0; last-le = range .1 }),
-        start .pre .1 .0 .1,
+        rw (column .position .ensures) (record { within = start .pre .1 .0 .0; first-le = range .0; last-le = range .1; long = start .pre .1 .0 .1 }),
+        start .pre .1 .0 .2,
       ),
       rw (column .before .deposit-at .ensures) (start .pre .1 .1),
     )
