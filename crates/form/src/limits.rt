@@ -1,5 +1,5 @@
-// The limits of the form, inclusive (01:24, 01:51; 02:CR 1, CR 4). The code takes them from here; the lengths of sheets (`record_kinds`) and the months of the rows
-// (`form`) are figures of their own.
+// The limits of the form, inclusive (01:24, 01:51; 02:CR 1, CR 4), and where the numbers of its sheets stand in one array. The code takes them from here; the
+// months of the rows (`form`) are figures of their own.
 
 // Of a balance, of a column's brokered balance or balance subject to penalty, and of the total, in thousands of dollars.
 pub const BALANCE_LIMIT: u64 = 999_999_999;
