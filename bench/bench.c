@@ -4,12 +4,12 @@
  * `bench random COUNT SEED` only compares all versions on random filings, and the calls of certificates and books on random lists.
  */
 #define _POSIX_C_SOURCE 200809L
+#include "agree.h"
 #include "book.h"
 #include "certificates.h"
 #include "filings.h"
 #include "spritapricot.h"
 #include "stack.h"
-#include "versions.h"
 #include <stdio.h>
 #include <stdlib.h>
 #include <string.h>
@@ -17,32 +17,13 @@
 
 enum { B = 1, PROVED = PLAIN, VERSIONS, LIST = 570 };
 
-static value_function *const version[VERSIONS] = {value_recomputed, value_tabled, value_multiplied, value_in_runs, value_in_step, spritapricot_value};
-static const char *const version_name[VERSIONS] = {"a recomputed", "b tabled", "c multiplied", "d in runs", "e in step", "proved"};
+static const struct version version[VERSIONS] = {{"a recomputed", value_recomputed}, {"b tabled", value_tabled}, {"c multiplied", value_multiplied},
+    {"d in runs", value_in_runs}, {"e in step", value_in_step}, {"proved", spritapricot_value}};
 
 /* The filings that are timed. */
 enum { WORST, WORST_TIERS, WORST_PATH, WORST_FINE, WORST_AMENDED, WORST_ALL, TYPICAL, TYPICAL_ALL, FULLEST, ONE_BALANCE, NO_BALANCES, FILINGS };
 static const char *const filing_name[FILINGS] = {
     "worst", "worst-tiers", "worst-path", "worst-fine", "worst-amended", "worst-all", "typical", "typical-all", "fullest", "one-balance", "no-balances"};
-
-/* All versions give the same answer, place and list; the list past the 568 is left. */
-static uint64_t agree(struct input f)
-{
-    static uint64_t list[VERSIONS][LIST];
-    uint64_t answer[VERSIONS], place[VERSIONS];
-    for (int v = 0; v < VERSIONS; v++) {
-        memset(list[v], 0xa5, sizeof list[v]);
-        place[v] = 77;
-        answer[v] = version[v](f.bytes, f.size, list[v], LIST, &place[v]);
-        if (answer[v] != answer[0] || place[v] != place[0] || memcmp(list[v], list[0], sizeof list[0]) != 0) {
-            printf("%s and %s differ on a %s filing of %zu bytes: %llu at %llu, %llu at %llu\n", version_name[v], version_name[0], f.name,
-                f.size, (unsigned long long)answer[v], (unsigned long long)place[v], (unsigned long long)answer[0],
-                (unsigned long long)place[0]);
-            exit(1);
-        }
-    }
-    return answer[0];
-}
 
 /* The library must know every kind of record that the plain versions know. */
 static void same_kinds(void)
@@ -59,20 +40,6 @@ static void same_kinds(void)
     }
 }
 
-static void compare_random(int filings)
-{
-    int with[17] = {0};
-    for (int i = 0; i < filings; i++) {
-        struct input f = any();
-        with[agree(f)]++;
-        free(f.bytes);
-    }
-    printf("%d random filings, the same answers and numbers from all versions\n%d accepted; refused, by number:", filings, with[0]);
-    for (int n = 1; n < 17; n++)
-        if (with[n] != 0) printf(" %d: %d", n, with[n]);
-    printf("\n\n");
-}
-
 static double now(void)
 {
     struct timespec t;
@@ -85,7 +52,7 @@ static double time_of(int v, struct input f, int calls)
     static uint64_t list[LIST];
     uint64_t place;
     double start = now();
-    for (int i = 0; i < calls; i++) version[v](f.bytes, f.size, list, LIST, &place);
+    for (int i = 0; i < calls; i++) version[v].value(f.bytes, f.size, list, LIST, &place);
     return (now() - start) / calls;
 }
 
@@ -111,11 +78,11 @@ static void compare(double least[FILINGS][VERSIONS])
     struct input f[FILINGS];
     for (int i = 0; i < FILINGS; i++) {
         f[i] = named(filing_name[i]);
-        if (agree(f[i]) != 0) exit(1);
+        if (agree(version, VERSIONS, f[i]) != 0) exit(1);
     }
     measure(f, FILINGS, 150, least);
     printf("%-16s", "ns a filing");
-    for (int v = 0; v < VERSIONS; v++) printf("%14s", version_name[v]);
+    for (int v = 0; v < VERSIONS; v++) printf("%14s", version[v].name);
     printf("%10s%10s%10s%10s%10s\n", "proved/a", "proved/b", "proved/c", "proved/d", "proved/e");
     for (int i = 0; i < FILINGS; i++) {
         printf("%-16s", f[i].name);
@@ -136,7 +103,7 @@ static void take_apart(double least[FILINGS][VERSIONS])
     for (int v = B; v < VERSIONS; v++) {
         double step = (least[WORST][v] - least[ONE_BALANCE][v]) / (STEPS - STEPS_OF_ONE);
         double factors = least[ONE_BALANCE][v] - least[NO_BALANCES][v] - STEPS_OF_ONE * step, rest = factors + least[NO_BALANCES][v];
-        printf("%-16s%14.0f%14.0f%14.3f%14.2f%12.2f%12.2f%12.2f\n", version_name[v], least[NO_BALANCES][v], factors, factors / FACTOR_STEPS, step,
+        printf("%-16s%14.0f%14.0f%14.3f%14.2f%12.2f%12.2f%12.2f\n", version[v].name, least[NO_BALANCES][v], factors, factors / FACTOR_STEPS, step,
             (least[WORST_TIERS][v] - rest) / STEPS, (least[WORST_PATH][v] - rest) / STEPS, (least[WORST_ALL][v] - rest) / STEPS);
     }
     printf("proved, of the worst filing: reading with shares %.3f\n", least[NO_BALANCES][PROVED] / least[WORST][PROVED]);
@@ -155,7 +122,7 @@ static void stacks(void)
 {
     struct input f = named("worst-all");
     printf("\nstack of one call, bytes:");
-    for (int v = 0; v < VERSIONS; v++) printf(" %s %zu,", version_name[v], stack_of(version[v], f));
+    for (int v = 0; v < VERSIONS; v++) printf(" %s %zu,", version[v].name, stack_of(version[v].value, f));
     printf(" a book %zu\n", stack_of(book_of_one, f));
     free(f.bytes);
 }
@@ -163,7 +130,7 @@ static void stacks(void)
 static void hostile_times(struct input f, size_t read, int rounds)
 {
     double least[1][VERSIONS];
-    uint64_t answer = agree(f);
+    uint64_t answer = agree(version, VERSIONS, f);
     measure(&f, 1, rounds, least);
     printf("%-34s%10zu%6llu%10zu%12.0f%12.0f%10.2f\n", f.name, f.size, (unsigned long long)answer, read, least[0][B], least[0][PROVED],
         least[0][PROVED] / (double)read);
@@ -174,7 +141,7 @@ static void refused_inputs(void)
 {
     static const size_t size[3] = {2048, 65536, 16777216};
     struct input f = named("fullest");
-    printf("\n%-34s%10s%6s%10s%12s%12s%10s\n", "hostile inputs, ns a call", "bytes", "no.", "read", version_name[B], version_name[PROVED], "ns/byte");
+    printf("\n%-34s%10s%6s%10s%12s%12s%10s\n", "hostile inputs, ns a call", "bytes", "no.", "read", version[B].name, version[PROVED].name, "ns/byte");
     for (int i = 0; i < 3; i++) {
         hostile_times(hostile("early: zero length", size[i], 0, 0), 2, 40);
         hostile_times(hostile("early: unknown kind", size[i], 0, 3), 4, 40);
@@ -201,7 +168,7 @@ static void once(int which, const char *name)
     static uint64_t list[LIST];
     uint64_t place;
     struct input f = named(name);
-    version[which](f.bytes, f.size, list, LIST, &place);
+    version[which].value(f.bytes, f.size, list, LIST, &place);
     free(f.bytes);
 }
 
@@ -215,12 +182,12 @@ int main(int argc, char **argv)
     same_kinds();
     if (argc == 4 && strcmp(argv[1], "random") == 0) {
         start_random(strtoull(argv[3], NULL, 10));
-        compare_random(atoi(argv[2]));
+        compare_random(version, VERSIONS, atoi(argv[2]));
         compare_certificates(atoi(argv[2]));
         compare_books(atoi(argv[2]));
         return 0;
     }
-    compare_random(4000);
+    compare_random(version, VERSIONS, 4000);
     compare_certificates(4000);
     compare_books(1000);
     compare(least);

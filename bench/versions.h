@@ -13,7 +13,6 @@ typedef uint64_t value_function(const uint8_t *, size_t, uint64_t *, size_t, uin
 value_function value_recomputed, value_tabled, value_multiplied, value_in_runs, value_in_step;
 
 enum { PLAIN = 5 };
-static value_function *const plain_version[PLAIN] = {value_recomputed, value_tabled, value_multiplied, value_in_runs, value_in_step};
 
 /* A book after a list of changes, of versions c and d. */
 typedef uint64_t book_function(const uint8_t *, size_t, const uint64_t *, size_t, uint64_t *, uint64_t *, uint64_t *);
