@@ -1,4 +1,4 @@
 // What is rounded: the upper half of a product, a quotient at either rounding, and a value in dollars.
 pub mod products;
-mod rounding;
+pub mod rounding;
 pub mod values;

@@ -1,0 +1,4 @@
+pub mod EnclosureLaws
+pub mod WidthLaws
+pub mod TabledLaws
+pub mod ValueLaws
