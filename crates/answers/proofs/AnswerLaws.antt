@@ -3,7 +3,7 @@
 use native.Mathlib.Omega.{arith}
 use mathlib.Core.Path.{_≡_, refl, ap}
 use Rattle.answers.specs.declared.Answer.{Answer}
-use Rattle.answers.specs.declared.Answer.the-variants.{Accepted, RecordIncomplete, RecordMisshapen, CellUnlisted, Repeated, PathBesideFlat, AmendmentRepeated, OverLimit, TiersUnsound, SheetMissing, MonthsOutsideRow, AboveColumnSum, TotalDiffers, ListTooShort, NoSuchDay, NotOutstanding, TooManyMonths, OutsidePlaceLimits}
+use Rattle.answers.specs.declared.Answer.the-variants.{Accepted, RecordIncomplete, RecordMisshapen, CellUnlisted, Repeated, PathBesideFlat, AmendmentRepeated, OverLimit, TiersUnsound, SheetMissing, LiborMissing, CouponOutsideClass, MonthsOutsideRow, AboveColumnSum, TotalDiffers, ListTooShort, NoSuchDay, NotOutstanding, TooManyMonths, OutsidePlaceLimits}
 use Rattle.answers.specs.Verdict.{accepted}
 use Rattle.answers.specs.Answers.{numberOf, verdictOf}
 
@@ -19,6 +19,8 @@ number-accepted (AmendmentRepeated at) h = absurd (omega arith)
 number-accepted (OverLimit at) h = absurd (omega arith)
 number-accepted (TiersUnsound at) h = absurd (omega arith)
 number-accepted (SheetMissing at) h = absurd (omega arith)
+number-accepted (LiborMissing at) h = absurd (omega arith)
+number-accepted (CouponOutsideClass at) h = absurd (omega arith)
 number-accepted (MonthsOutsideRow at) h = absurd (omega arith)
 number-accepted (AboveColumnSum at) h = absurd (omega arith)
 number-accepted (TotalDiffers at) h = absurd (omega arith)

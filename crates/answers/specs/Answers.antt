@@ -1,7 +1,7 @@
--- The answers of the code as verdicts of the paper's table (01:28-39; 02:CR 1, CR 3, CR 5, CR 6, CR 7): each case's number and location. Definitions only.
+-- The answers of the code as verdicts of the paper's table (01:28-39; 02:CR 1, CR 3, CR 5, CR 6, CR 7, CR 8): each case's number and location. Definitions only.
 use Prim.Native.Nat.{ℕ}
 use Rattle.answers.specs.declared.Answer.{Answer}
-use Rattle.answers.specs.declared.Answer.the-variants.{Accepted, RecordIncomplete, RecordMisshapen, CellUnlisted, Repeated, PathBesideFlat, AmendmentRepeated, OverLimit, TiersUnsound, SheetMissing, MonthsOutsideRow, AboveColumnSum, TotalDiffers, ListTooShort, NoSuchDay, NotOutstanding, TooManyMonths, OutsidePlaceLimits}
+use Rattle.answers.specs.declared.Answer.the-variants.{Accepted, RecordIncomplete, RecordMisshapen, CellUnlisted, Repeated, PathBesideFlat, AmendmentRepeated, OverLimit, TiersUnsound, SheetMissing, LiborMissing, CouponOutsideClass, MonthsOutsideRow, AboveColumnSum, TotalDiffers, ListTooShort, NoSuchDay, NotOutstanding, TooManyMonths, OutsidePlaceLimits}
 use Rattle.answers.specs.Verdict.{Verdict}
 
 -- the number of an answer
@@ -16,6 +16,8 @@ numberOf (AmendmentRepeated offset) = 16
 numberOf (OverLimit offset) = 5
 numberOf (TiersUnsound offset) = 11
 numberOf (SheetMissing size) = 6
+numberOf (LiborMissing size) = 18
+numberOf (CouponOutsideClass cell) = 19
 numberOf (MonthsOutsideRow cell) = 7
 numberOf (AboveColumnSum cell) = 8
 numberOf (TotalDiffers cell) = 9
@@ -37,6 +39,8 @@ locationOf (AmendmentRepeated offset) = offset
 locationOf (OverLimit offset) = offset
 locationOf (TiersUnsound offset) = offset
 locationOf (SheetMissing size) = size
+locationOf (LiborMissing size) = size
+locationOf (CouponOutsideClass cell) = cell
 locationOf (MonthsOutsideRow cell) = cell
 locationOf (AboveColumnSum cell) = cell
 locationOf (TotalDiffers cell) = cell

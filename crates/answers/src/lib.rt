@@ -19,7 +19,9 @@ pub enum Answer {
     TiersUnsound(usize),
     // At the input's length.
     SheetMissing(usize),
+    LiborMissing(usize),
     // At the cell.
+    CouponOutsideClass(usize),
     MonthsOutsideRow(usize),
     AboveColumnSum(usize),
     TotalDiffers(usize),
@@ -48,6 +50,8 @@ pub fn number(answer: Answer) -> u64
         Answer::OverLimit(_) => 5,
         Answer::TiersUnsound(_) => 11,
         Answer::SheetMissing(_) => 6,
+        Answer::LiborMissing(_) => 18,
+        Answer::CouponOutsideClass(_) => 19,
         Answer::MonthsOutsideRow(_) => 7,
         Answer::AboveColumnSum(_) => 8,
         Answer::TotalDiffers(_) => 9,

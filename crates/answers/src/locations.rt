@@ -18,6 +18,8 @@ pub fn location(answer: Answer) -> usize
         Answer::OverLimit(at) => at,
         Answer::TiersUnsound(at) => at,
         Answer::SheetMissing(size) => size,
+        Answer::LiborMissing(size) => size,
+        Answer::CouponOutsideClass(cell) => cell,
         Answer::MonthsOutsideRow(cell) => cell,
         Answer::AboveColumnSum(cell) => cell,
         Answer::TotalDiffers(cell) => cell,

@@ -1,3 +1,4 @@
 pub mod ConditionLaws
 pub mod CellVerdictLaws
 pub mod SumLaws
+pub mod BorrowingLaws

@@ -2,4 +2,6 @@ pub mod Conditions
 pub mod CellVerdicts
 pub mod ValidCells
 pub mod Balances
+pub mod BorrowingConditions
+pub mod BorrowingVerdicts
 pub mod Inner

@@ -1,4 +1,5 @@
 // What can be wrong with the cells of a filing whose records are sound: refusals 7 to 9, in the paper's order.
+pub mod borrowings;
 pub mod column_sums;
 
 use crate::column_sums::ColumnSums;

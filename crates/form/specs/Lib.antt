@@ -1,3 +1,4 @@
+pub mod Borrowings
 pub mod Cells
 pub mod Counts
 pub mod Limits

@@ -1,4 +1,5 @@
 // Schedule CMR: its cells, their classes and limits.
+pub mod borrowings;
 pub mod limits;
 pub mod positions;
 pub mod sub_balances;
