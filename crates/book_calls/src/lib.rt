@@ -23,7 +23,6 @@ use form::sub_balances::PLACE_VALUES;
 use form::sub_balances::SUB_BALANCES;
 use form::sub_balances::SubBalance;
 use price_deposits::RatePaths;
-use price_factors::FACTORS;
 use price_factors::fill_factors;
 ghost use mathlib.Core.Path.{_≡_};
 ghost use lib.ListN.{length};

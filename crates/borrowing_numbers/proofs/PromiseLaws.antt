@@ -1,0 +1,64 @@
+-- A list that begins with the 374 numbers of valid borrowings encloses their exact values. Assumes nothing.
+use Prim.Native.Nat.{ℕ, _+_, _*_, _≤_, _<_}
+use mathlib.Core.Path.{_≡_, _∙_}
+use mathlib.Core.List.{List}
+use lib.Dec.{lit<}
+use Rattle.lists.specs.Sums.{sumWhere, everywhere}
+use Rattle.lists.proofs.SumLaws.{sumWhere-ext}
+use Rattle.fraction.specs.Fraction.{Encloses}
+use Rattle.fraction.specs.Totals.{totalWhere}
+use Rattle.fraction.proofs.EnclosureLaws.{total-encloses}
+use Rattle.form.specs.Borrowings.{borrowingCount, borrowingsTotalCell}
+use Rattle.form.specs.Shift.{scenarioCount}
+use Rattle.filing_cells.specs.Balances.{cellIn}
+use Rattle.pricing.specs.Rounding.{down, up}
+use Rattle.pricing.proofs.EnclosedValuesLaws.{values-enclosed}
+use Rattle.borrowing_prices.proofs.EnclosureLaws.{value-encloses}
+use Rattle.borrowing_prices.proofs.WidthLaws.{value-width}
+use Rattle.borrowing_numbers.specs.Borrowed.{balanceOf, couponOf, monthsOf, exactBorrowed, borrowedBy}
+use Rattle.borrowing_numbers.specs.Numbers.{totalBy, totalsOf}
+use Rattle.borrowing_numbers.specs.Promise.{balanceIn, lowerIn, upperIn, totalNumber, ValidBorrowings, EnclosedBorrowings}
+use Rattle.borrowing_numbers.proofs.NumberLaws.{list, balance-read, lower-read, upper-read, total-read}
+
+module _ (cells : List ℕ) (z : ℕ → ℕ → ℕ) where
+  borrowed-encloses : (scenario i : ℕ) → Encloses (borrowedBy down cells z scenario i) (exactBorrowed cells z scenario i) (borrowedBy up cells z scenario i)
+  unfolding borrowedBy exactBorrowed
+  borrowed-encloses scenario i = value-encloses (balanceOf cells i) (couponOf cells i) (monthsOf cells i) (z scenario)
+
+  total-enclosed : (scenario : ℕ)
+      → Encloses (totalBy down cells z scenario) (totalWhere everywhere (exactBorrowed cells z scenario) borrowingCount) (totalBy up cells z scenario)
+  unfolding totalBy
+  total-enclosed scenario = total-encloses everywhere _ _ _ borrowingCount (borrowed-encloses scenario)
+
+  module _ (rest : List ℕ) where
+    value-in : (scenario i : ℕ) → scenario < scenarioCount → i < borrowingCount
+        → Encloses (lowerIn (list cells z rest) scenario i) (exactBorrowed cells z scenario i) (upperIn (list cells z rest) scenario i)
+    value-in scenario i hs hi = rw (lower-read cells z rest scenario i hs hi, upper-read cells z rest scenario i hs hi) (borrowed-encloses scenario i)
+
+    totals-in : (scenario : ℕ) → scenario < scenarioCount
+        → Encloses (totalNumber (list cells z rest) 0 scenario) (totalWhere everywhere (exactBorrowed cells z scenario) borrowingCount)
+        (totalNumber (list cells z rest) 1 scenario)
+    unfolding totalsOf
+    totals-in scenario h = rw (total-read cells z rest 0 scenario h (lit< tt), total-read cells z rest 1 scenario h (lit< tt)) (total-enclosed scenario)
+
+    module _ (v : ValidBorrowings cells) where
+      width-in : (scenario i : ℕ) → scenario < scenarioCount → i < borrowingCount
+          → 250 * upperIn (list cells z rest) scenario i ≤ 250 * lowerIn (list cells z rest) scenario i + (balanceIn (list cells z rest) i + 500)
+      unfolding borrowedBy
+      width-in scenario i hs hi =
+          rw (lower-read cells z rest scenario i hs hi, upper-read cells z rest scenario i hs hi, balance-read cells z rest i hi)
+          (value-width (balanceOf cells i) (couponOf cells i) (monthsOf cells i) (z scenario) (v .coupon-limit i hi) (v .months-limit i hi))
+
+      sum-in : sumWhere everywhere (balanceIn (list cells z rest)) borrowingCount ≡ cellIn cells borrowingsTotalCell
+      sum-in = sumWhere-ext everywhere _ (balanceOf cells) borrowingCount (balance-read cells z rest) ∙ v .total-is-sum
+
+      pub borrowings-enclosed : EnclosedBorrowings cells z (list cells z rest)
+      borrowings-enclosed =
+          let l = list cells z rest in
+          record {
+            balances-are = balance-read cells z rest;
+            values-enclosed =
+                values-enclosed borrowingCount (balanceIn l) (lowerIn l) (upperIn l) (exactBorrowed cells z) (cellIn cells borrowingsTotalCell) value-in width-in
+                sum-in;
+            totals-enclose = totals-in;
+          }
