@@ -22,7 +22,7 @@ pub struct Changed {
 // Opens a book from a filing and makes the changes of a list in turn. A change is six numbers: 0 to set a place or 1 to clear it, the place, then balance,
 // coupon, months and penalty as `set` takes them, or 0 each. Only whole changes count. The first refusal answers, and leaves the book as it was opened.
 pub fn book_of(filing: &[u8], changes: &[u64]) -> Changed
-    ensures { λ r. ⌜ BookOf (now (filing .entry)) (now (changes .entry)) r ⌝ }
+    ensures changed { λ r. ⌜ BookOf (now (filing .entry)) (now (changes .entry)) r ⌝ }
 {
     let opened = open(filing);
     let answer = opened.answer;

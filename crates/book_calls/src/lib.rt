@@ -36,7 +36,7 @@ ghost use Rattle.book_promise.specs.Promise.{OpenedOf, ChangedOf};
 
 // Opens an empty book under the sheets and tiers of a filing. A refused filing is refused as `read` refuses it.
 pub fn open(filing: &[u8]) -> Answered
-    ensures { λ r. ⌜ OpenedOf (now (filing .entry)) r ⌝ }
+    ensures opened { λ r. ⌜ OpenedOf (now (filing .entry)) r ⌝ }
 {
     let mut cells = [0; CELLS];
     let mut sheets = [0; SHEET_NUMBERS];
@@ -85,7 +85,7 @@ pub fn set(
     months: u64,
     penalty: u64,
 ) -> Answered
-    ensures { λ r. ⌜ ChangedOf book (setPlace place balance coupon months penalty) r ⌝ }
+    ensures changed { λ r. ⌜ ChangedOf book (setPlace place balance coupon months penalty) r ⌝ }
 {
     if !fits(place, balance, coupon, months, penalty) {
         return refusal(book, place);
@@ -114,7 +114,7 @@ pub fn set(
 
 // Clears a place to all 0. A place above 35 is refused, and alters nothing.
 pub fn clear(book: Book, place: usize) -> Answered
-    ensures { λ r. ⌜ ChangedOf book (clearPlace place) r ⌝ }
+    ensures changed { λ r. ⌜ ChangedOf book (clearPlace place) r ⌝ }
 {
     if SUB_BALANCES <= place {
         return refusal(book, place);

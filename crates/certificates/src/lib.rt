@@ -15,7 +15,7 @@ ghost use Rattle.certificates.specs.Inner.Answers.{noCells};
 // The cells that the certificates fill at a valuation date. The list holds eight numbers for each certificate: issue year, month and day, maturity
 // year, month and day, balance in thousands of dollars, coupon in hundredths of a percent a year. Only whole certificates count.
 pub fn to_cells(valuation: Date, certificates: &[u64]) -> Cells
-    ensures { λ r. ⌜ Converted valuation (now (certificates .entry)) r ⌝ }
+    ensures converted { λ r. ⌜ Converted valuation (now (certificates .entry)) r ⌝ }
 {
     let count = certificates.len() / 8;
     if count < 1 {

@@ -14,7 +14,7 @@ pub extern "C" fn spritapricot_book(
     location: &mut u64,
     changed: &mut u64,
 ) -> u64
-    ensures { λ r. ⌜ BookForC (now (filing .entry)) (now (changes .entry)) (now (totals .entry)) r (now (location .exit)) (now (changed .exit)) (now (totals .exit)) ⌝ }
+    ensures changed { λ r. ⌜ BookForC (now (filing .entry)) (now (changes .entry)) (now (totals .entry)) r (now (location .exit)) (now (changed .exit)) (now (totals .exit)) ⌝ }
 {
     let done = book_of(filing, changes);
     *changed = done.made as u64;

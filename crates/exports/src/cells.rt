@@ -17,7 +17,7 @@ pub extern "C" fn spritapricot_cells(
     count: &mut u64,
     location: &mut u64,
 ) -> u64
-    ensures { λ r. ⌜ ConvertedForC (record { year = year; month = month; day = day }) (now (certificates .entry)) (now (cells .entry)) r (now (location .exit)) (now (count .exit)) (now (cells .exit)) ⌝ }
+    ensures converted { λ r. ⌜ ConvertedForC (record { year = year; month = month; day = day }) (now (certificates .entry)) (now (cells .entry)) r (now (location .exit)) (now (count .exit)) (now (cells .exit)) ⌝ }
 {
     let valuation = Date { year, month, day };
     let filled = to_cells(valuation, certificates);

@@ -10,7 +10,7 @@ ghost use Rattle.exports.specs.Exported.{ValuedForC};
 // Values a filing as `valuation::value` does: answers 0 for acceptance, else the refusal's number, with the refusal's location in `location`.
 #[no_mangle]
 pub extern "C" fn spritapricot_value(filing: &[u8], numbers: &mut [u64], location: &mut u64) -> u64
-    ensures { λ r. ⌜ ValuedForC (now (filing .entry)) (now (numbers .entry)) r (now (location .exit)) (now (numbers .exit)) ⌝ }
+    ensures valued { λ r. ⌜ ValuedForC (now (filing .entry)) (now (numbers .entry)) r (now (location .exit)) (now (numbers .exit)) ⌝ }
 {
     answer_numbers(value(filing, numbers), location)
 }

@@ -28,9 +28,9 @@ ghost use Rattle.filing.specs.Readings.{readOver, lent, readContents};
 // Reads a filing: its records front to back, then the sheets that must be there, then the conditions on its cells. Only then is what it says written into the
 // lent arrays: a refusal leaves them as they were, and has no tiers and sums of 0.
 pub fn read(filing: &[u8], cells: &mut [u64; CELLS], numbers: &mut [u16; SHEET_NUMBERS]) -> Reading
-    ensures { λ r. ⌜ verdictOf (r .answer) ≡ filingVerdict (now (filing .entry)) ⌝ }
-    ensures { λ r. ⌜ contentsIn (now (cells .exit)) (now (numbers .exit)) (r .tiers) ≡ readOver (now (filing .entry)) (lent (now (cells .entry)) (now (numbers .entry))) ⌝ }
-    ensures { λ r. ⌜ r .sums ≡ columnSums (readContents (now (filing .entry)) .cells) ⌝ }
+    ensures answered { λ r. ⌜ verdictOf (r .answer) ≡ filingVerdict (now (filing .entry)) ⌝ }
+    ensures said { λ r. ⌜ contentsIn (now (cells .exit)) (now (numbers .exit)) (r .tiers) ≡ readOver (now (filing .entry)) (lent (now (cells .entry)) (now (numbers .entry))) ⌝ }
+    ensures summed { λ r. ⌜ r .sums ≡ columnSums (readContents (now (filing .entry)) .cells) ⌝ }
 {
     let mut sheets = [0; KINDS];
     let mut noted = [0; CELLS];

@@ -21,7 +21,7 @@ pub struct SplitPlaces {
 // Fills in the thirty-six places of a filing, nine positions ascending and four places each. A refusal changes no place, and the places past the
 // thirty-sixth are left.
 pub fn split(filing: &[u8], places: &mut [SubBalance]) -> Answer
-    ensures { λ r. ⌜ SplitOf (now (filing .entry)) (now (places .entry)) r (now (places .exit)) ⌝ }
+    ensures filled { λ r. ⌜ SplitOf (now (filing .entry)) (now (places .entry)) r (now (places .exit)) ⌝ }
 {
     let outcome = outcome_of(filing, places.len());
     fill(places, outcome.places, outcome.count);

@@ -23,7 +23,7 @@ pub type LineInput = [u8; 1025];
 
 // Opens a book as `open_book` does, under the first `size` bytes that were read of a filing.
 pub fn open_read(input: &FilingInput, size: usize, out: &mut [u8; 644]) -> Opened
-    ensures { λ r. ⌜ OpenedAs (take size (now (input .entry))) (now (out .entry)) (now (out .exit)) r ⌝ }
+    ensures opened { λ r. ⌜ OpenedAs (take size (now (input .entry))) (now (out .entry)) (now (out .exit)) r ⌝ }
 {
     let bytes: &[u8] = input;
     if bytes.len() < size {
@@ -34,7 +34,7 @@ pub fn open_read(input: &FilingInput, size: usize, out: &mut [u8; 644]) -> Opene
 
 // Obeys a line as `obey` does: the first `size` bytes that were read of it.
 pub fn obey_read(book: Book, input: &LineInput, size: usize, out: &mut [u8; 644]) -> Obeyed
-    ensures { λ r. ⌜ ObeyedAs book (commandOf (take size (now (input .entry)))) (now (out .entry)) (now (out .exit)) r ⌝ }
+    ensures obeyed { λ r. ⌜ ObeyedAs book (commandOf (take size (now (input .entry)))) (now (out .entry)) (now (out .exit)) r ⌝ }
 {
     let bytes: &[u8] = input;
     if bytes.len() < size {
@@ -45,7 +45,7 @@ pub fn obey_read(book: Book, input: &LineInput, size: usize, out: &mut [u8; 644]
 
 // Opens a book under a filing, puts what is printed of it at the front of the bytes and counts it.
 pub fn open_book(filing: &[u8], out: &mut [u8; 644]) -> Opened
-    ensures { λ r. ⌜ OpenedAs (now (filing .entry)) (now (out .entry)) (now (out .exit)) r ⌝ }
+    ensures opened { λ r. ⌜ OpenedAs (now (filing .entry)) (now (out .entry)) (now (out .exit)) r ⌝ }
 {
     let opened = open(filing);
     let book = opened.book;
@@ -68,7 +68,7 @@ pub fn open_book(filing: &[u8], out: &mut [u8; 644]) -> Opened
 
 // Obeys a line, given without its line feed; puts what is printed to it at the front of the bytes and counts it.
 pub fn obey(book: Book, line: &[u8], out: &mut [u8; 644]) -> Obeyed
-    ensures { λ r. ⌜ ObeyedAs book (commandOf (now (line .entry))) (now (out .entry)) (now (out .exit)) r ⌝ }
+    ensures obeyed { λ r. ⌜ ObeyedAs book (commandOf (now (line .entry))) (now (out .entry)) (now (out .exit)) r ⌝ }
 {
     let command = command_of(line);
     reply(book, command, out)

@@ -20,7 +20,7 @@ pub type Input = [u8; 131073];
 
 // Puts the text of the first `size` bytes that were read at the front of the bytes and answers how many it has.
 pub fn write_read(input: &Input, size: usize, out: &mut [u8; 1176]) -> usize
-    ensures { λ r. ⌜ InFront (printedText (take size (now (input .entry)))) (now (out .entry)) (now (out .exit)) r ⌝ }
+    ensures printed { λ r. ⌜ InFront (printedText (take size (now (input .entry)))) (now (out .entry)) (now (out .exit)) r ⌝ }
 {
     let bytes: &[u8] = input;
     if bytes.len() < size {
@@ -31,7 +31,7 @@ pub fn write_read(input: &Input, size: usize, out: &mut [u8; 1176]) -> usize
 
 // Puts the text of an input at the front of the bytes and answers how many it has: 28 lines of 42 bytes at most.
 pub fn write_cells(input: &[u8], out: &mut [u8; 1176]) -> usize
-    ensures { λ r. ⌜ InFront (printedText (now (input .entry))) (now (out .entry)) (now (out .exit)) r ⌝ }
+    ensures printed { λ r. ⌜ InFront (printedText (now (input .entry))) (now (out .entry)) (now (out .exit)) r ⌝ }
 {
     if 131072 < input.len() {
         return append_too_long(out);

@@ -17,7 +17,7 @@ pub type Input = [u8; 65537];
 
 // Puts the text of the first `size` bytes that were read at the front of the bytes and answers how many it has.
 pub fn write_read(input: &Input, size: usize, out: &mut [u8; 623]) -> usize
-    ensures { λ r. ⌜ InFront (listingText (take size (now (input .entry)))) (now (out .entry)) (now (out .exit)) r ⌝ }
+    ensures printed { λ r. ⌜ InFront (listingText (take size (now (input .entry)))) (now (out .entry)) (now (out .exit)) r ⌝ }
 {
     let bytes: &[u8] = input;
     if bytes.len() < size {
@@ -28,7 +28,7 @@ pub fn write_read(input: &Input, size: usize, out: &mut [u8; 623]) -> usize
 
 // Puts the text of a filing at the front of the bytes and answers how many it has: seven lines of 89 bytes at most.
 pub fn write_listing(filing: &[u8], out: &mut [u8; 623]) -> usize
-    ensures { λ r. ⌜ InFront (listingText (now (filing .entry))) (now (out .entry)) (now (out .exit)) r ⌝ }
+    ensures printed { λ r. ⌜ InFront (listingText (now (filing .entry))) (now (out .entry)) (now (out .exit)) r ⌝ }
 {
     if 65536 < filing.len() {
         return append_too_long(out);

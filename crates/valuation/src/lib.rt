@@ -11,7 +11,7 @@ ghost use Rattle.valuation.specs.Promise.{Valued};
 // Values a filing: the 568 numbers stand in the list where the answer is acceptance, and the list is as it was on a refusal. A list under 568
 // numbers is refused before the filing is read.
 pub fn value(filing: &[u8], numbers: &mut [u64]) -> Answer
-    ensures { λ r. ⌜ Valued (now (filing .entry)) (now (numbers .entry)) r (now (numbers .exit)) ⌝ }
+    ensures valued { λ r. ⌜ Valued (now (filing .entry)) (now (numbers .entry)) r (now (numbers .exit)) ⌝ }
 {
     if numbers.len() < NUMBERS {
         return Answer::ListTooShort(numbers.len());

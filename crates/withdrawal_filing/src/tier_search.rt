@@ -25,7 +25,7 @@ pub enum TierAnswer {
 
 // The tier of the filing that an incentive reaches: one of its own, or of the house's where it has none.
 pub fn tier_for(filing: &[u8], incentive: Incentive) -> TierAnswer
-    ensures { λ r. ⌜ TierAnswered (now (filing .entry)) incentive r ⌝ }
+    ensures answered { λ r. ⌜ TierAnswered (now (filing .entry)) incentive r ⌝ }
 {
     let mut cells = [0; CELLS];
     let mut sheets = [0; SHEET_NUMBERS];
