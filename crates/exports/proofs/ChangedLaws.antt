@@ -31,6 +31,8 @@ module _ (s l before after : List ℕ) (r : Changed) (number location : ℕ) (do
       let q : eqb (bookVerdict s l .number) 0 ≡ true = eq-eqb _ 0 (sym number-of ∙ z) in
       done .book-is ∙ rw q
 
+  -- number and location are those of the answer, which is the book's verdict; what is written is the book where the number is 0, and there
+  -- it is the book of all changes, which is kept; otherwise the list stays
   pub book-for-c : after ≡ cond (eqb number 0) (r .book .balance ∷ r .book .totals) before → BookForC s l before number location (r .made) after
   unfolding verdictOf shownOf
   book-for-c e =

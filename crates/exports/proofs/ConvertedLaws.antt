@@ -12,6 +12,8 @@ use Rattle.certificates.specs.Promise.{Converted}
 use Rattle.exports.specs.CellNumbers.{numbersOf}
 use Rattle.exports.specs.Converted.{ConvertedForC}
 
+-- number and location are those of the answer, which is the verdict on the certificates; the cells are written where the number is 0,
+-- and they and their count are what `to_cells` promises
 pub converted-for-c : (valuation : Date) (s before after : List ℕ) (r : Cells) (number location count : ℕ) → Converted valuation s r
     → number ≡ numberOf (r .answer) → location ≡ locationOf (r .answer) → count ≡ r .count
     → after ≡ cond (eqb (numberOf (r .answer)) 0) (numbersOf (r .cells)) before → ConvertedForC valuation s before number location count after

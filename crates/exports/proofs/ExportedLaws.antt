@@ -9,6 +9,8 @@ use Rattle.answers.proofs.AnswerLaws.{accepted-answer}
 use Rattle.valuation.specs.Promise.{Valued}
 use Rattle.exports.specs.Exported.{ValuedForC}
 
+-- number and location are those of the answer, which is the filing's verdict; the list is the call's own, and number 0 means an accepted
+-- answer, whose list encloses the exact values
 pub valued-for-c : (s before after : List ℕ) (answer : Answer) (number location : ℕ)
     → Valued s before answer after → number ≡ numberOf answer → location ≡ locationOf answer
     → ValuedForC s before number location after

@@ -19,6 +19,7 @@ pub record CellOf (n class : ℕ) : Type 0 where
 abbrev isCellOf : ℕ → ℕ → Bool
 isCellOf n class = leb firstCell n && (leb n lastCell && eqb (cellClass n) class)
 
+-- where the three tests pass together each gives its fact; where one fails their conjunction does not pass
 cell-of-tests : (n class : ℕ) (a b c : Bool)
     → (T a → firstCell ≤ n)
     → (T b → n ≤ lastCell)

@@ -134,6 +134,8 @@ module _ (s : List ℕ) (at : ℕ) where
   pub cell-listed : (recordClass s at ≡ 0 → ⊥) → (firstCell ≤ recordCell s at) × (recordCell s at < firstCell + cellCount)
   cell-listed h = let l = class-listed (recordCell s at) (class-is h .0) in (omega (arith, l .0), omega (arith, l .1))
 
+  -- An item is a cell only where the kind gives one and its cell is listed; in every other case it is of another sort. There the cell is the
+  -- record's, a listed cell lies from the first to the last, and for kind 6 the listed class is a coupon's
   of-cell : (cell : ℕ) (gives off amends none : Bool) → givesCell (recordKind s at) ≡ gives → eqb (recordClass s at) 0 ≡ off
       → itemBy gives off amends none ≡ Cell cell → OfCell s at cell
   of-cell cell true true amends none a b e = absurd (not-same-sort _ _ refl e)
@@ -152,6 +154,8 @@ module _ (s : List ℕ) (at : ℕ) where
   of-cell cell false off false true a b e = absurd (not-same-sort _ _ refl e)
   of-cell cell false off false false a b e = absurd (not-same-sort _ _ refl e)
 
+  -- an item is an amendment only where the kind is 7 and its cell is listed; in every other case it is of another sort. There cell and number
+  -- are the record's, and a listed cell lies from the first to the last
   of-amendment : (cell number : ℕ) (gives off amends none : Bool) → eqb (recordKind s at) amendmentKind ≡ amends → eqb (recordClass s at) 0 ≡ off
       → itemBy gives off amends none ≡ Amendment cell number → OfAmendment s at cell number
   of-amendment cell number true true amends none a b e = absurd (not-same-sort _ _ refl e)
@@ -170,6 +174,8 @@ module _ (s : List ℕ) (at : ℕ) where
   of-amendment cell number false off false true a b e = absurd (not-same-sort _ _ refl e)
   of-amendment cell number false off false false a b e = absurd (not-same-sort _ _ refl e)
 
+  -- an item is a sheet only where the kind gives no cell, is no amendment's and has a length; in every other case it is of another sort.
+  -- A kind that has a length is one of the kinds
   of-sheet : (kind : ℕ) (gives off amends none : Bool) → givesCell (recordKind s at) ≡ gives → eqb (recordKind s at) amendmentKind ≡ amends
       → eqb (dueLength s at) 0 ≡ none
       → itemBy gives off amends none ≡ Sheet kind → OfSheet s at kind

@@ -33,6 +33,8 @@ pub record FitAmendment (s : List ℕ) (at : ℕ) : Type 0 where
   pub limited : amendmentState s at ≡ 0 → amendmentValue s at ≤ classLimit (cellClass (recordCell s at))
   pub emptied : (amendmentState s at ≡ 0 → ⊥) → amendmentValue s at ≡ 0
 
+-- 5 holds of a number 0, of a state that is neither 0 nor 1, of a value over its limit in state 0 and of a value above 0 in state 1. What is
+-- left has a number above 0 and either state 0 and a value within the limit, or state 1 and value 0
 pub amendment-fits : (s : List ℕ) (at : ℕ) → unfitAmendment s at ≡ false → FitAmendment s at
 unfolding unfitFor unfitAmendment
 amendment-fits s at =

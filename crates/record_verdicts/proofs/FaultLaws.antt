@@ -115,6 +115,8 @@ module _ (s : List ℕ) (at : ℕ) where
       let h2 = first-none _ _ (h1 .1) in
       ap (λ (v : Verdict). v .number) (first-passed (shapeVerdict s at) (bodyVerdict s at) (h1 .0)) ∙ h2 .1
 
+  -- no test but perhaps 16 holds: 1 leaves an end within the bytes, 2 the length of the kind, 5 a value, numbers and an amendment within their
+  -- limits, 11 tiers that load
   pub faultless-sound : plainVerdict s at .number ≡ 0 → Sound s at
   faultless-sound h =
       let f = faultless h in

@@ -42,6 +42,7 @@ module _ (s : List ℕ) (at : ℕ) where
   abbrev most : ℕ
   most = mostIn (eqb (recordKind s at) fineCouponKind) (recordCell s at)
 
+  -- of kind 6 both are 0 unless the cell is a coupon, where neither is; of another kind a class has limit 0 just where it is 0
   most-class : eqb most 0 ≡ eqb (recordClass s at) 0
   unfolding mostIn recordClass
   most-class = by (eqb (recordKind s at) fineCouponKind) (eqb (cellClass (recordCell s at)) couponClass)
@@ -59,6 +60,7 @@ module _ (s : List ℕ) (at : ℕ) where
   pub listed-most : (recordClass s at ≡ 0 → ⊥) → most ≡ 0 → ⊥
   listed-most h e = h (eqb-true (recordClass s at) 0 (sym most-class ∙ eq-eqb most 0 e))
 
+  -- the two differ only for kind 6 at a cell that is no coupon, and there the first is 0
   pub most-limit : (most ≡ 0 → ⊥) → most ≡ valueLimit s at
   unfolding mostIn valueLimit
   most-limit = by (eqb (recordKind s at) fineCouponKind) (eqb (cellClass (recordCell s at)) couponClass)

@@ -130,6 +130,8 @@ module _ (s : List ℕ) (at : ℕ) where
     unfolding overLimit
     cell-limited h = simp gives (le-ltb (valueLimit s at) (recordValue s at) h)
 
+    -- Fourteen bytes hold 2 and a length of 12, which is what kinds 1 and 6 are due. The cell is listed and noted nowhere before, the value is
+    -- within its limit, and 12 and 11 never hold of a kind that gives a cell
     pub value-told : FitValue → Told
     value-told f =
         record {
@@ -145,6 +147,8 @@ module _ (s : List ℕ) (at : ℕ) where
           };
         }
 
+    -- No fault of shape: the length is 12, and the record ends within the bytes, which are 14 from its offset. No repetition: what is noted
+    -- for its cell is not before the end. No fault of limit: its value is within its own
     pub told-value : Told → FitValue
     unfolding nextRecord
     told-value t =
@@ -187,6 +191,8 @@ module _ (s : List ℕ) (at : ℕ) where
     unfolding overLimit givesCell
     amendment-limited h = rw amends h
 
+    -- Eighteen bytes hold 2 and a length of 16, which is what kind 7 is due. The cell is listed, the amendment fits it, and 4, 12 and 11 never
+    -- hold of kind 7
     pub amendment-told : FitRecord → Told
     amendment-told f =
         record {
@@ -202,6 +208,8 @@ module _ (s : List ℕ) (at : ℕ) where
           };
         }
 
+    -- no fault of shape: the length is 16, and the record ends within the bytes, which are 18 from its offset; its cell is listed, and 5 does
+    -- not hold, so that it fits
     pub told-amendment : Told → FitRecord
     unfolding nextRecord
     told-amendment t =

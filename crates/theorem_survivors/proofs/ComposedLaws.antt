@@ -145,6 +145,8 @@ module _ (s : List ℕ) (none : firstFaulty s ≡ length s) where
     as-sheet : recordItem s (offsetOf s index) ≡ Sheet kind
     stands : sheetOffset made kind ≡ place s index
 
+  -- the sheet's offset in s is reached, so its record has a number, and it is a sheet, so that it is kept; in the composed filing its copy
+  -- is the first record of that sheet, so that the sheet stands there
   sheet-at : (kind : ℕ) → hasSheet s kind ≡ true → SheetAt kind
   unfolding keeps sheetOffset firstWith sameItem
   sheet-at kind h =

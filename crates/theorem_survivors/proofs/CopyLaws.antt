@@ -81,6 +81,7 @@ module _ (s t : List ℕ) (at k : ℕ) (c : Copied s t at k) where
     unfolding dueLength givesCell
     tiers-length e = shaped ∙ rw e
 
+    -- the test of tier i reads its two numbers and those of the tier before; all four lie within the 4 + 4 × count bytes that are copied
     tier-copied : recordKind s at ≡ tiersKind → (i : ℕ) → i < tierCount s at → unfitTier t k i ≡ unfitTier s at i
     unfolding unfitTier
     tier-copied e i l =
@@ -126,6 +127,8 @@ module _ (s t : List ℕ) (at k : ℕ) (c : Copied s t at k) where
               let due : recordLength s at ≡ 2 + 2 * sheetKind (recordKind s at) .numbers = shaped ∙ rw (e, plain, f, z) in
               omega arith
 
+      -- kind and cell are copied, and so the limit is the same; a record of a cell compares its value, within its 12 bytes, a sheet each of its
+      -- numbers, within its length, and both are copied
       pub limit-copied : overLimit t k ≡ overLimit s at
       unfolding overLimit valueLimit numberOver
       limit-copied = rw (kind-copied, cell-copied, plain) (by (givesCell (recordKind s at)) refl)

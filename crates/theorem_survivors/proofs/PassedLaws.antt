@@ -127,6 +127,8 @@ module _ (s : List ℕ) (none : firstFaulty s ≡ length s) where
       no-fault : recordVerdict made here ≡ accepted
       no-amendment : eqb (recordKind made here) amendmentKind ≡ false
 
+    -- a cell or a sheet is kept as a copy, which has no fault and the kind that it had; an amendment is kept only where it does not withdraw,
+    -- and then as a record of kind 1 without fault
     passed : Passed
     unfolding keeps
     passed = by (recordItem s at) refl k

@@ -32,6 +32,7 @@ part-byte s h size from i = by (ltb i size) refl
         omega (arith, List·getD-eq-default (take size (drop from s)) 0 {n = i} past)
 
 module _ (s : List ℕ) (h : (i : ℕ) → getD s i 0 ≤ 255) where
+  -- a record is kept as bytes of s, or, an amendment, as 12, 0, 1, 0 and ten bytes of s; past its end 0 is read
   kept-byte : (at : ℕ) (item : Item) (i : ℕ) → getD (keptAs s at item) i 0 ≤ 255
   unfolding keptAs recordBytes amendedCell
   kept-byte at (Cell n) i = part-byte s h (2 + recordLength s at) at i

@@ -57,6 +57,8 @@ module _ (s : List ℕ) (none : firstFaulty s ≡ length s) where
   abbrev pub amendedTo : ℕ → CellValue
   amendedTo m = record { cell = recordCell s (offsetOf s m); value = amendmentValue s (offsetOf s m) }
 
+  -- what is kept are the 14 bytes made of the amendment, and a number read at its place is the number read off them: length 12, kind 1, the
+  -- amendment's cell and its value
   pub amended : (m n number : ℕ) → keptIs s m ≡ true → recordItem s (offsetOf s m) ≡ Amendment n number → CellRecord made (place s m) (amendedTo m)
   unfolding keptAs
   amended m n number k e =

@@ -53,6 +53,8 @@ module _ (s t : List ℕ) where
     gives : survives s n ≡ true → amountAt t (ownOffset t n) ≡ amountAt s (cellOffset s n)
     absent : survives s n ≡ false → ownOffset t n ≡ length t
 
+  -- for a cell that survives the test passes only where it stands in t with the same amount, for another only where it is absent from t; each
+  -- clause of the other case has a hypothesis that is false
   cell-kept : (n : ℕ) → T (cellKept n) → CellKept n
   unfolding cellKept
   cell-kept n h = by (survives s n) refl h
@@ -79,6 +81,8 @@ module _ (s t : List ℕ) where
     present : hasSheet t kind ≡ hasSheet s kind
     numbers : hasSheet s kind ≡ true → (i : ℕ) → 1 ≤ i → i ≤ numbersOf s kind → sheetNumber t (sheetOffset t kind) i ≡ sheetNumber s (sheetOffset s kind) i
 
+  -- the test passes only where the sheet is in both or in neither; in both it is that of each number from the first to the last, in neither
+  -- nothing is asked of the numbers
   sheet-kept : (kind : ℕ) → T (sheetKept kind) → SheetKept kind
   unfolding sheetKept
   sheet-kept kind h = by (hasSheet s kind) (hasSheet t kind) refl refl h

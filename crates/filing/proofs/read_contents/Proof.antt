@@ -48,6 +48,8 @@ returns c =
 fill-sheets-requires : tie.Need-fill-sheets-requires
 fill-sheets-requires c κs = search needs
 
+-- the cells pass, so that the verdict is 0 and the filing is accepted; the filled cells and sheets are then what it says, whatever the lent
+-- arrays held, and the sums are those of the same cells
 returns-2 : tie.Need-returns-2
 unfolding verdictOf
 returns-2 c =

@@ -44,6 +44,8 @@ element-copy-out-tiers-at c = search needs
 tiers-at-requires : tie.Need-tiers-at-requires
 tiers-at-requires c κs = search needs
 
+-- each noted offset is that of its sheet; the yields are written first and the rates behind them, where they overwrite no yield, so that
+-- both parts of the array are what the filing says; the tiers are read from theirs
 returns : tie.Need-returns
 unfolding contentsOf sheetOf sheetKinds sheetKind
 returns c =

@@ -37,6 +37,7 @@ mul-result c = search needs
 add-result : tie.Need-add-result
 add-result c = search needs
 
+-- the kind gives no cell and is no amendment's, and is that of tiers: the length by their count
 returns-3 : tie.Need-returns-3
 unfolding dueLength
 returns-3 c =
@@ -52,6 +53,7 @@ returns-3 c =
 sheet-kind-requires : tie.Need-sheet-kind-requires
 sheet-kind-requires c κs = search needs
 
+-- the kind is none of the three before and has no numbers in the table of sheets: it is unknown, and 0 is due
 returns-4 : tie.Need-returns-4
 unfolding sheetLength dueLength
 returns-4 c =
@@ -75,6 +77,7 @@ mul-result-2 c = search needs
 add-result-2 : tie.Need-add-result-2
 add-result-2 c = search needs
 
+-- the kind is none of the three before and has numbers in the table of sheets: the length by how many
 returns-5 : tie.Need-returns-5
 unfolding sheetLength dueLength
 returns-5 c =

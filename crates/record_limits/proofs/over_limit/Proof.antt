@@ -19,6 +19,7 @@ value-limit-requires c κs = search needs
 record-value-requires : tie.Need-record-value-requires
 record-value-requires c κs = search needs
 
+-- the kind gives a cell: the record's value is compared with the limit of the record
 returns : tie.Need-returns
 unfolding overLimit
 returns c =
@@ -50,6 +51,7 @@ cast-number-over c = search needs
 number-over-requires : tie.Need-number-over-requires
 number-over-requires c κs = search needs
 
+-- the kind gives no cell and is no amendment's: the numbers of its row in the table of sheets are compared with the row's limit
 returns-3 : tie.Need-returns-3
 unfolding overLimit
 returns-3 c =

@@ -32,6 +32,8 @@ amendment-value-requires c κs = search needs
 unfit-for-requires : tie.Need-unfit-for-requires
 unfit-for-requires c κs = search needs
 
+-- the limit is that of the class of the record's cell, and number, state and value are read where they stand: the test over the four numbers
+-- is that of the record
 returns : tie.Need-returns
 unfolding unfitAmendment
 returns c =

@@ -23,6 +23,7 @@ cell-class-requires c κs = search needs
 class-limit-requires : tie.Need-class-limit-requires
 class-limit-requires c κs = search needs
 
+-- the kind is not 6, so that the limit is that of the class of the record's cell
 returns-2 : tie.Need-returns-2
 unfolding valueLimit
 returns-2 c =

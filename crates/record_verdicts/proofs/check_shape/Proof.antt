@@ -37,6 +37,8 @@ path-beside-flat-requires c κs = search needs
 or-refused-requires-4 : tie.Need-or-refused-requires-4
 or-refused-requires-4 c κs = search needs
 
+-- row by row in the order 1, 2, 3, 4, 12: each answer is the first refusal of the rows before and its own, and its test is the definition's;
+-- after the last it is that of all five
 returns : tie.Need-returns
 returns c =
     let repetition = c .before .before in

@@ -15,6 +15,8 @@ slice-aggregate-write c = search needs
 write-requires : tie.Need-write-requires
 write-requires c κs = search needs
 
+-- all 29 numbers are the balance at first, so that the first one is right; the 28 totals are written behind it, up to the end,
+-- so that nothing else is left of the array
 returns : tie.Need-returns
 returns c =
     let a = c .before .before .before .before .args in

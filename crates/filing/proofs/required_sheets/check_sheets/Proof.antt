@@ -33,6 +33,7 @@ returns c =
 element-copy-out-if2 : tie.Need-element-copy-out-if2
 element-copy-out-if2 c = search needs
 
+-- yields stand before the end and so do flat rates: 6 does not hold
 returns-2 : tie.Need-returns-2
 unfolding verdictOf accepted sheetVerdict sheetMissing
 returns-2 c =
@@ -47,6 +48,7 @@ returns-2 c =
 element-copy-out-if3 : tie.Need-element-copy-out-if3
 element-copy-out-if3 c = search needs
 
+-- yields stand before the end, flat rates do not, but rates by month do: 6 does not hold
 returns-3 : tie.Need-returns-3
 unfolding verdictOf accepted sheetVerdict sheetMissing
 returns-3 c =
@@ -60,6 +62,7 @@ returns-3 c =
       lt-leb (length s) (sheetOffset s ratePathKind) (rw (sheet-is start ratePathKind (lit< tt)) at (c .if3 .taken)),
     ))
 
+-- yields stand before the end, but neither flat rates nor rates by month do: 6 holds, at the input's length
 returns-4 : tie.Need-returns-4
 unfolding verdictOf refused sheetVerdict sheetMissing
 returns-4 c =

@@ -54,6 +54,8 @@ add-summed c = omega arith
 loop-less : tie.Need-loop-less Inv-loop μ-loop
 loop-less c = omega arith
 
+-- the sum of i + 1 balances is that of the first i and the one added; each is at most the balance limit, so i + 1 are at most
+-- i + 1 limits
 loop-again : tie.Need-loop-again Inv-loop μ-loop
 loop-again c =
     let i = c .before .before .before .loop .summed in

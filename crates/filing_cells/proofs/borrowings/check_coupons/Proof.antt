@@ -28,6 +28,8 @@ coupon-outside-requires c κs = omega arith
 coupon-cell-requires : tie.Need-coupon-cell-requires Inv-loop μ-loop
 coupon-cell-requires c κs = omega arith
 
+-- the class's coupon is outside, so that its own verdict is 19 at its coupon cell; the classes before it pass, so that the first refusal
+-- of all eight is this one
 returns : tie.Need-returns Inv-loop μ-loop
 unfolding verdictOf refused couponsVerdict couponVerdict
 returns c =

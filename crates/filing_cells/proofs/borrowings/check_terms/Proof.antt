@@ -28,6 +28,8 @@ term-outside-requires c κs = omega arith
 term-cell-requires : tie.Need-term-cell-requires Inv-loop μ-loop
 term-cell-requires c κs = omega arith
 
+-- the term is outside, so that its own verdict is 7 at its cell; the terms before it pass, so that the first refusal of all three
+-- is this one
 returns : tie.Need-returns Inv-loop μ-loop
 unfolding verdictOf refused termsVerdict termVerdict
 returns c =

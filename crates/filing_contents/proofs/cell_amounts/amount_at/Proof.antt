@@ -67,6 +67,7 @@ mul-result c = omega (arith, tenfold c, limit c, start-of c .pre)
 returns-3 : tie.Need-returns-3
 returns-3 c = tenfold c
 
+-- the kind is not 6 and the cell is no coupon, so that the amount is the filed value as it is
 returns-4 : tie.Need-returns-4
 unfolding amountAt
 returns-4 c =

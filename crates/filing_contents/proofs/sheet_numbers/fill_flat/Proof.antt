@@ -27,6 +27,8 @@ fill-from-requires-3 c κs = search needs
 same-length : tie.Need-same-length
 same-length c = search needs
 
+-- the first rate is filled in from 0 to the end, the second over it from 120, the third over both from 240: entry i is left as
+-- rate i / 120 + 1, whatever stood there
 returns : tie.Need-returns
 returns c =
     let last = c .before .before in

@@ -45,6 +45,7 @@ add-i c = omega arith
 loop-less : tie.Need-loop-less Inv-loop μ-loop
 loop-less c = omega arith
 
+-- the first i numbers are filled; number i + 1 of the sheet, counted from 1, goes to index i, and so the first i + 1 are
 loop-again : tie.Need-loop-again Inv-loop μ-loop
 loop-again c =
     let a = c .before .before .before .before .before .before .args in

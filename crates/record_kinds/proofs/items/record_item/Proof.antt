@@ -27,6 +27,7 @@ returns c =
 record-cell-requires : tie.Need-record-cell-requires
 record-cell-requires c κs = search needs
 
+-- the kind gives a cell, and the cell's class is not 0: the item is that cell
 returns-2 : tie.Need-returns-2
 unfolding recordItem
 returns-2 c =
@@ -58,6 +59,7 @@ record-cell-requires-2 c κs = search needs
 amendment-number-requires : tie.Need-amendment-number-requires
 amendment-number-requires c κs = search needs
 
+-- the kind gives no cell and is an amendment's, and the cell's class is not 0: the item is that amendment of the cell
 returns-4 : tie.Need-returns-4
 unfolding recordItem
 returns-4 c =

@@ -70,6 +70,8 @@ field-within-requires-5 c κs = search needs
 unfit-for-requires : tie.Need-unfit-for-requires
 unfit-for-requires c κs = search needs
 
+-- the tests before have left 18 bytes, length 16 and a listed cell, so that only whether it fits is open: where the last test passes the
+-- record is sound, and a sound one fits, so that the test passes
 returns-4 : tie.Need-returns-4
 returns-4 c =
     let value = c .before in

@@ -39,6 +39,8 @@ returns-4 c =
     not-told _ _
     (other-kind _ _ (ap givesCell (sym is) ∙ sym (asked .gives-cell .ensures) ∙ not-true _ (c .if4 .taken)) (λ e. asked .before .if3 .left (is ∙ e)))
 
+-- the input is 14 bytes long at least, and `at` is not past its length less 14, so that 14 bytes are left; the kind that is read is the
+-- record's, and it gives a cell
 sound-value-requires : tie.Need-sound-value-requires
 sound-value-requires c κs =
     let asked = c .before in

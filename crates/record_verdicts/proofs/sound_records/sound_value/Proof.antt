@@ -96,6 +96,8 @@ returns-3 c =
 field-within-requires-3 : tie.Need-field-within-requires-3
 field-within-requires-3 c κs = search needs
 
+-- the tests before have left 14 bytes, length 12, a listed cell and nothing noted for it, so that only the limit is open: where the value is
+-- within it the record is sound, and a sound one's value is within it
 returns-4 : tie.Need-returns-4
 returns-4 c =
     let free = c .before in
