@@ -1,6 +1,6 @@
 // A filing of certificate deposits, from its bytes to what it says.
 pub mod readings;
-pub mod required_sheets;
+mod required_sheets;
 
 use crate::readings::Reading;
 use crate::readings::refusal;

@@ -16,7 +16,7 @@ pub struct Reading {
 }
 
 // The reading of a refused filing: its tiers and sums are those of an empty one.
-pub fn refusal(answer: Answer) -> Reading
+pub(crate) fn refusal(answer: Answer) -> Reading
     ensures { λ r. ⌜ (r .answer ≡ answer) × (r .tiers ≡ emptyContents .tiers) × (r .sums ≡ columnSums (emptyContents .cells)) ⌝ }
 {
     Reading {

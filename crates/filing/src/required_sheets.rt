@@ -11,7 +11,7 @@ ghost use Rattle.record_offsets.specs.Inner.Notes.{notedBefore};
 ghost use Rattle.filing.specs.RequiredSheets.{sheetVerdict};
 
 // 6, from where the sheets stand: one that is missing is noted at the input's length.
-pub fn check_sheets(s: &[u8], sheets: &[usize; KINDS]) -> Answer
+pub(crate) fn check_sheets(s: &[u8], sheets: &[usize; KINDS]) -> Answer
     requires { ⌜ now sheets ≡ notedBefore (now s) (length (now s)) .sheets ⌝ }
     ensures { λ r. ⌜ verdictOf r ≡ sheetVerdict (now (s .entry)) ⌝ }
 {

@@ -7,7 +7,7 @@ ghost use mathlib.Core.Path.{_≡_};
 ghost use Rattle.filing_cells.specs.Inner.Sums.{BalancesWithin, columnSums};
 
 // The sums of the three columns, and before each position the sum of its column's rows above it.
-pub fn column_sums(cells: &[u64; CELLS]) -> ColumnSums
+pub(crate) fn column_sums(cells: &[u64; CELLS]) -> ColumnSums
     requires { ⌜ BalancesWithin (now cells) ⌝ }
     ensures { λ r. ⌜ r ≡ columnSums (now (cells .entry)) ⌝ }
 {

@@ -3,7 +3,6 @@ use Prim.Native.Nat.{ℕ, _≤_}
 use native.Mathlib.Omega.{arith}
 use borrow.Author.Needs.{needs}
 use mathlib.Core.Path.{sym, ap, _∙_}
-use mathlib.Core.List.{[], _∷_}
 use lib.ListN.{List·getD-eq-default}
 use Rattle.lists.proofs.RangeLaws.{above}
 use Rattle.form.specs.Borrowings.{withinTerm}
@@ -39,7 +38,7 @@ unfolding withinTerm
 returns-4 c =
     let none = c .before .match .rest in
     let past : 3 ≤ c .before .before .args .term = above 2 (above 1 (above 0 (omega arith) (none .0 .0 .1)) (none .0 .1)) (none .1) in
-    c .within4 .ensures ∙ rw (List·getD-eq-default {A = ℕ} (1 ∷ 4 ∷ 37 ∷ []) 0 past, List·getD-eq-default {A = ℕ} (3 ∷ 36 ∷ 120 ∷ []) 0 past)
+    c .within4 .ensures ∙ rw (List·getD-eq-default {A = ℕ} _ 0 past, List·getD-eq-default {A = ℕ} _ 0 past)
 
 pub within-term-spec : {M : Type 1} → statement M
 within-term-spec =

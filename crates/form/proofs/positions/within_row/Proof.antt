@@ -3,7 +3,6 @@ use Prim.Native.Nat.{ℕ, _≤_}
 use native.Mathlib.Omega.{arith}
 use borrow.Author.Needs.{needs}
 use mathlib.Core.Path.{sym, ap, _∙_}
-use mathlib.Core.List.{[], _∷_}
 use lib.ListN.{List·getD-eq-default}
 use Rattle.lists.proofs.RangeLaws.{above}
 use Rattle.lists.specs.Ranges.{within}
@@ -54,7 +53,7 @@ unfolding withinRow within
 returns-6 c =
     let none = c .before .match .rest in
     let past : 5 ≤ c .before .before .args .row = above 4 (above 3 (above 2 (above 1 (above 0 (omega arith) (none .0 .0 .0 .0 .1)) (none .0 .0 .0 .1)) (none .0 .0 .1)) (none .0 .1)) (none .1) in
-    c .within6 .ensures ∙ rw (List·getD-eq-default {A = ℕ} (0 ∷ 1 ∷ 4 ∷ 13 ∷ 37 ∷ []) 0 past, List·getD-eq-default {A = ℕ} (0 ∷ 3 ∷ 12 ∷ 36 ∷ 120 ∷ []) 0 past)
+    c .within6 .ensures ∙ rw (List·getD-eq-default {A = ℕ} _ 0 past, List·getD-eq-default {A = ℕ} _ 0 past)
 
 pub within-row-spec : {M : Type 1} → statement M
 within-row-spec =
