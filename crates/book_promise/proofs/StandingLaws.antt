@@ -94,6 +94,8 @@ module _ (k : Contents) (b : Book) (stands : Standing k b) (place : ℕ) (at : p
   -- a sum over the places of one of their figures, moved by the difference
   module _ (test : ℕ → Bool) (figure : SubBalance → ℕ) (limit : ℕ) (small : limit * subBalanceCount ≤ 2 ^ 64 - 1)
       (each : (i : ℕ) → i < subBalanceCount → figure (heldIn after i) ≤ limit) where
+    -- only the place changes, so that the new sum and the old figure are the old sum and the new figure. The old figure is part of the total, so
+    -- that taking it away leaves no less than 0, and the new sum is at most 36 limits, below 2^64: the moved total is the new sum
     figure-moved : (total : ℕ) → total ≡ sumWhere test (λ (i : ℕ). figure (heldIn b i)) subBalanceCount
         → cond (test place) (moved total (figure (heldIn b place)) (figure held)) total ≡ sumWhere test (λ (i : ℕ). figure (heldIn after i)) subBalanceCount
     figure-moved total e =

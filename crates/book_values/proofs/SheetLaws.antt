@@ -80,6 +80,8 @@ pub record Limits (rates : List ℕ) (tiers : FiledTiers) (lower upper : List �
   pub upper-pos : (i : ℕ) → i < factorCount → 0 < getD upper i 0
 
 module _ (rates : List ℕ) (tiers : FiledTiers) (lower upper : List ℕ) where
+  -- the test is five tests at once: no rate above its limit, tiers usable, no lower and no upper factor above par, no upper factor 0; that of
+  -- the tiers is three: at most 16, edges that rise, no withdrawal above its limit. Each gives the clause of its name
   pub usable-limits : sheetsUsable rates tiers lower upper ≡ true → Limits rates tiers lower upper
   unfolding sheetsUsable tiersUsable
   usable-limits e =

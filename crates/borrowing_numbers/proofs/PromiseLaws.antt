@@ -52,6 +52,8 @@ module _ (cells : List ℕ) (z : ℕ → ℕ → ℕ) where
       sum-in : sumWhere everywhere (balanceIn (list cells z rest)) borrowingCount ≡ cellIn cells borrowingsTotalCell
       sum-in = sumWhere-ext everywhere _ (balanceOf cells) borrowingCount (balance-read cells z rest) ∙ v .total-is-sum
 
+      -- each value read off the list is the run's, which encloses the exact one within its balance's width; the balances add up to cell 715, so
+      -- that the widths add up to the total's; the totals read off the list enclose the sums of the exact values
       pub borrowings-enclosed : EnclosedBorrowings cells z (list cells z rest)
       borrowings-enclosed =
           let l = list cells z rest in

@@ -73,6 +73,8 @@ module _ (a b : Date) (from : Day a) (to : Day b) where
       behind : end ≤ monthIndex a → LeastMonths a b (cond (ltb (monthIndex a) end) (end - monthIndex a) 1)
       behind h = rw (le-ltb (monthIndex a) end h) (reach-least end 1 r (omega arith) (omega arith) (λ k g u. absurd (omega arith)))
 
+  -- the end is at most 2200 years of 12 months, and the first date is of 1900 or later, so that the months between are at most 300 years;
+  -- where the end is not behind the first date they are 1
   apart-le : (end : ℕ) → Reach end → cond (ltb (monthIndex a) end) (end - monthIndex a) 1 ≤ 3600
   apart-le end r = ⊎-elim before behind (lt-or-le (monthIndex a) end)
     where

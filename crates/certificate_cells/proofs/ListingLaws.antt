@@ -66,6 +66,8 @@ module _ (t : Totals) where
   abbrev pub listed : ℕ → Bool
   listed cell = isFilled cell && isPresent t (formCell cell)
 
+  -- a cell that is filled and present is handed back in front of those behind it; one that is not filled is dropped from the
+  -- numbers, one that is filled and not present from the cells
   from-suc : (cell n : ℕ) → cellsFrom cell (suc n) ≡ cond (listed cell) (cellValue t (formCell cell) ∷ cellsFrom (suc cell) n) (cellsFrom (suc cell) n)
   unfolding cellsFrom those tableFrom
   from-suc cell n = by (isFilled cell) (isPresent t (formCell cell)) refl
@@ -112,6 +114,8 @@ module _ (t : Totals) where
         let counted : length (at .sofar ++ cellsFrom cell (at .left)) ≡ length (cellsOf t) = ap length (at .rest) in
         omega (arith, cells-count t, at .long, rw (next, p, length-append) at counted)
 
+    -- the cell is the first of those left, and goes to the first empty entry: it joins those so far, one entry fewer is empty, one cell fewer
+    -- is left, and all together are the same list
     pub listing-present : (x : CellValue) → x ≡ cellValue t (formCell cell) → listed cell ≡ true → Listing (set cells count x) (count + 1) (cell + 1)
     listing-present x e p =
         let room = listing-room p in

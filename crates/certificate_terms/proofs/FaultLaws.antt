@@ -75,6 +75,8 @@ pub record Sound (v : Date) (c : Certificate) : Type 0 where
   pub issued : onOrAfter v (c .issue) ≡ true
   pub months-le : remainingMonths v c ≤ monthsLimit
 
+-- none of 5, 13, 14 and 15 refuses: balance and coupon are within their limits, the three dates are days, the issue is not after the
+-- valuation, and the months are at most 120
 pub own-sound : (v : Date) (k : ℕ) (c : Certificate) → ownVerdict v k c .number ≡ 0 → Sound v c
 unfolding ownVerdict firstOf overLimit notOutstanding tooManyMonths
 own-sound v k c h =

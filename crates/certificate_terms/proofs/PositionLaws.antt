@@ -31,6 +31,7 @@ pub record Column (m j : ℕ) : Type 0 where
   pub second : 12 < m → 2 ≤ j
   pub third : 36 < m → 3 ≤ j
 
+-- of up to 12 months it is column 1, above them and up to 36 column 2, above 36 column 3, and each is a column as its months ask
 pub column-is : (m : ℕ) → Column m (columnOf m)
 column-is m = ⊎-elim (λ l. ⊎-elim long middle (lt-or-le 36 m)) short (lt-or-le 12 m)
   where

@@ -68,6 +68,8 @@ module _ (v : Date) (s : List ℕ) where
           let long : length (table 9 f) ≤ i = rw (table-length 0 9 f) l in
           rw (List·getD-eq-default (table 9 f) 0 long) (omega arith)
 
+  -- each sum of balances passed its test; a coupon is at most its limit, so that a sum of balances times coupons is at most the limit times the
+  -- sum of the balances; the same of the months
   pub totals-bounded : (n : ℕ) → Passed v s n → Bounded (totalsOf v s n)
   unfolding totalsOf
   totals-bounded n p =

@@ -61,6 +61,7 @@ module _ {ℓ} {A : Type ℓ} where
   joined-length m s (suc n) f h =
       omega (arith, length-append (f s) (joined (tableFrom (suc s) n f)), h s, joined-length m (suc s) n f h, mul-suc m n)
 
+  -- index m i + r is r of the first list where i is 0; otherwise the first list takes m of it, and (i - 1, r) is left in the others
   joinedFrom-getD : (m s n : ℕ) (f : ℕ → List A) → ((i : ℕ) → length (f i) ≡ m) → (i r : ℕ) (d : A) → i < n → r < m
       → getD (joined (tableFrom s n f)) (m * i + r) d ≡ getD (f (s + i)) r d
   unfolding tableFrom joined

@@ -84,6 +84,8 @@ module _ (s : List ℕ) (cell : ℕ) where
       by true later h = omega arith
       by false later h = h
 
+  -- by steps to the record: once it is read the record that counts ranks as high, and no later one that counts ranks lower; the steps suffice,
+  -- since each moves on by a byte at least
   counts-most : {from at : ℕ} → Reached s from at → (end before steps : ℕ) → at < end → end ≤ from + steps
       → rank s cell at ≤ rank s cell (countsFrom s cell end before from steps)
   counts-most here end before zero l q = absurd (omega arith)

@@ -32,6 +32,8 @@ appended-front l t m k h a =
     let e : 0 + length t ≡ k = omega (arith, a .end-is) in
     a .bytes-are ∙ sets-eq t l 0 (omega arith) ∙ rw e
 
+-- text put at index 0 ends at its own length, which is therefore the size: the first bytes up to it are the text, those behind it are what
+-- was there
 pub in-front : (t before after : List ℕ) (size : ℕ) → length t ≤ length before → Appended before 0 t after size → InFront t before after size
 in-front t before after size fits a =
     let k : length t ≡ size = sym (a .end-is ∙ zero-add (length t)) in

@@ -50,6 +50,7 @@ module _ (b : Book) (c : Command) where
     fronted : (text : List ℕ) → Appended before 0 text after (r .size) → r .size ≤ 644 → InFront text before after (r .size)
     fronted text a h = in-front text before after (r .size) (omega (arith, a .end-is, h, long)) a
 
+    -- the reply is the line of the answer on the change, and the book after is that of the change, which is kept where the book before was
     pub obeyed-change : (change : Change) (changed : Answered) → Changes b c change → ChangedOf b change changed
         → (r .book ≡ changed .book) × (Appended before 0 (answerLine okLine (verdictOf (changed .answer))) after (r .size) × (r .size ≤ 50))
         → ObeyedAs b c before after r

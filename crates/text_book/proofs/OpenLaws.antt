@@ -38,6 +38,8 @@ module _ (s : List ℕ) (a : Answered) (of : OpenedOf s a) (before after : List 
   unfolding verdictOf
   number-is = ap (λ (v : Verdict). v .number) (of .answer-is)
 
+  -- the input is short enough, so that the line is that of the filing's verdict, the book is open just where the answer's number is 0, and
+  -- the book is the one opened, which is kept there
   pub opened-short : (number : ℕ) → length s ≤ filingLimit → number ≡ numberOf (a .answer) → r .«is_open» ≡ eqb number 0
       → Appended before 0 (answerLine openedLine (verdictOf (a .answer))) after (r .size) → r .size ≤ length before → OpenedAs s before after r
   unfolding openingText opens

@@ -176,6 +176,8 @@ pub read-none : (room : List ℕ) → LineRead room (started room .reading) room
 unfolding started
 read-none room = record { bytes = []; ended = false; held-is = lineOf-none room }
 
+-- with the stream's end met the line would be complete, which it is not; the step over a byte holds the line of the bytes and that byte, the
+-- step at the end that of the ended stream
 read-by : (room s : List ℕ) (ended : Bool) (h k : Held) (x : Input)
     → h ≡ lineOf room s ended
     → h .reading .complete ≡ false

@@ -27,6 +27,7 @@ module _ (k : Contents) (rest : List ℕ) where
   first-read : (scenario : ℕ) → scenario < scenarioCount → getD (rows k ++ (totals k ++ rest)) (totalsStart + 4 * scenario) 0 ≡ getD (scenarioTotals k scenario) 0 0
   first-read scenario h = rw (sym (add-zero (totalsStart + 4 * scenario))) (total-read k rest scenario 0 h (omega arith))
 
+  -- the four numbers from 540 + 4 × scenario on are read behind the rows of places, each the total of its index
   totals-are : (scenario : ℕ) → scenario < scenarioCount → totalsIn (numbers k ++ rest) totalsStart scenario ≡ scenarioTotals k scenario
   unfolding totalsIn scenarioTotals
   totals-are scenario h =

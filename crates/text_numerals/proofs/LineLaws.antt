@@ -118,6 +118,7 @@ module _ (s : List ℕ) (from : ℕ) (form : List ℕ) where
 
 -- what a line that was read tells
 module _ (s : List ℕ) (at : ℕ) (form : List ℕ) (r : Line) (e : r ≡ lineAt s at form) where
+  -- a line that is read is one of two, by whether it has the form, and only the one with the form is called readable
   pub line-readable : r .readable ≡ hasForm s at form
   unfolding lineAt
   line-readable = rw e (by (hasForm s at form))

@@ -23,6 +23,8 @@ edge-reached n h =
     let k : ℕ = 12000000 * 6000 * n in
     simp (lt-leb (150 * k) a (omega arith), lt-leb (130 * k) a (omega arith), lt-leb (115 * k) a (omega arith), le-leb (100 * k) a (omega arith))
 
+-- 100 times the gain is 99.8 times the cost, both multiples of n, which is above 0: below the edges 150, 130, 115 and 100, and not below 80,
+-- whose withdrawal is 75
 edge-missed : (n : ℕ) → 0 < n → annualWithdrawal houseTiers (gain 6000 0 599 n) (cost 6000 n) ≡ 75
 unfolding gain cost atMost houseTiers tier reached firstReached annualWithdrawal
 edge-missed n h =
@@ -36,6 +38,7 @@ edge-missed n h =
       le-leb (80 * k) a (omega arith),
     )
 
+-- each figure is computed, but for those at any number of months left, which are the laws above, and the survival of 0, which is a law
 pub starred : StarredFigures
 unfolding sum apportion sharesFrom cumulativeShare accountParts gain cost atMost houseTiers tier reached firstReached annualWithdrawal earlySurvival monthSurvival quotient balanceBy outflowBy flowBy discountBy discountFactorBy discountedSum priceBy worthBy valueBy accountOf servicingCost termsOf houseTerms flat
 starred =

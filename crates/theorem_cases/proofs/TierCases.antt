@@ -30,6 +30,7 @@ record Case : Type 0 where
 abbrev gives : TierTable → ℤ → ℕ → ℕ × ℕ → Case
 gives tiers gain cost answer = record { tiers = tiers; gain = gain; cost = cost; answer = answer }
 
+-- the house's tiers: each edge and the gain just short of it, no gain, a negative one, no cost
 abbrev house-cases : List Case
 house-cases =
     gives (carried []) (pos 601451409300) 400967606200 (550, 1)
@@ -49,6 +50,7 @@ house-cases =
     ∷ gives (carried []) (pos 0) 0 (550, 1)
     ∷ []
 
+-- tiers of a filing's own: one, three, four and sixteen of them
 abbrev own-cases : List Case
 own-cases =
     gives (carried ((0, 40) ∷ [])) (pos 0) 9114549078700 (40, 1)

@@ -85,6 +85,7 @@ module _ (cells : List CellValue) (yields rates : ℕ → ℕ) (fileable : Filea
       let none : cellIn told n ≡ 0 = says n 4 (record { from-first = omega arith; to-last = u; in-class = e }) refl ∙ past n l in
       rw (none, le-ltb (sum (columnBalances told column)) 0 (omega arith))
 
+  -- the six cells of columns lie behind the total, where certificates fill nothing: each is 0, which is not above its column
   columns-pass : columnsVerdict told ≡ accepted
   unfolding columnsVerdict firstOf firstRefusal accepted brokeredCell penaltyBalanceCell penaltyMonthsCell cellClass contains positions position
   columns-pass =

@@ -18,6 +18,7 @@ behind-number n x i k q =
 
 -- a cell's body: kind, cell and value
 module _ (c : CellValue) where
+  -- 2 bytes of the kind, 2 of the cell, 8 of the value
   pub cell-body-length : length (cellBody c) ≡ 12
   unfolding cellBody
   cell-body-length =
@@ -56,6 +57,7 @@ module _ (f : ℕ → ℕ) where
   numbers-length m (suc n) =
       omega (arith, length-append (bytes 2 (f m)) (numbersFrom (suc m) n), bytes-length 2 (f m), numbers-length (suc m) n)
 
+  -- the first number is read off the first two bytes; number j + 1 is number j of those behind them
   numbers-at : (m n j : ℕ) → j < n → f (m + j) < 256 ^ 2 → numberAt (numbersFrom m n) (2 * j) 2 ≡ f (m + j)
   unfolding joined tableFrom
   numbers-at m zero j l h = absurd (not-suc-le-zero l)

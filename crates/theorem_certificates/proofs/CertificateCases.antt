@@ -87,6 +87,7 @@ columns-hold = refl
 abbrev position-from : Date → Date → ℕ
 position-from issue maturity = positionOf (date 2024 6 28) (record { issue = issue; maturity = maturity; balance = 1; coupon = 1 })
 
+-- each is computed
 positions-hold : position-from (date 2023 9 28) (date 2024 9 28)
     ∷ position-from (date 2023 9 27) (date 2024 9 28)
     ∷ position-from (date 2021 9 28) (date 2024 9 28)

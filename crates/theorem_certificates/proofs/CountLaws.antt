@@ -17,6 +17,7 @@ module _ (bs : List (List ℕ)) (sized : (i : ℕ) → i < length bs → length 
   unfolding counting
   kept before at e = simp (le-ltb (rank (run bs) cell before) (rank (run bs) cell at) (omega (arith, e)))
 
+  -- each record left ranks 0 and leaves what counts as it is; the next stands at the next offset, and at the end nothing more is read
   counts-stays : (steps j before : ℕ) → j ≤ length bs → length bs ≤ j + steps
       → ((i : ℕ) → j ≤ i → i < length bs → rank (run bs) cell (offset bs i) ≡ 0)
       → countsFrom (run bs) cell (offset bs (length bs)) before (offset bs j) steps ≡ before
@@ -42,6 +43,8 @@ module _ (bs : List (List ℕ)) (sized : (i : ℕ) → i < length bs → length 
     unfolding counting
     taken before e = simp (lt-ltb (rank (run bs) cell before) (rank (run bs) cell (offset bs i)) (omega (arith, e, is)))
 
+    -- the records before i rank 0 and change nothing; record i ranks 1, above the 0 of what counted before, and counts from there on, since the
+    -- ones behind it rank 0
     counts-hit : (steps j before : ℕ) → rank (run bs) cell before ≡ 0 → j ≤ i → length bs ≤ j + steps
         → countsFrom (run bs) cell (offset bs (length bs)) before (offset bs j) steps ≡ offset bs i
     unfolding countsFrom

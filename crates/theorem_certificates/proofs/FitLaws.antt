@@ -38,6 +38,7 @@ record Belongs (m class i : ℕ) : Type 0 where
 abbrev belongs : ℕ → ℕ → ℕ → Bool
 belongs m class i = leb firstCell m && (ltb m totalCell && (eqb (cellClass m) class && eqb (positionWith m) i))
 
+-- the test over the nine indices passes at i, and is four tests at once: each gives its clause
 belonging : (cell : ℕ → ℕ) (class : ℕ) → T (allFrom 0 9 (λ (i : ℕ). belongs (cell i) class i)) → (i : ℕ) → i < 9 → Belongs (cell i) class i
 belonging cell class t i h =
     let a = both (leb firstCell (cell i)) _ (all-at 0 9 (λ (j : ℕ). belongs (cell j) class j) t i (omega arith) h) in
@@ -123,6 +124,8 @@ module _ (v : Date) (s : List ℕ) (accepted : certificatesVerdict v s .number �
       table-ext 9 _ (λ (i : ℕ). positionSum v s balanceOf i (certificateCount s))
       (λ i h. table-getD 9 (λ (j : ℕ). positionSum v s balanceOf j (certificateCount s)) i 0 h)
 
+  -- each cell holds the sum or mean of its position, or 0 where the balance is 0: the sums and means of accepted certificates are within the
+  -- limits and the rows, and the total is the sum of the nine balances
   fit : Fit (cellsOf (totalsOf v s (certificateCount s)))
   fit =
       let t : Totals = totalsOf v s (certificateCount s) in

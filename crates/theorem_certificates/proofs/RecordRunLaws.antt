@@ -32,6 +32,7 @@ parted (b ∷ bs) (suc i) h =
     ap (λ (l : List ℕ). framed b ++ l) (parted bs i (le-of-suc-le-suc h))
     ∙ sym (append-assoc (framed b) (run (take i bs)) (framed (getD bs i []) ++ run (drop (suc i) bs)))
 
+-- by records: the first is 2 bytes and its body long; every offset behind it is that of the records without it, moved by its length
 pub offset-suc : (bs : List (List ℕ)) (i : ℕ) → i < length bs → offset bs (suc i) ≡ offset bs i + (2 + length (getD bs i []))
 unfolding offset run joined
 offset-suc [] i h = absurd (not-suc-le-zero h)
@@ -66,6 +67,8 @@ module _ (bs : List (List ℕ)) where
 
   -- what record i holds
   module _ (i : ℕ) (h : i < length bs) where
+    -- the bytes are the records before, 2 bytes of length, the body and what is behind it: past the first two parts a number within the body
+    -- is read off the body
     pub record-field : (j n : ℕ) → j + n ≤ length (getD bs i []) → numberAt (run bs) (offset bs i + 2 + j) n ≡ numberAt (getD bs i []) j n
     unfolding offset framed
     record-field j n l =
@@ -78,6 +81,7 @@ module _ (bs : List (List ℕ)) where
         ∙ number-front b behind j n l)
 
     module _ (fits : length (getD bs i []) < 65536) where
+      -- the bytes are the records before, 2 bytes of length, and what is behind them: past the records before, the first number is that length
       pub record-length : recordLength (run bs) (offset bs i) ≡ length (getD bs i [])
       unfolding offset framed
       record-length =
@@ -113,6 +117,7 @@ module _ (bs : List (List ℕ)) (sized : (i : ℕ) → i < length bs → length 
       ∙ search-from-none (offset bs k) 0 (omega arith) (omega (arith, offset-ge bs k within)) (λ i a b. f i b)
 
   module _ (i : ℕ) (before : i < k) (passes : test (offset bs i) ≡ true) where
+    -- a record before i fails the test, and the search goes on at the next one; record i, before the end of the search, passes, and is its answer
     search-from-hit : (steps j : ℕ) → j ≤ i → k ≤ j + steps → ((m : ℕ) → j ≤ m → m < i → test (offset bs m) ≡ false)
         → searchRecords (run bs) test (offset bs k) (offset bs j) steps ≡ offset bs i
     unfolding searchRecords

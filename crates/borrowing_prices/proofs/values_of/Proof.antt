@@ -57,6 +57,7 @@ add-scenario c = omega arith
 loop-less : tie.Need-loop-less Inv-loop μ-loop
 loop-less c = omega arith
 
+-- lower and upper value of the scenario are written behind those of the scenarios before, at twice its index
 loop-again : tie.Need-loop-again Inv-loop μ-loop
 unfolding boundsWith
 loop-again c =

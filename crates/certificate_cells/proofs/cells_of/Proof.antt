@@ -60,6 +60,7 @@ add-cell c = omega (arith, c .before .before .before .before .loop-test .taken)
 loop-less : tie.Need-loop-less Inv-loop μ-loop
 loop-less c = omega (arith, c .before .before .before .before .loop-test .taken)
 
+-- the test of the code is whether the cell is listed: one that is goes to the next entry with its value, one that is not leaves all as it was
 loop-again : tie.Need-loop-again Inv-loop μ-loop
 unfolding cellValue
 loop-again c = let t = c .before .before .before .before .before .before .args .totals in

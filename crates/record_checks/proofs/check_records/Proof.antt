@@ -40,6 +40,8 @@ first-is c = c .first-repetition .ensures ∙ ap (repetitionsBelow (bytes c) blo
 none-before : (c : tie.Else1) → firstPlain (bytes (c .before)) ≤ found (bytes (c .before))
 none-before c = omega (arith, c .if1 .left, first-is (c .before), end-is (c .before))
 
+-- a repetition stands before the record at which the scan ended, and every record before it passes the other tests: it is the first faulty
+-- one, by 16
 returns : tie.Need-returns
 unfolding verdictOf refused
 returns c =
@@ -51,6 +53,7 @@ returns c =
       first-is searched ∙ sym (faulty-first s),
     )
 
+-- the scan went to the end and no amendment is repeated: no record is faulty
 returns-2 : tie.Need-returns-2
 unfolding verdictOf accepted
 returns-2 c =
@@ -69,6 +72,7 @@ check-fully-requires c κs =
     let noted = scan-of searched .scan .ensures .1 ∙ ap (notedBefore _) (sym (end-is searched)) in
     (tested .if2 .left, ap (λ (n : Noted). n .sheets) noted, ap (λ (n : Noted). n .cells) noted)
 
+-- no amendment is repeated before the record at which the scan ended: that is the first faulty one, and all tests together say its verdict
 returns-3 : tie.Need-returns-3
 returns-3 c =
     let tested = c .before .before .before in

@@ -125,6 +125,8 @@ module _ {M : Type 1} (𝓤 : URA M) (H : Heap 𝓤) (A : Atoms 𝓤) (W : Given
       suffices ! _ (ends-at 𝓤 H A step-at.ended stayed (step-at.clauses 𝓤 H A mem run) W (((κ, tt), (q, tt), tt, (s, (n, tt)), passed), tt) u t (tt, (tt, tt)) (tt, (tt, tt))) $ says ! e $
       move ! (1 ∷ []) $ frame ! $ move ! (1 ∷ 2 ∷ []) $ fjoin ! $ frame ! $ done !
 
+  -- `new` answers a reader of the bytes at 0, `moved` one of the same bytes at the offset, `step` what stands there: what stands at the offset
+  -- of the bytes
   walk : (𝓣 : Tables 𝓤 H) → Known 𝓤 H A mem run 𝓣 → Is (ShrSlice (named 0) κ u8) s (bytes-value s ∷ [])
       → ent 𝓤 (onEntry 𝓤 H A step-at.signature (κ, tt) (q, tt) (s, (n, tt)) passed) (WpFn 𝓤 H (𝓣 .C) (𝓣 .Λ) code.function (bytes-value s ∷ vint w64 n ∷ []) Post)
   walk 𝓣 known slice =
@@ -164,6 +166,7 @@ module _ {M : Type 1} (𝓤 : URA M) (H : Heap 𝓤) (A : Atoms 𝓤) (W : Given
       (λ κs. (slice-vals, (uint-vals w64, tt))) (λ κs. (shr-slice-tells (named 0) (κs .0) u8, (uint-tells w64, tt)))
       (λ κs qs bounds a g are. via 𝓤 _ (fst∗ 𝓤 _ (emp 𝓤)) (walk 𝓤 H A W mem run (κs .0) (qs .0) (a .0) (a .1 .0) (are .1 .0 .1) 𝓣 known (are .0))))
 
+-- the function that the tables hold is the one that is walked, and each of the three that it calls meets its own contract
 pub step-at-spec : {M : Type 1} → stated.statement M
 unfolding code.routine tablesOf
 step-at-spec 𝓤 H 𝓜 𝓖 𝓡 =

@@ -158,6 +158,8 @@ module _ {M : Type 1} (𝓤 : URA M) (H : Heap 𝓤) (A : Atoms 𝓤) (W : Given
       owned ! N.the-row (Is N.the-row) (EL.makes N.the-type N′.the-plain 𝓤 H A) (r .answer) _ (answer-is r u is) $ move ! (1 ∷ 0 ∷ []) $ done !
 
   module _ (C : Calls 𝓤 H) (Λ : Loops 𝓤 H) (fm : FmC 𝓤 H (W .laws) C) (known-outcome : Triple 𝓤 (C #share-list·split-outcomes·outcome-of) (OutcomeFn 𝓤 H A at-mem run)) (known-fill : Triple 𝓤 (C #share-list·fill) (FillFn 𝓤 H A at-mem run)) where
+    -- `outcome_of` is lent the bytes and says answer, places and count; `fill` is lent the list and writes that many places into it; the answer
+    -- is returned, and what `fill` left is what the split promises
     walk : ent 𝓤 (onEntry 𝓤 H A split′.signature (κ₀, (κ₁, tt)) (q₀, (q₁, tt)) a args) (WpFn 𝓤 H C Λ code.function (sf ∷ s ∷ []) Post)
     walk =
         qed W ((‵ (flft κ₀ q₀) ⊛ (‵ (flft κ₁ q₁) ⊛ ‵ ftrue)) ∷ ‵ (owns (ShrSlice (named 0) κ₀ u8 ∷ MutSlice (named 1) κ₁ Place ∷ []) a args) ∷ []) ∵ enter ! C Λ code.function (sf ∷ s ∷ []) _ $

@@ -168,6 +168,8 @@ module _ {M : Type 1} (𝓤 : URA M) (H : Heap 𝓤) (A : Atoms 𝓤) (W : Given
         owned ! L.the-row (Is L.the-row) (LL.makes L.the-type L′.the-plain 𝓤 H A) answered _ answered-is $ move ! (1 ∷ 0 ∷ []) $ done !
 
   module _ (C : Calls 𝓤 H) (Λ : Loops 𝓤 H) (fm : FmC 𝓤 H (W .laws) C) (known : Triple 𝓤 (C #share-list·split) (SplitFn 𝓤 H A at-mem run)) where
+    -- the array is taken apart after `count` places; the first are lent to `split` for a lifetime that begins and ends here, and come back as the
+    -- split leaves them; joined with the others, which nobody touched, they are the array that is returned beside the answer
     walk : ent 𝓤 (onEntry 𝓤 H A first′.signature (κ, tt) (q, tt) a args) (WpFn 𝓤 H C Λ code.function (sf ∷ arr ∷ vint w64 m ∷ []) Post)
     unfolding partOf
     walk =

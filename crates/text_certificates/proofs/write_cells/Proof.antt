@@ -50,6 +50,8 @@ slice-aggregate-append-answer c =
 append-answer-requires : tie.Need-append-answer-requires
 append-answer-requires c κs = search needs
 
+-- the input is short enough and each line readable, so that its text is that of the answer on the date and the certificates read; it is put
+-- at index 0, within 1,176 bytes
 returns-3 : tie.Need-returns-3
 returns-3 c =
     let r = c .before .before .before .before .before .before .before in

@@ -55,6 +55,8 @@ with-survivals-requires c κs =
     let start = edges .before .before .before .before in
     fit (start .args .t1) (start .pre) _ _ _ (edges .from-the-top .ensures .1) (withdrawals .from-the-top2 .ensures .0) (c .wide .ensures .0)
 
+-- the filing has tiers: edges and withdrawals are turned round, highest first, and padded with 0s, which as a table are its own tiers;
+-- within their limits, and falling from the top as they rose, they are usable
 returns-2 : tie.Need-returns-2
 unfolding tiersOf ownTiers
 returns-2 c =

@@ -32,6 +32,7 @@ months-read : (c : tie.After-cell-value3) → c .cell-value3 .result ≡ monthsO
 unfolding monthsOf
 months-read c = rw (← c .before .before .before .borrowing-at .ensures) (c .cell-value3 .ensures)
 
+-- balance, coupon and months are read from the borrowing's own cells, whose limits the caller holds; so are those of the factors
 values-of-requires : tie.Need-values-of-requires
 values-of-requires c κs =
     let p = c .before .before .before .before .pre in

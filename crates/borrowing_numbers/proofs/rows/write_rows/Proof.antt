@@ -65,6 +65,8 @@ add-i c = omega arith
 loop-less : tie.Need-loop-less Inv-loop μ-loop
 loop-less c = omega arith
 
+-- the rows of the borrowings before i are written up to 15 i; the row that is made is that of borrowing i, and it is written from there on,
+-- up to 15 (i + 1), which is within the list
 loop-again : tie.Need-loop-again Inv-loop μ-loop
 loop-again c =
     let row = c .before .before .before .before .before in

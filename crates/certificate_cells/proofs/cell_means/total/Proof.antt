@@ -35,6 +35,7 @@ add-i c = omega arith
 loop-less : tie.Need-loop-less Inv-loop μ-loop
 loop-less c = omega arith
 
+-- the sum of the first i + 1 balances is that of the first i and the one added, and each adds at most the balance limit
 loop-again : tie.Need-loop-again Inv-loop μ-loop
 loop-again c = let i = c .before .before .loop .i in
     let t = c .before .before .before .args .t1 in (

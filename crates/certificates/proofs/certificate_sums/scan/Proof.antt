@@ -57,6 +57,7 @@ own-number : (n : tie.After-number Inv-loop μ-loop) → n .number .result ≡ o
 unfolding verdictOf
 own-number n = n .number .ensures ∙ ap (λ (u : Verdict). u .number) (n .before .check-certificate .ensures)
 
+-- certificate k is refused by itself and those before it pass: its verdict is the first of all, and the sums are those before it
 returns : tie.Need-returns Inv-loop μ-loop
 unfolding verdictOf
 returns c =
@@ -118,6 +119,8 @@ sum-tested : (p : tie.After-position-of Inv-loop μ-loop)
     ≡ getD (turn (passed p .before) .loop .totals .balance) (positionOf (valuation (passed p .before)) (own (passed p .before) .certificate-at .result)) 0
 sum-tested p = ap (λ (i : ℕ). getD (turn (passed p .before) .loop .totals .balance) i 0) (position-is p)
 
+-- certificate k passes by itself, but its position's sum with it is over the limit, and those before it pass: 5 at k, and the sums are
+-- those before it
 returns-2 : tie.Need-returns-2 Inv-loop μ-loop
 unfolding verdictOf refused
 returns-2 c =
@@ -130,6 +133,8 @@ returns-2 c =
       over-summed _ _ _ _ inv (counted (own n .before)) (at .result) (at .ensures),
     )
 
+-- a sound certificate's position is one of nine, its coupon and months are within their limits and so is the balance sum by the test; the
+-- weighted sums so far are within those of the balances
 added-requires : tie.Need-added-requires Inv-loop μ-loop
 added-requires c κs = let p = c .before .before .before in
     let ok = sound (passed p) in

@@ -27,6 +27,8 @@ loop-holds c = (omega arith, refl)
 element-copy-out-block-repetition : tie.Need-element-copy-out-block-repetition Inv-loop μ-loop
 element-copy-out-block-repetition c = omega arith
 
+-- the first repetition so far is at most `end`, which is within the bytes; what is noted of block i is whether its numbers fall before `end`,
+-- and where they do not there is no repetition up to there
 block-repetition-requires : tie.Need-block-repetition-requires Inv-loop μ-loop
 block-repetition-requires c κs =
     let start = c .before .before .before .before in

@@ -59,6 +59,7 @@ add-value c =
 loop-less : tie.Need-loop-less Inv-loop μ-loop
 loop-less c = omega arith
 
+-- the number from byte left - 1 on is that byte and 256 times the number from byte left on
 loop-again : tie.Need-loop-again Inv-loop μ-loop
 loop-again c =
     let start = c .before .before .before .before .before in (

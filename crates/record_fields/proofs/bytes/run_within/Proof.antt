@@ -47,6 +47,7 @@ shared-slice-read-wide c = omega arith
 wide-requires : tie.Need-wide-requires Inv-loop μ-loop
 wide-requires c κs = search needs
 
+-- 256 times the value leaves room for 256 below 2^64, and a byte is less
 add-value : tie.Need-add-value Inv-loop μ-loop
 add-value c =
     let start = c .before .before .before .before .before in
@@ -60,6 +61,7 @@ add-value c =
 loop-less : tie.Need-loop-less Inv-loop μ-loop
 loop-less c = omega arith
 
+-- the number from byte left - 1 on is that byte and 256 times the number from byte left on
 loop-again : tie.Need-loop-again Inv-loop μ-loop
 loop-again c =
     let start = c .before .before .before .before .before in (

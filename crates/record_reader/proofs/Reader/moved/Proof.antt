@@ -54,6 +54,8 @@ module _ {M : Type 1} (𝓤 : URA M) (H : Heap 𝓤) (A : Atoms 𝓤) (W : Given
   abbrev Post : Val → SProp 𝓤
   Post = walkOf 𝓤 H A moved.ended stayed (moved.clauses 𝓤 H A mem run) .post (((κ, tt), (q, tt), tt, (r, (n, tt)), passed), tt)
 
+  -- what the old reader owns is shared and so there twice: once for the caller, once for the new reader, where the number takes the place of
+  -- the offset
   exits : ent 𝓤 (onEntry 𝓤 H A moved.signature (κ, tt) (q, tt) (r, (n, tt)) passed) (Post (reader-value made))
   exits =
       qed W (token 𝓤 κ q ∷ ‵ (owns (TheReader (κ, tt) ∷ usize ∷ []) (r, (n, tt)) passed) ∷ []) ∵
@@ -66,6 +68,8 @@ module _ {M : Type 1} (𝓤 : URA M) (H : Heap 𝓤) (A : Atoms 𝓤) (W : Given
       by ! (own-put 𝓤 H A W (the-struct κ) (the-laws κ) 1 (r .bytes, (r .offset, tt)) n (reader-value r))
 
   module _ (C : Calls 𝓤 H) (Λ : Loops 𝓤 H) where
+    -- room for the result, two parameters and a local; the slice of the reader is copied into the local, the struct is made of it and the number,
+    -- and the locals are freed
     walk : Holds (hasTy (T′.mir (named 0)) (reader-value r)) × WT (reader-value r)
         → ent 𝓤 (onEntry 𝓤 H A moved.signature (κ, tt) (q, tt) (r, (n, tt)) passed) (WpFn 𝓤 H C Λ code.function (reader-value r ∷ vint w64 n ∷ []) Post)
     walk typed =
@@ -78,6 +82,8 @@ module _ {M : Type 1} (𝓤 : URA M) (H : Heap 𝓤) (A : Atoms 𝓤) (W : Given
         returns ! (look ! 6 refl) $ forget ! 0 refl $ forget ! 2 refl $ forget ! 4 refl $ forget ! 6 refl $
         move ! (6 ∷ 7 ∷ []) $ free1 ! $ move ! (4 ∷ 5 ∷ []) $ free1 ! $ move ! (2 ∷ 3 ∷ []) $ free1 ! $ free1 ! $ free0 ! $ by ! exits))))
 
+-- both parameters go in and nothing comes out of them; for each lifetime, reader and number the walk leads from what is owned at the start to
+-- the contract's end
 moved-meets : {M : Type 1} (𝓤 : URA M) (H : Heap 𝓤) (A : Atoms 𝓤) → Given 𝓤 H A → (mem : Memory → SProp 𝓤) (run : Routine → Fun 𝓤) (𝓣 : Tables 𝓤 H)
     → Meets 𝓤 H A moved.signature (WpFn 𝓤 H (𝓣 .C) (𝓣 .Λ) code.function) (moved.spec 𝓤 H A mem run)
 moved-meets 𝓤 H A W mem run 𝓣 =

@@ -76,6 +76,8 @@ module _ {M : Type 1} (𝓤 : URA M) (H : Heap 𝓤) (A : Atoms 𝓤) (W : Given
   abbrev Post : Val → SProp 𝓤
   Post = walkOf 𝓤 H A fill′.ended stayed (fill′.clauses 𝓤 H A at-mem run) .post (((κ, tt), (q, tt), tt, a, args), tt)
 
+  -- after the last turn the list has the first m of the array and behind them what it held, and is as long as before: the borrow goes back
+  -- with it, and the array and the number are what they were
   exits : length (mixed m) ≡ length ys
       → ent 𝓤 (⋆ 𝓤 H A (‵ (fobs γ (codedHoleys Place .code (heres Place (mixed m)))) ∷ ‵ (fbor κ (Held Place (length (mixed m)) b o γ)) ∷ ‵ (flft κ q) ∷ [])) (Post vunit)
   exits l =

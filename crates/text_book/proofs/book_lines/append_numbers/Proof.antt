@@ -23,6 +23,7 @@ append-spaced-requires c κs =
     let s = n .before .before .before .before in
     omega (arith, n .append-number .ensures .end-is, n .append-number .kept .0, decimal-length (s .args .balance) (omega (arith, s .fits .balance)), decimal-length (s .args .coupon) (omega (arith, s .fits .coupon)), s .pre)
 
+-- 20 bytes for the balance and 21 for a space and the coupon leave room for 21 more of 644
 append-spaced-requires-2 : tie.Need-append-spaced-requires-2
 append-spaced-requires-2 c κs =
     let x = c .before .before .before in
@@ -40,6 +41,7 @@ append-spaced-requires-2 c κs =
       s .pre,
     )
 
+-- 20 bytes for the balance and 42 for coupon and months leave room for 21 more of 644
 append-spaced-requires-3 : tie.Need-append-spaced-requires-3
 append-spaced-requires-3 c κs =
     let y = c .before .before .before in
@@ -65,6 +67,7 @@ append-spaced-requires-3 c κs =
 values-short : (c : tie.After-shared-slice-known) → length (restOfLine (c .before .before .args .values .now)) ≤ 21 * length (c .before .before .args .values .now) + 1
 values-short c = rest-length (c .before .before .args .values .now) (λ i h. omega (arith, c .shared-slice-known .given i))
 
+-- 20 bytes for the balance and 63 for coupon, months and penalty leave room for the 295 of the values of 644
 append-line-requires : tie.Need-append-line-requires
 append-line-requires c κs =
     let z = c .before .before .before in
@@ -93,6 +96,7 @@ append-line-requires c κs =
 same-length : tie.Need-same-length
 same-length c = search needs
 
+-- each text is put where the one before ends, so that they stand one behind the other; 20 + 63 + 295 bytes are at most 644
 returns : tie.Need-returns
 returns c =
     let l = c .before .before in

@@ -15,6 +15,7 @@ append-byte-requires c κs =
     let s = n .before .before .before in
     omega (arith, n .append-number .ensures .end-is, n .append-number .kept .0, decimal-length (s .args .balance) (omega (arith, s .fits .balance)), s .pre)
 
+-- 20 bytes for the balance and the line feed leave room for the 623 of the scenarios' lines: 21 + 623 = 644
 append-scenarios-requires : tie.Need-append-scenarios-requires
 append-scenarios-requires c κs =
     let b = c .before .before .before .before in
@@ -35,6 +36,7 @@ append-scenarios-requires c κs =
 same-length : tie.Need-same-length
 same-length c = search needs
 
+-- number, line feed and lines are put one behind the other; 20 + 1 + 623 bytes are 644
 returns : tie.Need-returns
 returns c =
     let l = c .before .before in

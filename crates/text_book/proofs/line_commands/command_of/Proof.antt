@@ -72,6 +72,7 @@ numbers-behind-requires-3 c κs = search needs
 element-copy-out-t46 : tie.Need-element-copy-out-t46
 element-copy-out-t46 c = search needs
 
+-- the line is neither `set` nor `clear` with their numbers and is `place` with its own
 returns-4 : tie.Need-returns-4
 unfolding setWord fiveNumbers clearWord placeWord oneNumber
 returns-4 c =
@@ -86,6 +87,7 @@ returns-4 c =
 is-totals-requires : tie.Need-is-totals-requires
 is-totals-requires c κs = search needs
 
+-- the line is none of `set`, `clear` and `place` with their numbers and is `totals`
 returns-5 : tie.Need-returns-5
 unfolding setWord fiveNumbers clearWord placeWord oneNumber
 returns-5 c =
@@ -98,6 +100,7 @@ returns-5 c =
     command-totals _ (set .before .before .before .if1 .left) _ (set .numbers-behind .ensures) (e .if2 .left) _ (clear .numbers-behind2 .ensures) (f .if3 .left) _
     (place .numbers-behind3 .ensures) (g .if4 .left) (sym (c .before .is-totals .ensures) ∙ c .if5 .taken)
 
+-- the line is none of `set`, `clear` and `place` with their numbers and is not `totals`: no command
 returns-6 : tie.Need-returns-6
 unfolding setWord fiveNumbers clearWord placeWord oneNumber
 returns-6 c =

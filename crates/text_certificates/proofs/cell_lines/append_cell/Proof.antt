@@ -13,6 +13,7 @@ append-number-requires c κs = omega (arith, decimal-length (c .before .before .
 slice-aggregate-append-line : tie.Need-slice-aggregate-append-line
 slice-aggregate-append-line c = search needs
 
+-- 20 digits at most leave 22 of the 42 bytes: a space, 20 digits and the line feed
 append-line-requires : tie.Need-append-line-requires
 append-line-requires c κs =
     let number = c .before .before .before .before in

@@ -59,6 +59,7 @@ element-copy-out-t15 c = search needs
 element-copy-out-t18 : tie.Need-element-copy-out-t18 Inv-loop μ-loop
 element-copy-out-t18 c = search needs
 
+-- the first line is no date, so that line 1 is the first unreadable one, and no certificate is read
 returns : tie.Need-returns Inv-loop μ-loop
 unfolding readCount joined tableFrom
 returns c = let s = c .before .before .before .before .before .before .before .args .text .now in
@@ -96,6 +97,8 @@ add-t23 c = let r = c .before .before in
 same-length : tie.Need-same-length Inv-loop μ-loop
 same-length c = turn (c .before .before) .loop .inv .1 .as-long
 
+-- the lines before are a date and `count` certificates, and this one has not its form: it is the first unreadable line, count + 2, and the
+-- stored numbers are those of the certificates before it
 returns-2 : tie.Need-returns-2 Inv-loop μ-loop
 unfolding readCount
 returns-2 c = let r = c .before .before in
@@ -157,6 +160,7 @@ loop-less c =
     let more = tested r .loop-test .taken in
     omega (arith, next-is (stored c), form-takes (text (turn r)) _ (at .at) (at .inv .0) more (formed (stored c)), more)
 
+-- the line has its form: its eight numbers are stored behind those so far, where there is room, and reading goes on behind the line
 loop-again : tie.Need-loop-again Inv-loop μ-loop
 loop-again c = let r = line (stored c) in
     let s = text (turn r) in
@@ -171,6 +175,7 @@ loop-again c = let r = line (stored c) in
 same-length-2 : tie.Need-same-length-2 Inv-loop μ-loop
 same-length-2 c = c .before .loop .inv .1 .as-long
 
+-- the text ends behind the last line read: every line has its form, and the stored numbers are those of all certificates
 returns-3 : tie.Need-returns-3 Inv-loop μ-loop
 unfolding readCount
 returns-3 c = let l = c .before in

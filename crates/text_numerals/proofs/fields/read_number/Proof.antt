@@ -60,6 +60,8 @@ add-t9 c =
     let digits = c .before .before .before .before .before .before in
     omega (arith, number-end-le _ _ (begun digits), digits .before .number-end .ensures)
 
+-- digits stand from the index to their end, their value is in range, and the byte behind them is the separator: the number, and the index
+-- behind the separator
 returns-4 : tie.Need-returns-4
 returns-4 c =
     let value = c .before .before .before in

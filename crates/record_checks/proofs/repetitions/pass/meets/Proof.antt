@@ -77,6 +77,7 @@ returns-3 : tie.Need-returns-3
 unfolding metAgain metWith
 returns-3 c = (rw (← c .before .before .record-item .ensures, c .enum-told2 .given .1), rw (← c .before .before .record-item .ensures, c .enum-told2 .given .1))
 
+-- the record is an amendment whose number is of the block: whether it was met is whether its key is in the set, and its key is put there
 returns-4 : tie.Need-returns-4
 unfolding metAgain metWith
 returns-4 c =

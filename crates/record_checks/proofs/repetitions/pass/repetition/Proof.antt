@@ -37,6 +37,7 @@ next-of-requires c κs = omega (arith, c .before .before .before .before .before
 loop-less : tie.Need-loop-less Inv-loop μ-loop
 loop-less c = omega (arith, next-lt (c .before .before .before .before .before .before .before .args .s .now) (c .before .before .before .before .before .loop .at), c .next-of .ensures)
 
+-- the record at `at` is not met again, so that the search goes on behind it; the set has its amendment too, and the next record is reached
 loop-again : tie.Need-loop-again Inv-loop μ-loop
 loop-again c =
     let tested = c .before .before in
