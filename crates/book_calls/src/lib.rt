@@ -23,6 +23,7 @@ use form::sub_balances::PLACE_VALUES;
 use form::sub_balances::SUB_BALANCES;
 use form::sub_balances::SubBalance;
 use price_deposits::RatePaths;
+use price_factors::FACTORS;
 use price_factors::fill_factors;
 ghost use mathlib.Core.Path.{_≡_};
 ghost use lib.ListN.{length};
@@ -55,8 +56,8 @@ fn book_under(sheets: &[u16; SHEET_NUMBERS], tiers: FiledTiers) -> Book
     let numbers: &[u16] = sheets;
     let yields = &numbers[YIELDS_START..YIELDS_START + SHEET_MONTHS];
     let rates = held_rates(&numbers[RATES_START..RATES_START + RATES]);
-    let mut lower = [0u64; 840];
-    let mut upper = [0u64; 840];
+    let mut lower = [0u64; FACTORS];
+    let mut upper = [0u64; FACTORS];
     fill_factors(yields, MONTHS_LIMIT, &mut lower, &mut upper);
     empty_book(rates, tiers, lower, upper)
 }

@@ -25,21 +25,21 @@ pub struct Reader<'a> {
 
 impl<'a> Reader<'a> {
     // A reader at the first record.
-    pub fn new(bytes: &'a [u8]) -> Reader<'a>
+    pub(crate) fn new(bytes: &'a [u8]) -> Reader<'a>
         ensures { λ r. ⌜ (r .bytes ≡ bytes .entry) × (r .offset ≡ 0) ⌝ }
     {
         Reader { bytes, offset: 0 }
     }
 
     // What stands at the reader's offset.
-    pub fn step(self) -> Step
+    pub(crate) fn step(self) -> Step
         ensures { λ t. ⌜ t ≡ stepAt (now (self .entry .bytes)) (self .entry .offset) ⌝ }
     {
         record_at(self.bytes, self.offset)
     }
 
     // The reader of the same bytes at another offset.
-    pub fn moved(self, offset: usize) -> Reader<'a>
+    pub(crate) fn moved(self, offset: usize) -> Reader<'a>
         ensures { λ r. ⌜ (r .bytes ≡ self .entry .bytes) × (r .offset ≡ offset) ⌝ }
     {
         Reader {
@@ -50,7 +50,7 @@ impl<'a> Reader<'a> {
 }
 
 // What stands at an offset: a reader of the bytes is moved there, and says it.
-pub fn step_at(s: &[u8], at: usize) -> Step
+fn step_at(s: &[u8], at: usize) -> Step
     ensures { λ t. ⌜ t ≡ stepAt (now (s .entry)) at ⌝ }
 {
     Reader::new(s).moved(at).step()

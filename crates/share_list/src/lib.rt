@@ -1,5 +1,5 @@
 // The split of a filing into a list of places that the caller lends.
-pub mod split_outcomes;
+mod split_outcomes;
 
 use crate::split_outcomes::outcome_of;
 use answers::Answer;

@@ -22,7 +22,7 @@ pub struct Outcome {
 }
 
 // What is made of a filing and a list of `size` places: a short list is refused before the filing is read.
-pub fn outcome_of(filing: &[u8], size: usize) -> Outcome
+pub(crate) fn outcome_of(filing: &[u8], size: usize) -> Outcome
     ensures { λ r. ⌜ OutcomeOf (now (filing .entry)) size r ⌝ }
 {
     if size < SUB_BALANCES {

@@ -1,6 +1,7 @@
 -- `print_values` is safe and ends: the loop counts its turns. Assumes nothing.
 use borrow.Author.Needs.{needs}
 use Prim.Native.Nat.{_-_}
+use Rattle.form.specs.PlaceOrder.{subBalanceCount}
 use Rattle.test_lines.proofs.values.print_values.Statement.{statement}
 use Rattle.test_lines.proofs.values.print_values.Tie as tie
 
@@ -8,7 +9,7 @@ abbrev Inv-loop : tie.InvT-loop
 Inv-loop list place₀ place = Unit {0}
 
 abbrev μ-loop : tie.MeasureT-loop
-μ-loop list place₀ place = 36 - place
+μ-loop list place₀ place = subBalanceCount - place
 
 pub print-values-spec : {M : Type 1} → statement M
 print-values-spec =
