@@ -66,7 +66,8 @@ module _ (s : List ℕ) (a : Accepted s) where
   unfolding pathRate contentsOf
   rate-within j t = table-le 0 rateCount (rateNumber s) rateLimit (λ i l u. number-within i (omega arith)) (sheetMonths * (j - 1) + (t - 1))
 
-  -- what an accepted filing says is valid
+  -- what an accepted filing says is valid: its records are sound, so that each cell, yield, rate and tier is within its limit; 7 leaves months
+  -- within their rows, 8 brokered and penalized balances within their columns, 9 a total that is the sum
   pub accepted-valid : Valid (contentsOf s)
   unfolding heldLimit classLimit brokeredCell penaltyBalanceCell
   accepted-valid =

@@ -19,7 +19,8 @@ filled-from base n f l filled =
     ext-getD 0 l (tableFrom base n f) (filled .long ∙ sym (table-length base n f))
     (λ i h. filled .holds i (omega (arith, filled .long)) ∙ sym (tableFrom-getD base n f i 0 (omega (arith, filled .long))))
 
--- flat rates by column: the first in all entries, the second from 120 on, and the third from 240 on
+-- flat rates by column: the first in all entries, the second from 120 on, and the third from 240 on. Below 120 the first is left, i / 120 = 0;
+-- below 240 the second, i / 120 = 1; else the third, i / 120 = 2
 pub flat-filled : (f : ℕ → ℕ) {first second third : ℕ} (before : List ℕ) {all middle last : List ℕ} → first ≡ f 1 → second ≡ f 2 → third ≡ f 3
     → all ≡ table rateCount (λ (i : ℕ). cond (ltb i 0) (getD before i 0) first)
     → middle ≡ table rateCount (λ (i : ℕ). cond (ltb i 120) (getD all i 0) second)

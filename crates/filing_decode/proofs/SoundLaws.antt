@@ -183,7 +183,8 @@ module _ (s : List ℕ) (none : firstFaulty s ≡ length s) where
       by-presence true e = tiers-sound (ltb-true at (length s) e) .few
       by-presence false e = omega (arith, number-past s (at + 2 + 2 * 1) 2 (omega (arith, ltb-false at (length s) e)))
 
-  -- each edge is above the one before
+  -- each edge is above the one before: where the record of tiers is there it is sound, both indices are within its count, and its tier i + 1
+  -- fits, which asks that; where it is not the count is 0, and no index is below it
   pub tier-edges-rise : (i : ℕ) → suc i < contentsOf s .tiers .count → getD (contentsOf s .tiers .edges) i 0 < getD (contentsOf s .tiers .edges) (suc i) 0
   unfolding contentsOf tiersAt tierNumber
   tier-edges-rise i h = by-presence (ltb at (length s)) refl
@@ -207,7 +208,7 @@ module _ (s : List ℕ) (none : firstFaulty s ≡ length s) where
           (tier-rises s at i (sound .fits (suc i) h))
       by-presence false e = absurd (omega (arith, h, number-past s (at + 2 + 2 * 1) 2 (omega (arith, ltb-false at (length s) e))))
 
-  -- each withdrawal is within its limit
+  -- each withdrawal is within its limit: below the count that of a tier that fits, past it 0; where there is no record of tiers the count is 0
   pub tier-withdrawal-within : (i : ℕ) → getD (contentsOf s .tiers .withdrawals) i 0 ≤ withdrawalLimit
   unfolding contentsOf tiersAt tierNumber
   tier-withdrawal-within =

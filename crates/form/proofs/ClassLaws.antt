@@ -39,7 +39,8 @@ contains-outside (y ∷ ys) x t o =
     one-outside x y (leb firstCell y) (leb y lastCell) (inRange ys) (contains ys x) (leb→le firstCell y) (leb→le y lastCell)
     (λ r. contains-outside ys x r o) t o
 
--- a cell outside is not listed
+-- a cell outside is not listed: every number of each list lies from the first cell to the last, and so does the total's, so that none of the
+-- tests of a class holds
 pub class-outside : (x : ℕ) → Outside x → cellClass x ≡ 0
 unfolding cellClass positions position brokeredCell penaltyBalanceCell penaltyMonthsCell unusedCells
 class-outside x o =

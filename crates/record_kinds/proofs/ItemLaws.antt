@@ -20,7 +20,7 @@ use Rattle.record_kinds.specs.Items.{sameItem, recordClass, recordItem, 
 use Rattle.record_fields.proofs.ByteLaws.{number-past}
 use Rattle.record_fields.proofs.RecordLaws.{first-passes}
 
--- the same item is the one item
+-- the same item is the one item: items of two sorts are never the same, and of one sort they are where their numbers are equal
 pub same-item : (a b : Item) → sameItem a b ≡ true → a ≡ b
 unfolding sameItem
 same-item (Cell m) (Cell n) e = ap Cell (eqb-true m n e)

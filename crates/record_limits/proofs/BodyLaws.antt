@@ -81,7 +81,8 @@ module _ (s : List ℕ) (at : ℕ) where
         eq-eqb (recordKind s at) amendmentKind e,
       ) at h
 
-  -- 5 does not hold at a sheet: each of its numbers is within the limit
+  -- 5 does not hold at a sheet: each of its numbers is within the limit. A record of a cell and an amendment have no numbers of a sheet; of
+  -- another kind 5 is that one of the numbers is over the limit
   pub numbers-within : overLimit s at ≡ false → (i : ℕ) → 1 ≤ i → i ≤ sheetKind (recordKind s at) .numbers
       → sheetNumber s at i ≤ sheetKind (recordKind s at) .limit
   unfolding overLimit

@@ -36,7 +36,7 @@ tier-rises s at i h =
     (neither (leb (tierEdge s at (suc i)) (tierEdge s at i)) (ltb (tierWithdrawal s at (suc i)) (tierWithdrawal s at i)) rest .0)
 
 module _ (s : List ℕ) (at : ℕ) where
-  -- 11 does not hold: the tiers load
+  -- 11 does not hold: the tiers load. It is one of three tests, fewer than 1, more than 16 or an unfit one among them, and none holds
   pub tiers-load : unsoundTiers s at ≡ false → recordKind s at ≡ tiersKind → SoundTiers s at
   unfolding unsoundTiers
   tiers-load h e =

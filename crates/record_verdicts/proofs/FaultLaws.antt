@@ -85,7 +85,8 @@ module _ (s : List ℕ) (at : ℕ) where
   pub shaped-length : misshapen s at ≡ false → recordLength s at ≡ dueLength s at
   shaped-length h = eqb-true (recordLength s at) (dueLength s at) (not-false (eqb (recordLength s at) (dueLength s at)) h)
 
-  -- a record that is not refused by them: no test passed
+  -- a record that is not refused by them: no test passed. The first refusal of the seven rows is none, so that, row by row, neither the row nor
+  -- those behind it refuse, and a row that does not refuse has a test that fails
   pub faultless : plainVerdict s at .number ≡ 0 → Faultless s at
   unfolding plainVerdict shapeVerdict bodyVerdict firstOf
   faultless h =

@@ -17,7 +17,8 @@ use Rattle.record_kinds.specs.Items.{recordClass}
 use Rattle.record_limits.specs.Bodies.{valueLimit}
 use Rattle.record_verdicts.specs.Inner.SoundRecords.{mostIn}
 
--- what holds of each class holds of the class of a cell
+-- what holds of each class holds of the class of a cell: the class is found by eight tests in a row, and in either case of each the class is
+-- one of those, the last being none
 of-class : (P : ℕ → Type 0) → P 0 → P 1 → P 2 → P 3 → P 4 → P 5 → P 6 → P 7 → (cell : ℕ) → P (cellClass cell)
 unfolding cellClass
 of-class P p0 p1 p2 p3 p4 p5 p6 p7 cell =

@@ -39,7 +39,7 @@ pairs-survive =
       coupon-filed = (refl, tested (couponFiled .filing) (couponFiled .survivors) tt);
     }
 
--- each differs in one number or one cell
+-- each differs in one number or one cell, where the test of that number or cell fails, as computed
 pub others-fail : OthersFail
 unfolding numberAt nextRecord searchRecords firstRecord givesCell namesCell sheetOf sheetKinds sheetKind sheetLength dueLength sameItem recordClass recordItem firstWith itemRank counting countsFrom countingBefore incomplete standsBefore sheetBefore pathBesideFlat anyBelow valueLimit unfitFor unfitAmendment numberOver overLimit unfitTier unsoundTiers cellClass classLimit contains position positions brokeredCell penaltyBalanceCell penaltyMonthsCell unusedCells firstRefused verdictBy sheetOffset sheetMissing filingVerdict refused filedValue amountAt cellOffset cellValue contentsOf rateNumber tiersAt tierNumber cellIn monthsOutside columnBalances balances aboveColumn totalDiffers sum those inColumn withinRow sheetVerdict positionVerdict monthsVerdict columnVerdict columnsVerdict totalVerdict cellsVerdict shapeVerdict bodyVerdict recordVerdict accepted refusedIf firstRefusal firstOf tableFrom joined allFrom withdraws survives numbersOf cellKept sheetKept
 others-fail =

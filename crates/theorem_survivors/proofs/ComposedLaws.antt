@@ -176,7 +176,8 @@ module _ (s : List ℕ) (none : firstFaulty s ≡ length s) where
       by true h = let at = sheet-at kind h in rw (at .stands) (lt-ltb (place s (at .index)) (length made) (place-lt s none (at .index) (at .kept)))
       by false h = rw (sheet-absent kind h) (le-ltb (length made) (length made) (le-refl (length made)))
 
-  -- each number up to the sheet's last lies within the copy
+  -- each number up to the sheet's last lies within the copy: tiers have 1 + 2 × count numbers in 4 + 4 × count bytes, another sheet n in 2 + 2 n,
+  -- so that number i, at 2 i to 2 i + 2, ends within the length
   numbers-same : (kind i : ℕ) → hasSheet s kind ≡ true → 1 ≤ i → i ≤ numbersOf s kind
       → sheetNumber made (sheetOffset made kind) i ≡ sheetNumber s (sheetOffset s kind) i
   unfolding numbersOf

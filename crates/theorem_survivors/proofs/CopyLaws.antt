@@ -29,7 +29,7 @@ pub record Copied (s t : List ℕ) (at k : ℕ) : Type 0 where
   pub numbers : (i n : ℕ) → i + n ≤ 2 + recordLength s at → numberAt t (k + i) n ≡ numberAt s (at + i) n
   pub ends : k + (2 + recordLength s at) ≤ length t
 
--- a length that a kind has is 4 at least
+-- a length that a kind has is 4 at least: 12, 16, 4 and 4 for each tier, or 2 and 2 for each of one or more numbers
 pub due-four : (s : List ℕ) (at : ℕ) → (dueLength s at ≡ 0 → ⊥) → 4 ≤ dueLength s at
 unfolding dueLength sheetLength
 due-four s at =
@@ -114,7 +114,8 @@ module _ (s t : List ℕ) (at k : ℕ) (c : Copied s t at k) where
       unfolding dueLength
       cell-length e = shaped ∙ rw e
 
-      -- each number of a sheet lies within it
+      -- each number of a sheet lies within it: the length is 2 and 2 for each number, and number i + 1 ends at 2 + 2 (i + 1); tiers and kinds without
+      -- numbers have no i below their count
       pub sheet-length : givesCell (recordKind s at) ≡ false → (i : ℕ) → i < sheetKind (recordKind s at) .numbers → 2 + 2 * suc i ≤ recordLength s at
       unfolding dueLength sheetKind sheetKinds sheetOf sheetLength
       sheet-length e i l = by (eqb (recordKind s at) tiersKind) (eqb (sheetKind (recordKind s at) .numbers) 0) refl refl

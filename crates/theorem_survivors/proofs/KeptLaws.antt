@@ -57,7 +57,7 @@ module _ (s : List ℕ) (none : firstFaulty s ≡ length s) where
   unfolding nextRecord
   amendment-ends m n number k e = omega (arith, ends-of m k, amendment-long m n number k e)
 
-  -- each record is kept as a whole record
+  -- each record is kept as a whole record: a copy has the length that it says, as it had in s; an amendment is kept in 14 bytes that say 12
   pub framed : (m : ℕ) → keptIs s m ≡ true → length (piece s m) ≡ 2 + numberAt (piece s m) 0 2
   unfolding keeps keptAs
   framed m k = by (recordItem s (offsetOf s m)) refl k
@@ -86,7 +86,8 @@ module _ (s : List ℕ) (none : firstFaulty s ≡ length s) where
   pub comes-from : {j : ℕ} → Reached made 0 j → j < length made → Source s framed j
   comes-from r l = source s framed r l
 
-  -- a record of a cell or a sheet is copied
+  -- a record of a cell or a sheet is copied: a number within it is read at its place off the bytes that are kept, which are those of s, and
+  -- these end within the composed filing
   pub copied : (m : ℕ) → keptIs s m ≡ true → piece s m ≡ recordBytes s (offsetOf s m) → Copied s made (offsetOf s m) (place s m)
   copied m k e =
       let size : length (piece s m) ≡ 2 + recordLength s (offsetOf s m) = ap length e ∙ copy-length s (offsetOf s m) (ends-of m k) in

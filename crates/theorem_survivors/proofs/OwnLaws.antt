@@ -46,7 +46,8 @@ module _ (t : List ℕ) (sound : firstFaulty t ≡ length t)
   abbrev ofCell : ℕ → Bool
   ofCell at = sameItem (recordItem t at) (Cell n)
 
-  -- a record of the cell, without amendments, is of kind 1 or 6
+  -- a record of the cell, without amendments, is of kind 1 or 6: a sheet and nothing rank 0, and an amendment before the end would have been
+  -- found by the search for one
   item-is : (at : ℕ) → Reached t 0 at → at < length t → 0 < rank t n at → recordItem t at ≡ Cell n
   unfolding itemRank
   item-is at r l h = by (recordItem t at) refl h

@@ -77,7 +77,8 @@ module _ (s : List ℕ) (none : firstFaulty s ≡ length s) where
           omega (arith, amended-length s (offsetOf s m) (amendment-ends s none m n number k e), amendment-long s none m n number k e)
       by Nothing e h = absurd (true≢false (sym h))
 
-  -- where a record is kept it stands no later than in s, and within its bytes
+  -- where a record is kept it stands no later than in s, and within its bytes: one more record moves both on, the place by no more bytes
+  -- than the record has, or not at all where it is not kept
   place-le : (m : ℕ) → (place s m ≤ offsetOf s m) × (place s m ≤ length s)
   unfolding place keptBefore offsetOf
   place-le zero = (omega arith, omega arith)

@@ -22,7 +22,7 @@ use Rattle.filing_decode.specs.Contents.{cellOffset, cellValue, sheetOffset, ra
 use Rattle.theorem_survivors.specs.Survivors.{withdraws, survives, ownOffset, hasSheet, numbersOf, Surviving}
 use Rattle.theorem_survivors.proofs.OwnLaws.{own-counts}
 
--- a record that withdraws its cell gives 0
+-- a record that withdraws its cell gives 0: it is an amendment of another state than 0, whose filed value is 0, and 0 is 0 tenfold too
 withdrawn-amount : (s : List ℕ) (at : ℕ) → withdraws s at ≡ true → amountAt s at ≡ 0
 unfolding withdraws amountAt filedValue
 withdrawn-amount s at h =

@@ -40,7 +40,7 @@ four-is : (k : Contents) (p : Position)
 unfolding sum fourOf
 four-is k p = refl
 
--- a position's four places together
+-- a position's four places together: place 4 i + j holds part j of the four, for j from 0 to 3, and the four add up to their sum
 four-places : (k : Contents) (i : ℕ)
     → balanceAt (k .cells) (4 * i) + balanceAt (k .cells) (4 * i + 1) + balanceAt (k .cells) (4 * i + 2) + balanceAt (k .cells) (4 * i + 3) ≡ sum (fourOf (k .cells) (positionAt i))
 four-places k i =
@@ -105,7 +105,8 @@ module _ (k : Contents) (rest : List ℕ) where
         rw (balance-in (4 * i) (omega arith), balance-in (4 * i + 1) (omega arith), balance-in (4 * i + 2) (omega arith), balance-in (4 * i + 3) (omega arith))
         (four-places k i ∙ four-sum (k .cells) (v .of-cells .brokered-within) (v .of-cells .penalized-within) i h)
 
--- what the list after an accepted filing holds
+-- what the list after an accepted filing holds: its shares add up by position and in all; each value read off the list encloses the exact one
+-- within its balance's width, and so do the totals, since the widths and balances add up
 pub enclosed : (s rest : List ℕ) → Valid (contentsOf s) → Enclosed s (numbers (contentsOf s) ++ rest)
 enclosed s rest v =
     let k = contentsOf s in

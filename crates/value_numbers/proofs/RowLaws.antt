@@ -133,7 +133,8 @@ module _ (k : Contents) (tiers : WithdrawalTiers) (places : List SubBalance) (lo
         (λ i l. upper-factor-pos (k .yields) (longestTerm (placesOf (k .cells))) i (longest-limit k (p .valid)) (omega (arith, l, reach pos))),
   )
 
-  -- the row of a place has its fifteen numbers
+  -- the row of a place has its fifteen numbers: up to its own term the tables hold the factors of the yields, the tiers are the filing's and the
+  -- place holds its share, so that the values are those of the filing at that place
   pub row-is : rowOf (placeIn places place) place (k .rates) (tierTable tiers) (factorsOf down (depositAt place (placeIn places place) .months) lower)
       (factorsOf up (depositAt place (placeIn places place) .months) upper)
       ≡ placeNumbers k place

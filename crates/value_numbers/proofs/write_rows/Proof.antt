@@ -85,7 +85,8 @@ discount-tables-requires c κs =
 abbrev start : tie.After-discount-tables Inv-loop μ-loop → tie.Start Inv-loop μ-loop
 start c = c .before .before .before .before .before .before .before .before .before .before
 
--- the code is prepared for the filing when the loop begins
+-- the code is prepared for the filing when the loop begins: tiers and places are what their functions answer, and the tables hold the
+-- factors up to the longest term of the places
 prepared : (c : tie.After-discount-tables Inv-loop μ-loop)
     → Prepared (contents (start c)) (c .before .before .before .before .before .before .before .before .tiers-of .result)
     (c .before .before .before .before .before .before .before .places-of .result) (c .discount-tables .last .1 .1 .0) (c .discount-tables .last .1 .1 .1 .0)

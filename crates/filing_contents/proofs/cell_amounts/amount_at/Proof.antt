@@ -38,7 +38,7 @@ cell-class-requires c κs = search needs
 abbrev start-of : tie.Then3 → tie.Start
 start-of c = c .before .before .before .before .before .before .before .before
 
--- such a coupon, and its limit
+-- such a coupon, and its limit: the kind is not 6 and the class is a coupon's, so that ten times the filed value is the amount
 tenfold : (c : tie.Then3)
     → 10 * c .before .before .before .before .before .filed-value .result
     ≡ amountAt (start-of c .args .s .now) (start-of c .args .at)
