@@ -7,7 +7,7 @@ use Rattle.answers.specs.declared.Answer.the-variants.{Accepted, RecordI
 use Rattle.answers.specs.Verdict.{accepted}
 use Rattle.answers.specs.Answers.{numberOf, verdictOf}
 
--- number 0 is acceptance
+-- number 0 is acceptance: every refusal has a number above 0
 pub number-accepted : (a : Answer) → numberOf a ≡ 0 → a ≡ Accepted
 number-accepted Accepted h = refl
 number-accepted (RecordIncomplete at) h = absurd (omega arith)

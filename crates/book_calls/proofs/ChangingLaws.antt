@@ -39,7 +39,8 @@ module _ (opened : Book) (l : List ℕ) where
   changing-start = record { untried = tried-start verdictAt (changeCount l); made = rw sub-zero; rest = rw sub-zero; kept = λ s h. h }
 
   module _ (k : ℕ) (b : Book) (at : Changing k b) where
-    -- all are made
+    -- all are made: no change is refused, so that the verdict is acceptance, the book is the one after every change, and the search for a refused
+    -- one ends behind the last
     pub changing-all : changeCount l ≤ k → (answer : Answer) → verdictOf answer ≡ accepted → ChangedAll opened l (record { answer = answer; book = b; made = k })
     unfolding changesVerdict bookWith changesOf bookAfterAll tableFrom accepted
     changing-all h answer a =
@@ -53,7 +54,7 @@ module _ (opened : Book) (l : List ℕ) where
         }
 
     module _ (h : k < changeCount l) (r : Answered) (c : ChangedOf b (changeAt l k) r) where
-      -- change k is refused
+      -- change k is refused, and those before it are not: its refusal is the first of all, k changes were made, and the book stays as it was opened
       pub changing-refused : (verdictOf (r .answer) .number ≡ 0 → ⊥) → ChangedAll opened l (record { answer = r .answer; book = opened; made = k })
       unfolding changesVerdict bookWith refusedChange
       changing-refused z =
@@ -78,7 +79,7 @@ module _ (opened : Book) (l : List ℕ) where
             kept = λ s o. c .kept s (at .kept s o);
           }
 
--- a refused filing opens no book that is changed
+-- a refused filing opens no book that is changed: its verdict comes before that of the changes, so that none is made
 pub opening-refused : (s l : List ℕ) (opened : Answered) → OpenedOf s opened → (verdictOf (opened .answer) .number ≡ 0 → ⊥)
     → BookOf s l (record { answer = opened .answer; book = opened .book; made = 0 })
 unfolding bookVerdict madeOf
@@ -92,7 +93,7 @@ opening-refused s l opened o z =
       kept = o .kept;
     }
 
--- an accepted one opens the book that is changed
+-- an accepted one opens the book that is changed: its verdict refuses nothing, so that answer, book and count are those of the changes
 pub opening-accepted : (s l : List ℕ) (opened : Answered) (r : Changed) → OpenedOf s opened → verdictOf (opened .answer) .number ≡ 0
     → ChangedAll (opened .book) l r → BookOf s l r
 unfolding bookVerdict bookWith verdictOf madeOf

@@ -126,7 +126,8 @@ module _ (k : Contents) (b : Book) (stands : Standing k b) (place : ℕ) (at : p
   balance-after =
       figure-moved everywhere (λ (p : SubBalance). p .balance) balanceLimit (omega arith) (λ p l. within-after p l .balance-le) (b .balance) (stands .balance-is)
 
-  -- it stands
+  -- it stands: the sheets and tiers are those of before, each place holds what it held but the one that is set, and each total, moved by the
+  -- difference, is the sum over the places again
   pub changed-stands : Standing k (withPlace b place held)
   unfolding withPlace
   changed-stands =

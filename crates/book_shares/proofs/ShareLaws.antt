@@ -129,7 +129,8 @@ module _ (k : Contents) (b : Book) (stands : Standing k b) (n : ℕ) (h : n < su
         others = λ i l u. shown .others i (le-trans (le-of-lt (lt-suc-self n)) l) u;
       }
 
-  -- a share with one is set
+  -- a share with one is set: it fits, so that its place holds it, valued; the places before it hold their shares, and those behind it nothing,
+  -- as before
   shown-set : 0 < balanceAt (k .cells) n → Shown k (bookAfter b (shareSet (k .cells) n)) (suc n)
   unfolding bookAfter fitsChange changedPlace heldAfter
   shown-set pos =
@@ -180,7 +181,7 @@ module _ (s : List ℕ) (a : filingVerdict s ≡ accepted) where
   upper-share : (scenario : ℕ) → scenario < scenarioCount → (place : ℕ) → place < subBalanceCount → upperIn full scenario place ≡ valueAt up k scenario place
   upper-share scenario h place hp = upper-is k full (kept subBalanceCount .standing) scenario h place hp ∙ shown subBalanceCount (le-refl subBalanceCount) .first place hp .1 up scenario
 
-  -- the four totals of a scenario
+  -- the four totals of a scenario: each kept total is the sum of the values of its rows' places, and each place has the values of its share
   total-share : (scenario : ℕ) → scenario < scenarioCount → (r : ℕ) → r < 4 → totalIn full r scenario ≡ getD (scenarioTotals k scenario) r 0
   unfolding scenarioTotals totalBy
   total-share scenario h =

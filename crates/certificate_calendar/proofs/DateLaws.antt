@@ -13,7 +13,7 @@ use Rattle.certificate_calendar.specs.Inner.Days.{Day}
 use Rattle.certificate_calendar.specs.Dates.{lastDay, isDate, monthIndex, onOrAfter, dayIn, movedOn}
 use Rattle.lists.proofs.TestLaws.{and-true}
 
--- what a day of 1900 to 2199 is
+-- what a day of 1900 to 2199 is: the test is three at once, of the year, the month and the day, and each gives its two bounds
 pub date-day : (d : Date) → isDate d ≡ true → Day d
 unfolding isDate
 date-day d h =

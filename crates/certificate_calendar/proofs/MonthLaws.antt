@@ -105,7 +105,8 @@ module _ (a b : Date) (from : Day a) (to : Day b) where
   pub months-between-least : LeastMonths a b (monthsBetween a b)
   months-between-least = ⊎-elim (least-at (monthIndex b + 1)) (least-at (monthIndex b)) reach
 
--- from a later date there are no more months to go
+-- from a later date there are no more months to go: moved on by as many months as the earlier date needs, the later one stands
+-- no earlier than that date so moved, and so reaches the end too, which it would not if it needed more
 pub months-between-anti : (a b to : Date) → Day a → Day b → Day to → After b a → monthsBetween b to ≤ monthsBetween a to
 months-between-anti a b to da db dt h = ⊎-elim (λ l. absurd (less l)) (λ l. l) (lt-or-le (monthsBetween a to) (monthsBetween b to))
   where

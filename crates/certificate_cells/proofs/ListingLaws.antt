@@ -132,7 +132,7 @@ module _ (t : Totals) where
           rest = append-snoc (at .sofar) x (cellsFrom (cell + 1) fewer) ∙ rw (sym here) (at .rest);
         }
 
-    -- a cell that stays absent
+    -- a cell that stays absent: those left without it are those left with it, and nothing is stored
     pub listing-absent : listed cell ≡ false → Listing cells count (cell + 1)
     listing-absent p =
         let same : cellsFrom cell (at .left) ≡ cellsFrom (cell + 1) fewer = next ∙ rw p in

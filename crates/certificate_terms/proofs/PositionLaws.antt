@@ -75,7 +75,8 @@ module _ (m j : ℕ) where
   unfolding allFrom positionFor firstFrom withinRow positions positionAt position
   row-four l u l′ u′ = row-indices 37 84 3 1 (λ (i : ℕ). i + 5) tt m j (omega arith) (omega arith) l′ (omega arith)
 
--- remaining months of 1 to 120 that are at most the original ones have a position
+-- remaining months of 1 to 120 that are at most the original ones have a position: as the original months are no fewer, above 12 the
+-- column is 2 or 3 and above 36 it is 3, so that in each of the four rows the column is one that the row has
 pub position-lt : (m o : ℕ) → 1 ≤ m → m ≤ 120 → m ≤ o → positionFor m (columnOf o) < 9
 position-lt m o l u h =
     ⊎-elim (λ a. ⊎-elim (λ b. ⊎-elim four three (lt-or-le 36 m)) two (lt-or-le 12 m)) one (lt-or-le 3 m)

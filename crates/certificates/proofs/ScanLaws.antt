@@ -120,7 +120,8 @@ module _ (v : Date) (s : List ℕ) where
           ∙ tried-here (certificateVerdict v s) (certificateCount s) k (at .untried) h
           (λ z. condition-refuses (sumOverLimit v s k) 4 k over (ap (λ (u : Verdict). u .number) (sym verdict-is) ∙ z))
 
-      -- within it: on to the next
+      -- within it: on to the next. The certificate has no fault of its own and its sum none, so that none up to it is refused, and the sums are
+      -- those with it
       pub scan-next : getD (t .balance) (positionOf v c) 0 + c .balance ≤ balanceLimit
           → Scanning (k + 1) (totalsWith t (positionOf v c) (remainingMonths v c) (c .balance) (c .coupon))
       unfolding sumOverLimit

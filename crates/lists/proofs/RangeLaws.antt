@@ -48,7 +48,7 @@ least-is test from (suc n) m l u t f =
     here : from ≡ m → firstFrom from (suc n) test ≡ m
     here e = rw (rw (sym e) at t) e
 
--- what is found before the search ends passes the test
+-- what is found before the search ends passes the test: it is the first number, where that passes, or what is found behind it
 pub least-passes : (test : ℕ → Bool) (from n : ℕ) → firstFrom from n test < from + n → test (firstFrom from n test) ≡ true
 unfolding firstFrom
 least-passes test from zero h = absurd (omega arith)

@@ -37,7 +37,8 @@ terms-of-bounded tiers d rate hc hm =
       months-limit = hm;
     }
 
--- a flat path (01:9): terms whose months have one rate are those with that rate, and so are all prices and values made of them
+-- a flat path (01:9): terms whose months have one rate are those with that rate, and so are all prices and values made of them. Only survivals
+-- before month T read the rate, and there the two are equal
 pub flat-terms : (tiers : TierTable) (d : Deposit) (rate : ℕ → ℕ) (r : ℕ) → ((t : ℕ) → t < d .months → rate t ≡ r)
     → termsOf tiers d rate ≡ termsOf tiers d (λ (t : ℕ). r)
 unfolding termsOf monthSurvival

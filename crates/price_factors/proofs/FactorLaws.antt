@@ -59,7 +59,7 @@ module _ (ρ : Rounding) (yields : List ℕ) (longest : ℕ) where
       ∙ joined-suc (month + more) (monthFactors ρ yields longest)
       ∙ rw (months-past month more h, le-ltb (month + more) longest past, append-assoc, replicate-append-replicate {A = ℕ} (scenarioCount * more) scenarioCount 0, n)
 
-  -- from the longest term on the list is left 0
+  -- from the longest term on the list is left 0: the zeros that are left, 7 for each month behind, are what the months past the longest term add
   pub factors-left : (month : ℕ) → longest ≤ month → month ≤ monthsLimit
       → joined (table month (monthFactors ρ yields longest)) ++ drop (scenarioCount * month) (replicate factorCount 0) ≡ factorsBy ρ yields longest
   unfolding factorsBy

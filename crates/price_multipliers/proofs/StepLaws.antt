@@ -137,7 +137,8 @@ unfolding quotient
 quotient-add down b n d pos = mul-add-div-right pos b n
 quotient-add up b n d pos = let e : b * d + n + (d - 1) ≡ b * d + (n + (d - 1)) = omega arith in rw e (mul-add-div-right pos b (n + (d - 1)))
 
--- what is left: the whole and the part beyond it
+-- what is left: the whole and the part beyond it. With n the share in 3 × 10^9: where n is 3 × 10^9 or more the balance stays whole and the
+-- rest of n gives a part of it, and b + b (n - 3 × 10^9) / (3 × 10^9) = b n / (3 × 10^9); else n itself gives the part
 left-is : (ρ : Rounding) (growth servicing q b : ℕ) → b * (3 * par) < 2 ^ 64
     → leftBy ρ (multipliersOf growth servicing q) b ≡ quotient ρ (b * (growth + 3 * q)) (3 * par)
 unfolding leftBy multipliersOf beyond

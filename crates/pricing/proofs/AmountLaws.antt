@@ -21,7 +21,8 @@ use Rattle.pricing.proofs.MonthLaws.{grown, grown-mono, month-step, dis
 abbrev pub outflowsBy : Rounding → Terms → ℕ → ℕ
 outflowsBy ρ k t = sumWhere everywhere (outflowBy ρ k) t
 
--- balance and outflow of month t + 1 from any balances l ≤ u at its start
+-- balance and outflow of month t + 1 from any balances l ≤ u at its start: a month's step at growth, servicing and survival q, with u as
+-- l and the difference, and 10^9 - q withdrawn
 step : (k : Terms) → Bounded k → (t l u : ℕ) → l ≤ u
     → quotient up (u * (k .growth + 3 * k .survival (suc t))) (3 * par) + quotient up (u * (k .servicing + par - k .survival (suc t))) par
     ≤ quotient down (l * (k .growth + 3 * k .survival (suc t))) (3 * par) + quotient down (l * (k .servicing + par - k .survival (suc t)))

@@ -14,7 +14,7 @@ unfolding sumWhere
 constant-sum c zero = omega arith
 constant-sum c (suc n) = omega (arith, constant-sum c n)
 
--- values that are each within their width are so together
+-- values that are each within their width are so together: 250 u ≤ 250 l + b + 500 is summed over the n values
 widths-add : (l u b : ℕ → ℕ) (n : ℕ) → ((i : ℕ) → i < n → 250 * u i ≤ 250 * l i + (b i + 500))
     → 250 * sumWhere everywhere u n ≤ 250 * sumWhere everywhere l n + (sumWhere everywhere b n + 500 * n)
 widths-add l u b n h =

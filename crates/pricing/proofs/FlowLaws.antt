@@ -32,7 +32,8 @@ discount-encloses z (suc n) =
     scale-first (exactDiscount z n) rateScale (rateScale + z) par
     (rounded-encloses rateScale (rateScale + z) (omega arith) (discount-encloses z n))
 
--- flows that are enclosed month by month, discounted by any yields, for any number of months
+-- flows that are enclosed month by month, discounted by any yields, for any number of months: the sum so far is enclosed, and the month adds
+-- flow × factor, both enclosed, rounded down below and up above
 pub discounted-encloses : (f g : ℕ → ℕ) (x : ℕ → Fraction) (z : ℕ → ℕ) (t : ℕ) → ((i : ℕ) → Encloses (f i) (x i) (g i))
     → Encloses (discountedSum down f (discountFactorBy down z) t) (exactDiscounted x z t) (discountedSum up g (discountFactorBy up z) t)
 unfolding discountedSum exactDiscounted discountFactorBy exactDiscountFactor

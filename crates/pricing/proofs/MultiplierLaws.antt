@@ -67,7 +67,7 @@ module _ (x z : ℕ) (hx : x ≤ par) (hz : z ≤ shiftedLimit) where
       ceiling-near x rateScale (rateScale + z) multiplierScale (rateScale * part) (omega arith) (omega arith) more (omega (arith, part-le))
       (omega (arith, mul-le-mul-left x part-gt, brought-le))
 
--- an upper factor is never 0
+-- an upper factor is never 0: the first is par, and each later one times its divisor is at least the one before times 120,000
 pub discount-pos : (z n : ℕ) → 0 < discountBy up z n
 unfolding discountBy
 discount-pos z zero = lit< tt

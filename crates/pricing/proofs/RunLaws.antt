@@ -18,7 +18,8 @@ pub run-suc : (ρ : Rounding) (k : Terms) (df : ℕ → ℕ) (t : ℕ)
 unfolding runBy nextRun nextFlow nextBalance balanceBy outflowBy flowBy discountedSum
 run-suc ρ k df t = refl
 
--- the sizes of a month, with discount factors of at most par
+-- the sizes of a month, with discount factors of at most par: balance and price are within the limits of a bounded deposit at any month,
+-- and growth, servicing and survival are within its own
 pub run-small : (ρ : Rounding) (k : Terms) (df : ℕ → ℕ) → Bounded k → ((t : ℕ) → df t ≤ par) → (t : ℕ) → t < k .months
     → Small (runBy ρ k df t) (k .growth) (k .servicing) (k .survival (suc t)) (df (suc t))
 unfolding runBy

@@ -14,7 +14,7 @@ use lib.Pow.{pow-pos, pow-lt, pow-add, shl-exact, shl-shr}
 use lib.Seq.{getD-set-same, getD-set-other}
 use Rattle.record_checks.specs.Members.{bit, member, withMember}
 
--- the lowest bit of a union
+-- the lowest bit of a union: a union is twice that of the halves and the larger of the lowest bits, each of which is 0 or 1
 or-odd : (a b : ℕ) → bitOr a b % 2 ≡ max (a % 2) (b % 2)
 or-odd a b =
     ap (λ (x : ℕ). x % 2) (or-step a b) ∙ digit (bitOr (a / 2) (b / 2)) (a % 2) (b % 2) (mod-lt a (lit< tt)) (mod-lt b (lit< tt))
@@ -28,7 +28,7 @@ or-odd a b =
     digit q (suc zero) (suc (suc y)) h k = absurd (omega arith)
     digit q (suc (suc x)) y h k = absurd (omega arith)
 
--- a power of two has its own bit and no other
+-- a power of two has its own bit and no other: a lower one divided by 2^k is 0, a higher one is even
 power-other : (b k : ℕ) → (k ≡ b → ⊥) → 2 ^ b / 2 ^ k % 2 ≡ 0
 power-other b k other = by (ltb b k) refl
   where
@@ -40,7 +40,8 @@ power-other b k other = by (ltb b k) refl
         let is : b ≡ suc m + k = omega arith in
         rw (is, pow-add 2 (suc m) k, shl-shr (2 ^ suc m) k, pow-succ' 2 m) (mul-mod-right 2 (2 ^ m))
 
--- a word with one bit set
+-- a word with one bit set: bit k of a union is the larger of the two bits; of 2^b it is 1 at b, which makes it 1, and 0 elsewhere, which leaves
+-- the word's
 bit-or : (word b k : ℕ) → bit (bitOr word (2 ^ b)) k ≡ (eqb k b || bit word k)
 unfolding bit
 bit-or word b k = rw (or-shr word (2 ^ b) k, or-odd (word / 2 ^ k) (2 ^ b / 2 ^ k)) (by (eqb k b) refl (mod-lt (word / 2 ^ k) (lit< tt)))
@@ -68,7 +69,8 @@ same-bit v n e = by (eqb v n) refl
     by true s = eq-eqb (v % 64) (n % 64) (ap (λ (x : ℕ). x % 64) (eqb-true v n s))
     by false s = ne-eqb (v % 64) (n % 64) (λ q. eqb-false v n s (omega arith))
 
--- a set with a number put into it has that number, and otherwise what it had
+-- a set with a number put into it has that number, and otherwise what it had: a number of the same word is told by its bit there, one of
+-- another word by a word that is left
 pub member-with : (words : List ℕ) (n v : ℕ) → n / 64 < length words → member (withMember words n) v ≡ (eqb v n || member words v)
 unfolding member withMember
 member-with words n v h = by (eqb (v / 64) (n / 64)) refl

@@ -69,7 +69,7 @@ number-block s at n number bytes e =
     let small : number < 2 ^ 16 = omega (arith, number-lt s (at + 2 + 2 * 2) 2 bytes, of .number-is) in
     ap (λ (v : ℕ). v / blockSize) (of .number-is) ∙ block-is number small
 
--- where what would be its number is of another block, a record meets nothing
+-- where what would be its number is of another block, a record meets nothing: it is no amendment, or one whose number is of that other block
 pub other-met : (s : List ℕ) (block at : ℕ) (met : List ℕ) → Bytes s → (amendmentNumber s at / blockSize ≡ block → ⊥)
     → (metAgain block (recordItem s at) met ≡ false) × (metWith block (recordItem s at) met ≡ met)
 unfolding metAgain metWith
@@ -106,7 +106,8 @@ module _ (s : List ℕ) (block : ℕ) where
       }
 
   module _ (at : ℕ) (met : List ℕ) (so-far : Met at met) (bytes : Bytes s) where
-    -- the record at hand has a cell and number that were met just where it repeats an amendment
+    -- the record at hand has a cell and number that were met just where it repeats an amendment: an amendment of the block is met just where the
+    -- same stands before, and any other record neither meets nor repeats
     pub again-is : metAgain block (recordItem s at) met ≡ repeats s block at
     unfolding repeats standsBefore metAgain amendsIn
     again-is = by (recordItem s at) refl
@@ -129,7 +130,8 @@ module _ (s : List ℕ) (block : ℕ) where
     unfolding firstWith
     amended-next r cell v = found-next s (λ (i : ℕ). sameItem (recordItem s i) (Amendment cell v)) r
 
-    -- one record more
+    -- one record more: an amendment of the block puts its key into the set, which then has those met before and this one, since keys of a block are
+    -- equal only for the same cell and number; any other record changes neither the set nor what stands before
     pub met-next : Reached s 0 at → Met (nextRecord s at) (metWith block (recordItem s at) met)
     unfolding metWith sameItem withMember
     met-next r = by (recordItem s at) refl

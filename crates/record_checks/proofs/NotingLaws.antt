@@ -113,7 +113,8 @@ module _ (s : List ℕ) (at : ℕ) (reached : Reached s 0 at) where
       (rw zero-add (noted-here (Sheet kind) e (eq-eqb kind kind refl) single))
       (λ k q. noted-stays (Sheet k) (rw e (ne-eqb kind k (λ p. q (zero-add kind ∙ p)))))
 
-  -- one record more
+  -- one record more, by what it is: a cell sets its own offset and may come to count, a sheet sets that of its kind, an amendment may come to
+  -- count and may make its block fall; everything else that is noted stays
   pub noted-next : repeated s at ≡ false → noteItem s (notedBefore s at) (recordItem s at) at ≡ notedBefore s (nextRecord s at)
   unfolding noteItem sameItem itemRank amendsIn
   noted-next single = by (recordItem s at) refl

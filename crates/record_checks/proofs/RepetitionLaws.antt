@@ -65,7 +65,8 @@ module _ (s : List ℕ) where
       by at r f true e = absurd (true≢false (sym (repeats-falls block at r e) ∙ f))
       by at r f false e = refl
 
-  -- 16 at a record is that of one of the blocks
+  -- 16 at a record is that of one of the blocks: an amendment amends in the block of its number and in no other, and is repeated where the same
+  -- stands before; of any other record neither holds
   repeated-any : (at : ℕ) → amendmentRepeated s at ≡ anyBelow (λ (i : ℕ). repeats s i at) blockCount
   unfolding repeats amendsIn
   repeated-any at = by (recordItem s at) refl

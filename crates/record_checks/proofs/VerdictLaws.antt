@@ -31,7 +31,8 @@ module _ (before after : Verdict) (at : ℕ) where
   between true h = first-passed before _ h ∙ first-refused (refusedIf true 16 at) _ (condition-refuses true 15 at refl) ∙ sym (condition-holds true 16 at refl)
   between false h = first-passed before _ h ∙ first-passed (refusedIf false 16 at) _ (condition-none false 16 at refl)
 
-  -- there is a refusal just where there is one without it, or it holds
+  -- there is a refusal just where there is one without it, or it holds: a refusal before it answers in both; without one it answers where it
+  -- holds, and otherwise what is behind it answers in both
   fault-or : (b : Bool) → not (eqb (all b .number) 0) ≡ (not (eqb (firstRefusal before after .number) 0) || b)
   unfolding refused
   fault-or b = by (eqb (before .number) 0) refl b

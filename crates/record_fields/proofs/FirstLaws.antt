@@ -36,7 +36,8 @@ module _ (s : List ℕ) where
         search-later s test end from steps (omega (arith, next-lt s from)) (none from here (omega (arith, next-lt s from)))
         ∙ search-found r end steps l (omega (arith, next-lt s from)) e (λ j p u. none j (step p) u)
 
-    -- no record before the answer passes
+    -- no record before the answer passes: by the way from the start to it. Were it the start and passed, the search would have ended there;
+    -- behind the start, which failed, the search goes on from the next record
     search-earlier : {from j : ℕ} → Reached s from j → (end steps : ℕ) → end ≤ from + steps → j < searchRecords s test end from steps → test j ≡ false
     unfolding searchRecords
     search-earlier {from} here end zero q l = absurd (omega arith)
@@ -57,7 +58,7 @@ module _ (s : List ℕ) where
         by false true o e rest = absurd (omega (arith, search-here s test end from steps (leb-false end from o) e, next-lt s from, reached-le s r))
         by false false o e rest = rest (omega (arith, search-later s test end from steps (leb-false end from o) e))
 
-    -- a record that is found is reached
+    -- a record that is found is reached: it is the one at the start, or found from the next record on, one step further
     search-reached : (end from steps : ℕ) → searchRecords s test end from steps < end → Reached s from (searchRecords s test end from steps)
     unfolding searchRecords
     search-reached end from zero l = absurd (omega arith)
@@ -89,7 +90,8 @@ module _ (s : List ℕ) where
     unfolding firstRecord
     first-reached end l = search-reached end 0 end l
 
-  -- tests that agree find the same record
+  -- tests that agree find the same record: what the one finds passes the other, and none before it does; where the one finds none, none passes
+  -- the other
   pub first-same : (test other : ℕ → Bool) (end : ℕ) → ((at : ℕ) → test at ≡ other at) → firstRecord s test end ≡ firstRecord s other end
   first-same test other end same = by (ltb (firstRecord s other end) end) refl
     where
@@ -104,7 +106,8 @@ module _ (s : List ℕ) where
           let is : f ≡ end = le-antisymm (first-le s other end) (ltb-false f end e) in
           rw is (first-none test end (λ at r l. same at ∙ first-earlier other end at r (omega (arith, ltb-false f end e))))
 
-  -- one of two tests: the second is searched before what the first finds
+  -- one of two tests: the second is searched before what the first finds. Where that is found it passes, and neither test passes before it;
+  -- else what the first finds does; else neither passes before the end
   pub first-or : (test other : ℕ → Bool) (end : ℕ)
       → firstRecord s (λ (at : ℕ). test at || other at) end ≡ firstRecord s other (firstRecord s test end)
   first-or test other end = by (ltb d f) (ltb f end) refl refl

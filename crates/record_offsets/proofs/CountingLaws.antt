@@ -101,7 +101,8 @@ module _ (s : List ℕ) (cell : ℕ) where
   unfolding countingBefore
   counting-most end at r l = counts-most r end (length s) end l (omega arith)
 
-  -- what holds of the input's length, and of each record of the cell, holds of the record that counts
+  -- what holds of the input's length, and of each record of the cell, holds of the record that counts: it stays what it was, or becomes a record
+  -- that ranks above it, and so above 0
   counts-holds : (P : ℕ → Type 0) (end before from steps : ℕ) → Reached s 0 from → P before
       → ((at : ℕ) → Reached s 0 at → at < end → 0 < rank s cell at → P at) → P (countsFrom s cell end before from steps)
   unfolding countsFrom counting

@@ -36,7 +36,7 @@ pub rest-length : (ns : List ℕ) → ((i : ℕ) → i < length ns → getD ns i
 unfolding restOfLine
 rest-length ns fits = rw length-append (omega (arith, spaced-length ns fits))
 
--- the line of a refusal with 64-bit numbers
+-- the line of a refusal with 64-bit numbers: 7 bytes of its word, 21 for each of two numbers behind a space, and the line feed
 pub refusal-short : (number location : ℕ) → number < 2 ^ 64 → location < 2 ^ 64 → length (refusalLine number location) ≤ 50
 refusal-short number location hn hp =
     omega (

@@ -59,7 +59,7 @@ module _ (s word form : List ℕ) where
     pub said-short : r .next ≤ length s → Said s word form noLine
     said-short h = none-said (short-says (hasForm s (length word) form) refl h)
 
-    -- they do
+    -- they do: a line that is read up to its end has the form, since one without it is read up to 0, and what was read are its numbers
     said-by : (b : Bool) → hasForm s (length word) form ≡ b → length s < r .next → Said s word form r
     unfolding says
     said-by false f h =

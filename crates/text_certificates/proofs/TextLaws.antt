@@ -43,7 +43,7 @@ module _ (s : List ℕ) where
     pub room : 16 * l ≤ at + 10
     pub bound : at ≤ length s + 1
 
-  -- after the first line
+  -- after the first line: it is a date, so that line 1 begins behind it, and there is no line between of which anything is asked
   pub first-read : hasForm s 0 dateForm ≡ true → LinesRead 1 (formEnd s 0 dateForm)
   unfolding lineStart dateForm isReadable lineForm
   first-read h =
@@ -79,7 +79,8 @@ module _ (s : List ℕ) where
       unfolding certificateForm
       form-stays = form-end-le s at 45 (45 ∷ 32 ∷ 45 ∷ 45 ∷ 32 ∷ 32 ∷ 10 ∷ []) h
 
-      -- after another line
+      -- after another line: it is a certificate, as lines behind the first are to be, and takes 16 bytes at least; the next line begins behind its
+      -- end, and each line so far begins within the text
       pub next-read : LinesRead (l + 1) (formEnd s at certificateForm)
       unfolding lineStart isReadable
       next-read =
@@ -104,7 +105,7 @@ module _ (s : List ℕ) where
         ⊎-elim (λ b. lt-leb (length s) (lineStart s k) (read .within k a b))
         (λ b. let e : k ≡ l = omega arith in rw (e, sym (read .begins)) (lt-leb (length s) at more)) (lt-or-le k l)
 
-    -- so there are more lines than l
+    -- so there are more lines than l: were there not, the first line that begins past the text would be one of those up to l, and none of them does
     count-lt : l < lineCount s
     unfolding lineCount
     count-lt = ⊎-elim (λ h. h) (λ h. absurd (never h)) (lt-or-le l (lineCount s))

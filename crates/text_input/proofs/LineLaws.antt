@@ -118,7 +118,8 @@ size-fits room l h = rw take-all
 size-full : (room l : List ℕ) → length room ≤ length l → length (take (length room) l) ≡ length room
 size-full room l h = length-take-le _ _ h
 
--- a byte more of a line that is not complete, by whether there is room
+-- a byte more of a line that is not complete, by whether there is room: it is kept behind those of the line, or lost, and what is held is the
+-- line with it, cut to the room
 with-kept : (room l : List ℕ) (b : ℕ) (x : Bool) → ltb (length l) (length room) ≡ x
     → withKept (keptIn room l) (length (take (length room) l)) b ≡ heldOf room (l ++ b ∷ []) false false
 unfolding withKept heldOf

@@ -85,7 +85,7 @@ module _ (s : List ℕ) (from : ℕ) (form : List ℕ) where
         let fails : hasForm s from form ≡ false = now .form-rest ∙ rw (rest-is, malformed-cases (numberAt s at) (numberEnd s at + 1) (isField s at (getD form j 0)) e) in
         rw fails
 
-    -- a number more
+    -- a number more: it joins those so far at their end, before the zeros, and form, numbers and end of the line are told by what stands behind it
     pub reading-next : (v next : ℕ) → fieldAt s at (getD form j 0) ≡ Read v next → Reading (set numbers j v) next (j + 1)
     unfolding fieldAt hasForm formNumbers formEnd
     reading-next v next e =

@@ -113,7 +113,8 @@ module _ (t : Totals) (b : Bounded t) (total : sum (t .balance) ≤ totalLimit) 
         ⊎-elim (λ w. let h = within-both 1 3 (cellClass n) w in one-of (h .0) (h .1)) (λ q. total-low (eqb-true (cellClass n) 6 q))
         (either-true (within 1 3 (cellClass n)) (eqb (cellClass n) 6) f)
 
-  -- the cells of the table from number i on
+  -- the cells of the table from number i on: one that is filled and present comes first, above those before it, listed and within its limit, and
+  -- those behind it are above i; any other is left out
   from-listed : (i n m : ℕ) → m < i → i + n ≤ suc totalCell
       → Fileable m (map (cellValue t) (those (isPresent t) (map formCell (those isFilled (tableFrom i n (λ (k : ℕ). k))))))
   unfolding those tableFrom cellValue formCell

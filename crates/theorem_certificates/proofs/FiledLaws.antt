@@ -82,7 +82,7 @@ module _ (cells : List CellValue) (yields rates : ℕ → ℕ) where
     entry : (i : ℕ) → i < length cells → Entry 0 (cellAt i)
     entry i h = fileable-at noCell 0 cells fileable i h
 
-    -- a cell's record
+    -- a cell's record: its body is 12 bytes, and kind, cell and value are read off it 0, 2 and 4 bytes on, where each number fits its bytes
     pub cell-record : (i : ℕ) → i < length cells → CellRecord made (offset bodies i) (cellAt i)
     cell-record i h =
         let body = body-cell i h in
@@ -99,7 +99,7 @@ module _ (cells : List CellValue) (yields rates : ℕ → ℕ) where
               ∙ rw body (cell-body-value (cellAt i) (omega (arith, e .limit, class-limit-le (cellClass (cellAt i .cell)))));
         }
 
-  -- a sheet's record
+  -- a sheet's record: its body is 2 + 2 n bytes, the kind is read off its first two, and number j + 1 2 + 2 j bytes on, where a rate fits
   sheet-record : (i kind n : ℕ) (f : ℕ → ℕ) → i < length cells + 2 → getD bodies i [] ≡ sheetBody kind n f → kind < 256 → n < 1000
       → ((j : ℕ) → f j ≤ rateLimit) → SheetRecord made (offset bodies i) kind n f
   sheet-record i kind n f h body small few low =
@@ -183,7 +183,8 @@ module _ (cells : List CellValue) (yields rates : ℕ → ℕ) where
         (⊎-elim (λ e. omega (arith, ap (offset bodies) e, offset-last bodies)) (λ m. omega (arith, offset-lt bodies (suc i) (length bodies) m (omega arith), offset-last bodies))
         (eq-or-lt-of-le l))
 
-    -- each passes
+    -- each passes: a cell's record holds a listed cell within its limit, the two sheets numbers within theirs; each ends within the bytes and stands
+    -- once, and no path stands beside the flat rates
     pub passes-at : (i : ℕ) → i < length cells + 2 → recordVerdict made (offset bodies i) ≡ accepted
     passes-at i h = ⊎-elim cell (⊎-elim at-yields at-rates) (three (length cells) i h)
       where

@@ -61,7 +61,7 @@ module _ (t : Totals) where
       saying-one i i (those isFilled (tableFrom (suc i) n (λ (k : ℕ). k))) (isFilled i)
       ∙ rw (f, eq-eqb i i refl, saying-below i (suc i) n (omega arith))
 
-  -- and so each
+  -- and so each: the cell is the first of those left, and said there, or the first is another and says nothing of it
   saying-among : (m i n : ℕ) → i ≤ m → m < i + n → isFilled m ≡ true
       → saying m (those isFilled (tableFrom i n (λ (k : ℕ). k))) ≡ cond (isPresent t (formCell m)) (valueOf t (formCell m)) 0
   unfolding those tableFrom

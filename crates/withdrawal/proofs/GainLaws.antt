@@ -29,7 +29,8 @@ unfolding atMost
 at-most-negative m zero h = absurd (not-suc-le-zero h)
 at-most-negative m (suc n) h = refl
 
--- m ≤ s × (a - b) exactly where m + s × b ≤ s × a
+-- m ≤ s × (a - b) exactly where m + s × b ≤ s × a: below b the difference is negative, which m is not below, and s × a < s × b; else
+-- s × (a - b) = s × a - s × b
 at-most-scaled : (m s a b : ℕ) → 0 < s → atMost m (pos s *ℤ (pos a -ℤ pos b)) ≡ leb (m + s * b) (s * a)
 unfolding atMost
 at-most-scaled m s a b h = by (ltb a b) refl

@@ -31,7 +31,8 @@ below-at edge (x ∷ xs) b zero h = b .0
 below-at edge (x ∷ xs) b (suc i) h = below-at edge xs (b .1) i (le-of-suc-le-suc h)
 
 module _ (gain : ℤ) (cost : ℕ) where
-  -- the first tier that is reached has the highest edge that is
+  -- the first tier that is reached has the highest edge that is: edges fall, so that a reached tier before the one with the highest reached edge
+  -- would have a higher one
   first-highest : (otherwise : ℕ) (xs : List WithdrawalTier) → Falling xs → (i : ℕ) → Highest gain cost xs i
       → firstReached gain cost otherwise xs ≡ getD xs i (tier 0 0) .withdrawal
   unfolding firstReached
@@ -97,7 +98,8 @@ module _ (gain : ℤ) (cost : ℕ) where
   some-pos edge [] b n = absurd (true≢false (sym n))
   some-pos edge (x ∷ xs) b n = omega (arith, b .0)
 
-  -- the edges tried, by the level that is reached
+  -- the edges tried, by the level that is reached: where the first is reached no edge is above it, and one is tried; else one more is tried than
+  -- among the others, all of which lie below it
   tried-level : (xs : List WithdrawalTier) → Falling xs
       → cond (someReached gain cost xs) (suc (edgesAbove (highestReached gain cost xs) xs)) (length xs)
       ≡ cond (ltb (levelReached gain cost xs) (length xs)) (suc (levelReached gain cost xs)) (length xs)

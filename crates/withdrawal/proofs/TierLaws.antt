@@ -21,7 +21,8 @@ module _ (gain : ℤ) (cost : ℕ) where
   levelReached [] = 0
   levelReached (x ∷ xs) = cond (reached gain cost (x .edge)) 0 (suc (levelReached xs))
 
-  -- what a function makes of the withdrawal there is what it makes of the first tier's that is reached
+  -- what a function makes of the withdrawal there is what it makes of the first tier's that is reached: level 0 where the first is, else one
+  -- more than among the others
   pub level-withdrawal : (f : ℕ → ℕ) (otherwise : ℕ) (xs : List WithdrawalTier)
       → cond (ltb (levelReached xs) (length xs)) (getD (map (λ (x : WithdrawalTier). f (x .withdrawal)) xs) (levelReached xs) 0)
       (f otherwise)

@@ -44,7 +44,8 @@ unfolding levelSurvival
 level-survival-le true t level u = either (λ (n : ℕ). n ≤ fullSurvival) (ltb level 1) zero-le (le-refl fullSurvival)
 level-survival-le false t level u = either (λ (n : ℕ). n ≤ fullSurvival) (ltb level (t .count)) (survivals-le t u level) (retained-le t u)
 
--- what survives at the level of an incentive is what survives under it
+-- what survives at the level of an incentive is what survives under it: of brokered money nothing at 0 and all at 1, by whether the gain is
+-- above the cost; of other money that of the tier reached, or of the lowest withdrawal where none is
 pub level-survival : (b : Bool) (t : WithdrawalTiers) (x : Incentive) (level : ℕ) → Usable t → LevelFor b (t .count) (t .edges) x level
     → levelSurvival b (t .count) (t .survivals) (t .retained) level ≡ earlySurvival (tierTable t) (accountOf b) (gainOf x) (x .cost)
 unfolding levelSurvival earlySurvival accountOf reachedTier

@@ -65,7 +65,8 @@ module _ {M : Type 1} (𝓤 : URA M) (H : Heap 𝓤) (A : Atoms 𝓤) (W : Given
   abbrev Post : Val → SProp 𝓤
   Post = walkOf 𝓤 H A fill′.ended stayed (fill′.clauses 𝓤 H A at-mem run) .post (((κ, tt), (q, tt), tt, a, args), tt)
 
-  -- the MIR up to the loop
+  -- the MIR up to the loop: thirteen locals, with the parameters, a copy of the array and the index 0; the list's borrow is opened and the array is
+  -- taken apart into its elements, as each turn takes them
   walk : (𝓣 : Tables 𝓤 H) → ent 𝓤 (onEntry 𝓤 H A fill′.signature (κ, tt) (q, tt) a args) (WpFn 𝓤 H (𝓣 .C) (𝓣 .Λ) code.function (s ∷ arr ∷ vint w64 m ∷ []) Post)
   unfolding partOf
   walk 𝓣 =

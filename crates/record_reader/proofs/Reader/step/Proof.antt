@@ -84,7 +84,8 @@ module _ {M : Type 1} (𝓤 : URA M) (H : Heap 𝓤) (A : Atoms 𝓤) (W : Given
   asked : ent 𝓤 (onEntry 𝓤 H A record-at.signature (κ, tt) (q, tt) fields passed) (RecordAt 𝓤 H A mem run .pre to)
   asked = qed W (token 𝓤 κ q ∷ ‵ (owns (ShrSlice (named 0) κ u8 ∷ usize ∷ []) fields passed) ∷ []) ∵ join ! $ frame ! $ done !
 
-  -- what the reader owns gives what the callee asks, and is kept
+  -- what the reader owns gives what the callee asks, and is kept: it is shared, so that there are two of it; one is opened, and the slice in it
+  -- and the offset go to the callee
   apart : r .offset < 2 ^ 64
       → ent 𝓤 (onEntry 𝓤 H A step.signature (κ, tt) (q, tt) (r, tt) (v ∷ [], tt)) (sep 𝓤 (RecordAt 𝓤 H A mem run .pre to) (sem 𝓤 H A (OwnReader κ r v)))
   apart fits =

@@ -121,7 +121,8 @@ module _ {M : Type 1} (𝓤 : URA M) (H : Heap 𝓤) (A : Atoms 𝓤) (W : Given
     abbrev Left : Out → SProp 𝓤
     Left = afterBlock 𝓤 H (afterSeq 𝓤 H (Wp 𝓤 H C Λ En mir′.t-4 (atReturn 𝓤 H En Post)) (atReturn 𝓤 H En Post))
 
-    -- a turn that stores one element
+    -- a turn that stores one element: i is below m, so that the turn goes on; element i is read out of the array and stored at index i of the
+    -- slice, which then has the first i + 1, and the index moves on
     more : (i : ℕ) (X : SProp 𝓤) → i < m → ent 𝓤 (⋆ 𝓤 H A (At (i + 1))) X → ent 𝓤 (⋆ 𝓤 H A (At i)) (Wp 𝓤 H C Λ En mir′.turn-1 (afterTurn 𝓤 H X Left))
     unfolding afterTurn
     more i X small k =
@@ -164,7 +165,8 @@ module _ {M : Type 1} (𝓤 : URA M) (H : Heap 𝓤) (A : Atoms 𝓤) (W : Given
         next : set (mixed i) i (getD fs i noPlace) ≡ mixed (i + 1)
         next = rw add-one (overwrite-suc fs ys i noPlace inArr (omega arith))
 
-    -- the turn that leaves the loop, and the rest of the body: the borrow is closed, and the array is put together again
+    -- the turn that leaves the loop, and the rest of the body: the borrow is closed, and the array is put together again. The slice has the first
+    -- m elements and is as long as it was
     ends : (X : SProp 𝓤) → ent 𝓤 (⋆ 𝓤 H A (At m)) (Wp 𝓤 H C Λ En mir′.turn-1 (afterTurn 𝓤 H X Left))
     unfolding afterTurn partOf
     ends X =
