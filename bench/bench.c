@@ -15,24 +15,35 @@
 #include <string.h>
 #include <time.h>
 
-enum { B = 1, PROVED = PLAIN, VERSIONS, LIST = 570 };
+enum { B = 1, PROVED = PLAIN, VERSIONS };
 
 static const struct version version[VERSIONS] = {{"a recomputed", value_recomputed}, {"b tabled", value_tabled}, {"c multiplied", value_multiplied},
     {"d in runs", value_in_runs}, {"e in step", value_in_step}, {"proved", spritapricot_value}};
 
 /* The filings that are timed. */
-enum { WORST, WORST_TIERS, WORST_PATH, WORST_FINE, WORST_AMENDED, WORST_ALL, TYPICAL, TYPICAL_ALL, FULLEST, ONE_BALANCE, NO_BALANCES, FILINGS };
+enum {
+    WORST, WORST_TIERS, WORST_PATH, WORST_FINE, WORST_AMENDED, WORST_BORROWED, WORST_ALL, TYPICAL, TYPICAL_ALL, TYPICAL_BORROWED, FULLEST, FULLEST_BORROWED,
+    ONE_BALANCE, NO_BALANCES, ONE_BORROWING, NO_BORROWINGS, FILINGS
+};
 static const char *const filing_name[FILINGS] = {
-    "worst", "worst-tiers", "worst-path", "worst-fine", "worst-amended", "worst-all", "typical", "typical-all", "fullest", "one-balance", "no-balances"};
+    "worst", "worst-tiers", "worst-path", "worst-fine", "worst-amended", "worst-borrowed", "worst-all", "typical", "typical-all", "typical-borrowed", "fullest",
+    "fullest-borrowed", "one-balance", "no-balances", "one-borrowing", "no-borrowings"};
+
+/* What is lent to a call that is timed. */
+static uint64_t numbers[NUMBERS], borrowings[BORROWED_NUMBERS];
+
+static uint64_t call(int v, struct input f)
+{
+    uint64_t place;
+    return version[v].value(f.bytes, f.size, numbers, NUMBERS, borrowings, BORROWED_NUMBERS, &place);
+}
 
 /* The library must know every kind of record that the plain versions know. */
 static void same_kinds(void)
 {
-    static uint64_t list[LIST];
-    uint64_t place;
-    for (int i = WORST_TIERS; i <= WORST_AMENDED; i++) {
+    for (int i = WORST_TIERS; i <= WORST_BORROWED; i++) {
         struct input f = named(filing_name[i]);
-        if (spritapricot_value(f.bytes, f.size, list, LIST, &place) == 2) {
+        if (call(PROVED, f) == 2) {
             printf("the library does not know a kind of record in the filing %s\n", f.name);
             exit(1);
         }
@@ -49,10 +60,8 @@ static double now(void)
 
 static double time_of(int v, struct input f, int calls)
 {
-    static uint64_t list[LIST];
-    uint64_t place;
     double start = now();
-    for (int i = 0; i < calls; i++) version[v].value(f.bytes, f.size, list, LIST, &place);
+    for (int i = 0; i < calls; i++) call(v, f);
     return (now() - start) / calls;
 }
 
@@ -78,14 +87,14 @@ static void compare(double least[FILINGS][VERSIONS])
     struct input f[FILINGS];
     for (int i = 0; i < FILINGS; i++) {
         f[i] = named(filing_name[i]);
-        if (agree(version, VERSIONS, f[i]) != 0) exit(1);
+        if (agree(version, VERSIONS, f[i], full) != 0) exit(1);
     }
     measure(f, FILINGS, 150, least);
-    printf("%-16s", "ns a filing");
+    printf("%-18s", "ns a filing");
     for (int v = 0; v < VERSIONS; v++) printf("%14s", version[v].name);
     printf("%10s%10s%10s%10s%10s\n", "proved/a", "proved/b", "proved/c", "proved/d", "proved/e");
     for (int i = 0; i < FILINGS; i++) {
-        printf("%-16s", f[i].name);
+        printf("%-18s", f[i].name);
         for (int v = 0; v < VERSIONS; v++) printf("%14.0f", least[i][v]);
         for (int v = 0; v < PLAIN; v++) printf("%10.3f%s", least[i][PROVED] / least[i][v], v < PLAIN - 1 ? "" : "\n");
         free(f[i].bytes);
@@ -109,18 +118,34 @@ static void take_apart(double least[FILINGS][VERSIONS])
     printf("proved, of the worst filing: reading with shares %.3f\n", least[NO_BALANCES][PROVED] / least[WORST][PROVED]);
 }
 
+/*
+ * The same of borrowings: all 24 of the worst filing have 8,904 month steps, the one of 120 months 840 of them and the same factors, and without balances
+ * there is only the reading of their cells and sheet.
+ */
+static void take_borrowings_apart(double least[FILINGS][VERSIONS])
+{
+    enum { STEPS = 8904, STEPS_OF_ONE = 840, FACTOR_STEPS = 101640 };
+    printf("\n%-16s%14s%14s%14s%14s%14s\n", "ns, borrowings", "all of them", "reading", "all factors", "a factor step", "a month step");
+    for (int v = B; v < VERSIONS; v++) {
+        double all = least[WORST_BORROWED][v] - least[WORST][v], reading = least[NO_BORROWINGS][v] - least[NO_BALANCES][v];
+        double one = least[ONE_BORROWING][v] - least[NO_BORROWINGS][v], step = (all - reading - one) / (STEPS - STEPS_OF_ONE);
+        double factors = one - STEPS_OF_ONE * step;
+        printf("%-16s%14.0f%14.0f%14.0f%14.3f%14.2f\n", version[v].name, all, reading, factors, factors / FACTOR_STEPS, step);
+    }
+}
+
 /* A book with one change, called as a valuation is. */
-static uint64_t book_of_one(const uint8_t *filing, size_t size, uint64_t *numbers, size_t length, uint64_t *place)
+static uint64_t book_of_one(const uint8_t *filing, size_t size, uint64_t *totals, size_t length, uint64_t *unused, size_t unused_length, uint64_t *place)
 {
     static const uint64_t change[6] = {0, 32, 1000, 5000, 120, 300};
     uint64_t changed;
-    (void)length;
-    return spritapricot_book(filing, size, change, 6, numbers, place, &changed);
+    (void)length, (void)unused, (void)unused_length;
+    return spritapricot_book(filing, size, change, 6, totals, place, &changed);
 }
 
 static void stacks(void)
 {
-    struct input f = named("worst-all");
+    struct input f = named("worst-all-borrowed");
     printf("\nstack of one call, bytes:");
     for (int v = 0; v < VERSIONS; v++) printf(" %s %zu,", version[v].name, stack_of(version[v].value, f));
     printf(" a book %zu\n", stack_of(book_of_one, f));
@@ -130,7 +155,7 @@ static void stacks(void)
 static void hostile_times(struct input f, size_t read, int rounds)
 {
     double least[1][VERSIONS];
-    uint64_t answer = agree(version, VERSIONS, f);
+    uint64_t answer = agree(version, VERSIONS, f, full);
     measure(&f, 1, rounds, least);
     printf("%-34s%10zu%6llu%10zu%12.0f%12.0f%10.2f\n", f.name, f.size, (unsigned long long)answer, read, least[0][B], least[0][PROVED],
         least[0][PROVED] / (double)read);
@@ -139,8 +164,8 @@ static void hostile_times(struct input f, size_t read, int rounds)
 
 static void refused_inputs(void)
 {
-    static const size_t size[3] = {2048, 65536, 16777216};
-    struct input f = named("fullest");
+    static const size_t size[3] = {4096, 65536, 16777216};
+    struct input f = named("fullest-borrowed");
     printf("\n%-34s%10s%6s%10s%12s%12s%10s\n", "hostile inputs, ns a call", "bytes", "no.", "read", version[B].name, version[PROVED].name, "ns/byte");
     for (int i = 0; i < 3; i++) {
         hostile_times(hostile("early: zero length", size[i], 0, 0), 2, 40);
@@ -165,10 +190,8 @@ static void amended_inputs(void)
 
 static void once(int which, const char *name)
 {
-    static uint64_t list[LIST];
-    uint64_t place;
     struct input f = named(name);
-    version[which].value(f.bytes, f.size, list, LIST, &place);
+    call(which, f);
     free(f.bytes);
 }
 
@@ -192,6 +215,7 @@ int main(int argc, char **argv)
     compare_books(1000);
     compare(least);
     take_apart(least);
+    take_borrowings_apart(least);
     stacks();
     refused_inputs();
     amended_inputs();

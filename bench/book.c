@@ -49,7 +49,8 @@ static uint64_t same(struct input f, const uint64_t *changes, size_t count)
 void compare_books(int books)
 {
     uint64_t changes[MOST * PER];
-    int with[18] = {0};
+    enum { MOST_ANSWER = 19 };
+    int with[MOST_ANSWER + 1] = {0};
     for (int i = 0; i < books; i++) {
         struct input f = any();
         size_t count = below(MOST + 1);
@@ -58,7 +59,7 @@ void compare_books(int books)
         free(f.bytes);
     }
     printf("%d random books, the same answers and totals from all\n%d accepted; refused, by number:", books, with[0]);
-    for (int n = 1; n < 18; n++)
+    for (int n = 1; n <= MOST_ANSWER; n++)
         if (with[n] != 0) printf(" %d: %d", n, with[n]);
     printf("\n\n");
 }

@@ -1,58 +1,18 @@
 /*
- * Plain C with 128-bit products (gcc, clang), for the same numbers as plain.c. Compiled three times: with EACH_MONTH every month tries the tiers from the
+ * Plain C with 128-bit products (fast.h), for the same numbers as plain.c. Compiled three times: with EACH_MONTH every month tries the tiers from the
  * top, with IN_STEP too, the seven scenarios of a month one after the other before the next month; with neither a tier is kept for as many months as it
- * holds, which is as fast as it was made here. VALUE and BOOK are the functions' names. No month and no
- * factor divides: x * n / d rounded down is the upper half of x * m, where m is 2^64 * n / d rounded up; rounded up it is 1 more than the upper half of
- * x * (m - 1), for x from 1 on. Both are exact where x * d is at most 2^64: balances and flows stay under 4.6 * 10^9, and d is at most 3 * 10^9.
+ * holds, which is as fast as it was made here. VALUE and BOOK are the functions' names.
  */
-#include "read.h"
+#include "fast.h"
 #include <string.h>
 
-#define PAR UINT64_C(1000000000)
-
-struct pair {
-    uint64_t lower, upper;
-};
-
-/* The upper half of x * m; m from 2^63 on stands for m - 2^64 in the second. */
-static inline uint64_t high(uint64_t x, uint64_t m) { return (uint64_t)((unsigned __int128)x * m >> 64); }
-static inline uint64_t high_signed(uint64_t x, uint64_t m) { return (uint64_t)((__int128)(int64_t)x * (int64_t)m >> 64); }
-
-/* n * 2^64 / 10^9, n * 2^64 / (3 * 10^9) less the multiples of 2^64, and n * 2^63 / 10^9, rounded up. */
-static inline uint64_t of_par(uint64_t n) { return n * 18446744073 + (n * 709551616 + PAR - 1) / PAR; }
-static inline uint64_t of_three_par(uint64_t n) { return n * 6148914691 + (n * 709551616 + 3 * PAR - 1) / (3 * PAR); }
-static inline uint64_t of_two_par(uint64_t n) { return n * 9223372036 + (n * 854775808 + PAR - 1) / PAR; }
-
-static inline uint64_t shifted(uint64_t rate, int scenario)
-{
-    uint64_t v = rate + 100 * (uint64_t)scenario;
-    return v < 300 ? 0 : v - 300;
-}
-
-/*
- * The discount factors of month t, the scenarios in step, as multipliers of twice a flow. 120,000 * floor(2^64 / (120,000 + z)) is less than 120,000
- * below 2^64 * 120,000 / (120,000 + z): near enough for factors up to 10^9. A yield of 0 leaves par; its lower multiplier would be 2^64.
- */
-static void discount(uint64_t yield, int t, struct pair to[7][120])
-{
-    uint64_t m[7], lower[7], upper[7];
-    for (int s = 0; s < 7; s++) {
-        m[s] = UINT64_MAX / (120000 + shifted(yield, s)) * 120000;
-        upper[s] = PAR;
-    }
-    for (int i = 0; i < t; i++)
-        for (int s = 0; s < 7; s++) upper[s] = high(upper[s], m[s]) + 1;
-    for (int s = 0; s < 7; s++) {
-        m[s] += 120000;
-        lower[s] = PAR;
-    }
-    for (int i = 0; i < t; i++)
-        for (int s = 0; s < 7; s++) lower[s] = high(lower[s], m[s]);
-    for (int s = 0; s < 7; s++) {
-        to[s][t - 1].lower = of_two_par(shifted(yield, s) == 0 ? PAR : lower[s]);
-        to[s][t - 1].upper = of_two_par(upper[s]) - 1;
-    }
-}
+#ifdef IN_STEP
+#define VALUE_BORROWINGS borrowings_in_step
+#elif defined EACH_MONTH
+#define VALUE_BORROWINGS borrowings_walked
+#else
+#define VALUE_BORROWINGS borrowings_by_class
+#endif
 
 /* Multipliers of a month: what is paid of the balance, and by how much the balance changes. */
 struct month {
@@ -66,11 +26,7 @@ struct run {
 
 static const struct run at_par = {{PAR, PAR}, {0, 0}};
 
-static inline void add_products(struct run *run, struct pair flow, const struct pair *factor)
-{
-    run->price.lower += high(2 * flow.lower, factor->lower);
-    run->price.upper += high(2 * flow.upper, factor->upper);
-}
+static inline void add_products(struct run *run, struct pair flow, const struct pair *factor) { run->price = sum(run->price, product(flow, factor)); }
 
 static inline struct pair paid(struct pair b, struct month m) { return (struct pair){high(b.lower, m.paid), high(b.upper, m.paid - 1) + 1}; }
 
@@ -78,8 +34,6 @@ static inline struct pair grown(struct pair b, struct month m)
 {
     return (struct pair){b.lower + high_signed(b.lower, m.growth), b.upper + high_signed(b.upper, m.growth - 1) + 1};
 }
-
-static inline struct pair sum(struct pair x, struct pair y) { return (struct pair){x.lower + y.lower, x.upper + y.upper}; }
 
 static inline void step(struct run *run, struct month m, const struct pair *factor)
 {
@@ -246,37 +200,44 @@ static void value_place(const struct contents *k, const struct place *p, int i, 
     struct pair price_of[7];
     open(&d, k, p, i % 4 >= 2);
     prices(&d, i % 4 >= 2, factor, price_of);
-    for (int s = 0; s < 7; s++) {
-        to[2 * s] = p->balance * price_of[s].lower / 1000000;
-        to[2 * s + 1] = (p->balance * price_of[s].upper + 999999) / 1000000;
-    }
+    for (int s = 0; s < 7; s++) put_value(p->balance, price_of[s], to + 2 * s);
 }
 
-uint64_t VALUE(const uint8_t *filing, size_t filing_length, uint64_t *numbers, size_t numbers_length, uint64_t *place)
+/* The 568 numbers. */
+static void value_certificates(const struct contents *k, struct pair factor[7][120], uint64_t *numbers)
 {
-    struct contents k;
     struct place places[36];
-    struct pair factor[7][120];
     int longest = 0;
-    *place = numbers_length;
-    if (numbers_length < 568) return 10;
-    int refusal = read_filing(filing, filing_length, &k, place);
-    if (refusal != 0) return (uint64_t)refusal;
-    split(&k, places);
+    split(k, places);
     for (int i = 0; i < 36; i++)
         if (places[i].balance != 0 && places[i].months > longest) longest = places[i].months;
-    for (int t = 1; t <= longest; t++) discount(k.yield[t - 1], t, factor);
+    for (int t = 1; t <= longest; t++) discount(k->yield[t - 1], t, factor);
     memset(numbers, 0, 568 * sizeof *numbers);
     for (int i = 0; i < 36; i++) {
         uint64_t balance = places[i].balance, *to = numbers + 15 * i, *total = numbers + 540 + (i < 24 ? 0 : 2);
         if (balance == 0) continue;
         to[0] = balance;
-        value_place(&k, &places[i], i, factor, to + 1);
+        value_place(k, &places[i], i, factor, to + 1);
         for (int s = 0; s < 7; s++) {
             total[4 * s] += to[1 + 2 * s];
             total[4 * s + 1] += to[2 + 2 * s];
         }
     }
+}
+
+uint64_t VALUE(const uint8_t *filing, size_t filing_length, uint64_t *numbers, size_t numbers_length, uint64_t *borrowings, size_t borrowings_length,
+    uint64_t *place)
+{
+    struct contents k;
+    struct pair factor[7][120];
+    *place = numbers_length;
+    if (numbers_length < 568) return 10;
+    *place = borrowings_length;
+    if (borrowings_length < 374) return 10;
+    int refusal = read_filing(filing, filing_length, &k, place);
+    if (refusal != 0) return (uint64_t)refusal;
+    value_certificates(&k, factor, numbers);
+    VALUE_BORROWINGS(&k, factor, borrowings);
     return 0;
 }
 

@@ -1,7 +1,7 @@
 /*
  * A plain C valuation of a filing, written from the papers alone, for comparison with the proved library: 64-bit numbers and the language's
- * own division. Compiled twice: with RECOMPUTE the discount factor of a month is computed anew for each sub-balance, without it once for each
- * scenario and month, up to the longest term that has a balance. VALUE is the function's name.
+ * own division. Compiled twice: with RECOMPUTE the discount factor of a month is computed anew for each sub-balance and borrowing, without it once for
+ * each sheet, scenario and month, up to the longest term that has a balance. VALUE is the function's name.
  */
 #include "read.h"
 #include <string.h>
@@ -30,6 +30,48 @@ static struct pair discount(uint64_t z, int t)
     return f;
 }
 
+/* Discount factors of a sheet, in a table unless they are recomputed. */
+struct factors {
+    const uint64_t *yield;
+#ifndef RECOMPUTE
+    struct pair of[7][120];
+#endif
+};
+
+static void open_factors(struct factors *f, const uint64_t *yield, int longest)
+{
+    f->yield = yield;
+#ifdef RECOMPUTE
+    (void)longest;
+#else
+    for (int s = 0; s < 7; s++)
+        for (int t = 1; t <= longest; t++) f->of[s][t - 1] = discount(shifted(yield[t - 1], s), t);
+#endif
+}
+
+static struct pair factor(const struct factors *f, int s, int t)
+{
+#ifdef RECOMPUTE
+    return discount(shifted(f->yield[t - 1], s), t);
+#else
+    return f->of[s][t - 1];
+#endif
+}
+
+static void add_product(struct pair *price, struct pair flow, struct pair df)
+{
+    price->lower += flow.lower * df.lower / PAR;
+    price->upper += ceiling(flow.upper * df.upper, PAR);
+}
+
+static void add_value(uint64_t balance, struct pair price, uint64_t *to, uint64_t *total)
+{
+    to[0] = balance * price.lower / 1000000;
+    to[1] = ceiling(balance * price.upper, 1000000);
+    total[0] += to[0];
+    total[1] += to[1];
+}
+
 /* The first edge from the top that the ratio of gain to cost reaches, or their number. */
 static int tier(const struct tiers *tiers, int64_t gain, int64_t cost)
 {
@@ -48,23 +90,15 @@ static uint64_t survival(const struct tiers *tiers, int brokered, int64_t c, int
     return tiers->survival[tier(tiers, gain, cost)];
 }
 
-uint64_t VALUE(const uint8_t *filing, size_t filing_length, uint64_t *numbers, size_t numbers_length, uint64_t *place)
+/* The 568 numbers. */
+static void value_certificates(const struct contents *k, struct factors *f, uint64_t *numbers)
 {
-    struct contents k;
     struct place places[36];
-    *place = numbers_length;
-    if (numbers_length < 568) return 10;
-    int refusal = read_filing(filing, filing_length, &k, place);
-    if (refusal != 0) return (uint64_t)refusal;
-    split(&k, places);
-#ifndef RECOMPUTE
     int longest = 0;
-    struct pair factor[7][120];
+    split(k, places);
     for (int i = 0; i < 36; i++)
         if (places[i].balance != 0 && places[i].months > longest) longest = places[i].months;
-    for (int s = 0; s < 7; s++)
-        for (int t = 1; t <= longest; t++) factor[s][t - 1] = discount(shifted(k.yield[t - 1], s), t);
-#endif
+    open_factors(f, k->yield, longest);
     memset(numbers + 540, 0, 28 * sizeof *numbers);
     for (int i = 0; i < 36; i++) {
         struct place d = places[i];
@@ -74,13 +108,8 @@ uint64_t VALUE(const uint8_t *filing, size_t filing_length, uint64_t *numbers, s
         for (int s = 0; s < 7; s++) {
             struct pair b = {PAR, PAR}, price = {0, 0};
             for (int t = 1; d.balance != 0 && t <= d.months; t++) {
-                uint64_t r = shifted(k.rate[d.column][t - 1], s);
-                uint64_t q = survival(&k.tiers, brokered, (int64_t)d.coupon, (int64_t)d.penalty, (int64_t)r, d.months - t);
-#ifdef RECOMPUTE
-                struct pair df = discount(shifted(k.yield[t - 1], s), t);
-#else
-                struct pair df = factor[s][t - 1];
-#endif
+                uint64_t r = shifted(k->rate[d.column][t - 1], s);
+                uint64_t q = survival(&k->tiers, brokered, (int64_t)d.coupon, (int64_t)d.penalty, (int64_t)r, d.months - t);
                 struct pair flow = {b.lower * (a + PAR - q) / PAR, ceiling(b.upper * (a + PAR - q), PAR)};
                 b.lower = b.lower * (2500 * d.coupon + 3 * q) / (3 * PAR);
                 b.upper = ceiling(b.upper * (2500 * d.coupon + 3 * q), 3 * PAR);
@@ -88,16 +117,48 @@ uint64_t VALUE(const uint8_t *filing, size_t filing_length, uint64_t *numbers, s
                     flow.lower += b.lower;
                     flow.upper += b.upper;
                 }
-                price.lower += flow.lower * df.lower / PAR;
-                price.upper += ceiling(flow.upper * df.upper, PAR);
+                add_product(&price, flow, factor(f, s, t));
             }
-            uint64_t lower = d.balance * price.lower / 1000000, upper = ceiling(d.balance * price.upper, 1000000);
-            uint64_t *total = numbers + 540 + 4 * s + (i < 24 ? 0 : 2);
-            numbers[15 * i + 1 + 2 * s] = lower;
-            numbers[15 * i + 2 + 2 * s] = upper;
-            total[0] += lower;
-            total[1] += upper;
+            add_value(d.balance, price, numbers + 15 * i + 1 + 2 * s, numbers + 540 + 4 * s + (i < 24 ? 0 : 2));
         }
     }
+}
+
+/* The 374 numbers: each month pays 10^9 * c / 120,000, and the last one 10^9 besides. */
+static void value_borrowings(const struct contents *k, struct factors *f, uint64_t *numbers)
+{
+    struct borrowing borrowings[BORROWINGS];
+    int longest = borrowed(k, borrowings);
+    memset(numbers, 0, 374 * sizeof *numbers);
+    open_factors(f, k->libor, longest);
+    if (longest == 0) return;
+    for (int i = 0; i < BORROWINGS; i++) {
+        struct borrowing b = borrowings[i];
+        numbers[15 * i] = b.balance;
+        for (int s = 0; s < 7; s++) {
+            struct pair price = {0, 0};
+            for (int t = 1; b.balance != 0 && t <= b.months; t++) {
+                uint64_t paid = t == b.months ? PAR : 0;
+                struct pair flow = {PAR * b.coupon / 120000 + paid, ceiling(PAR * b.coupon, 120000) + paid};
+                add_product(&price, flow, factor(f, s, t));
+            }
+            add_value(b.balance, price, numbers + 15 * i + 1 + 2 * s, numbers + 360 + 2 * s);
+        }
+    }
+}
+
+uint64_t VALUE(const uint8_t *filing, size_t filing_length, uint64_t *numbers, size_t numbers_length, uint64_t *borrowings, size_t borrowings_length,
+    uint64_t *place)
+{
+    struct contents k;
+    struct factors factors;
+    *place = numbers_length;
+    if (numbers_length < 568) return 10;
+    *place = borrowings_length;
+    if (borrowings_length < 374) return 10;
+    int refusal = read_filing(filing, filing_length, &k, place);
+    if (refusal != 0) return (uint64_t)refusal;
+    value_certificates(&k, &factors, numbers);
+    value_borrowings(&k, &factors, borrowings);
     return 0;
 }

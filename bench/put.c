@@ -7,6 +7,10 @@ const unsigned coupon_cell[9] = {605, 606, 607, 619, 620, 621, 634, 635, 643};
 const unsigned months_cell[9] = {608, 609, 610, 622, 623, 624, 636, 637, 644};
 const uint64_t least_months[9] = {1, 1, 1, 4, 4, 4, 13, 13, 37};
 const uint64_t most_months[9] = {3, 3, 3, 12, 12, 12, 36, 36, 120};
+const uint64_t least_coupon[8] = {0, 500, 600, 700, 800, 900, 1000, 1100};
+const uint64_t most_coupon[8] = {499, 599, 699, 799, 899, 999, 1099, 1500};
+const uint64_t least_term[3] = {1, 4, 37};
+const uint64_t most_term[3] = {3, 36, 120};
 
 struct input empty(const char *name, size_t capacity)
 {
@@ -62,11 +66,34 @@ void put_cells(struct input *f, const uint64_t balance[9], const uint64_t months
     }
 }
 
-void put_yields(struct input *f, unsigned first, unsigned step)
+unsigned borrowing_cell(unsigned i) { return 675 + 4 * (i / 3) + i % 3; }
+
+void put_borrowings(struct input *f, const uint64_t balance[24], const uint64_t coupon[8], const uint64_t months[3])
+{
+    uint64_t total = 0;
+    for (unsigned i = 0; i < 24; i++) {
+        if (balance[i] != 0) put_cell(f, borrowing_cell(i), balance[i]);
+        total += balance[i];
+    }
+    for (unsigned i = 0; i < 8; i++)
+        if (coupon[i] != 0) put_cell(f, 678 + 4 * i, coupon[i]);
+    for (unsigned j = 0; j < 3; j++)
+        if (months[j] != 0) put_cell(f, 711 + j, months[j]);
+    put_cell(f, 715, total);
+}
+
+/* A rate of a sheet, by the month from 0. */
+static unsigned rate_of(unsigned first, unsigned step, unsigned swing, unsigned i)
+{
+    unsigned rate = first + step * i + swing * (37 * i % 11);
+    return rate > 2500 ? 2500 : rate;
+}
+
+void put_yields(struct input *f, unsigned kind, unsigned first, unsigned step, unsigned swing)
 {
     put(f, 242, 2);
-    put(f, 2, 2);
-    for (unsigned i = 0; i < 120; i++) put(f, first + step * i > 2500 ? 2500 : first + step * i, 2);
+    put(f, kind, 2);
+    for (unsigned i = 0; i < 120; i++) put(f, rate_of(first, step, swing, i), 2);
 }
 
 void put_rates(struct input *f, unsigned rate)
@@ -81,10 +108,7 @@ void put_path(struct input *f, unsigned first, unsigned step, unsigned swing)
     put(f, 722, 2);
     put(f, 5, 2);
     for (unsigned j = 0; j < 3; j++)
-        for (unsigned i = 0; i < 120; i++) {
-            unsigned rate = first + 25 * j + step * i + swing * (37 * i % 11);
-            put(f, rate > 2500 ? 2500 : rate, 2);
-        }
+        for (unsigned i = 0; i < 120; i++) put(f, rate_of(first + 25 * j, step, swing, i), 2);
 }
 
 void put_tiers(struct input *f, const struct tier *tiers, unsigned pairs, unsigned count)

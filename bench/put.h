@@ -4,7 +4,7 @@
 
 #include "filings.h"
 
-enum { CAPACITY = 4096 };
+enum { CAPACITY = 8192 };
 
 /* Cells and rows' months by position. */
 extern const unsigned balance_cell[9], coupon_cell[9], months_cell[9];
@@ -22,12 +22,19 @@ void put_cell_of(struct input *f, unsigned kind, unsigned n, uint64_t v);
  */
 void put_cells(struct input *f, const uint64_t balance[9], const uint64_t months[9], uint64_t coupon, unsigned fine, uint64_t penalty);
 
+/* Of the borrowings: the bounds of a coupon class, in hundredths, and of a term, in months; and the balance cell of the i-th of the 24. */
+extern const uint64_t least_coupon[8], most_coupon[8], least_term[3], most_term[3];
+unsigned borrowing_cell(unsigned i);
+
+/* Balances of the 24 borrowings by ascending cell, coupons of the eight classes and months of the three terms, those that are not 0, and the total. */
+void put_borrowings(struct input *f, const uint64_t balance[24], const uint64_t coupon[8], const uint64_t months[3]);
+
 /* Kind 7; and two of them that give the cell of the record at `at` (kind 1 or 6) its own value, a coupon in whole hundredths. */
 void put_amendment(struct input *f, unsigned n, unsigned number, unsigned state, uint64_t v);
 void amend(struct input *f, size_t at);
 
-/* Kind 2: yields from `first` up by `step` each month, capped at 2,500. */
-void put_yields(struct input *f, unsigned first, unsigned step);
+/* Kind 2 or 8: yields from `first` up by `step` each month, and by up to ten times `swing` in no order, capped at 2,500. */
+void put_yields(struct input *f, unsigned kind, unsigned first, unsigned step, unsigned swing);
 
 /* Kind 3, and kind 5 with each month's rate up by `step`, and by up to ten times `swing` in no order. */
 void put_rates(struct input *f, unsigned rate);

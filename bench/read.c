@@ -1,37 +1,37 @@
-/* Reads a filing front to back, tests its contents, and splits its nine balances into thirty-six. */
+/* Reads a filing front to back. */
 #include "read.h"
 #include "survival.h"
 #include <stdlib.h>
 #include <string.h>
 
-static const int balance_cell[9] = {601, 602, 603, 615, 616, 617, 631, 632, 641};
-static const int coupon_cell[9] = {605, 606, 607, 619, 620, 621, 634, 635, 643};
-static const int months_cell[9] = {608, 609, 610, 622, 623, 624, 636, 637, 644};
-static const int column[9] = {0, 1, 2, 0, 1, 2, 1, 2, 2};
-static const uint64_t least_months[9] = {1, 1, 1, 4, 4, 4, 13, 13, 37};
-static const uint64_t most_months[9] = {3, 3, 3, 12, 12, 12, 36, 36, 120};
-
 /* The house's tiers: withdrawals of 550, 460, 320, 130, 75 and 50 thousandths from these edges on, and 40 below. */
 static const struct tiers house = {
     6, {150, 130, 115, 100, 80, 50}, {935623330, 949947228, 968372414, 988461907, 993524263, 995734681, 996603946}};
 
-/* Limits of cells 601 to 661 by class, 0 where a cell is not listed. */
+/* Limits of cells 601 to 715, 0 where a cell is not listed: certificates to 661, borrowings from 675 on. */
 #define ANY UINT64_MAX
 #define BAL UINT64_C(999999999)
 #define SUB UINT64_C(3999999996)
 #define TOT UINT64_C(8999999991)
-static const uint64_t limit[61] = {
+#define CLASS BAL, BAL, BAL, 1500
+#define ALL UINT64_C(23999999976)
+static const uint64_t limit[CELLS] = {
     BAL, BAL, BAL, ANY, 1500, 1500, 1500, 120, 120, 120, 0, 0, 0, 0, BAL, BAL, BAL, ANY, 1500, 1500, 1500, 120, 120, 120, 0, 0, 0, 0, 0, 0, BAL,
     BAL, ANY, 1500, 1500, 120, 120, 0, 0, 0, BAL, ANY, 1500, 120, TOT, 0, 0, 0, 0, SUB, SUB, SUB, SUB, SUB, SUB, 3600, 3600, 3600, ANY, ANY, ANY,
+    0, 0, 0, 0, 0, 0, 0, 0, 0, 0, 0, 0, 0, CLASS, CLASS, CLASS, CLASS, CLASS, CLASS, CLASS, CLASS, 0, 0, 0, 0, 120, 120, 120, 0, ALL,
 };
 
-/*
- * What has been read: cells by number less 601, sheets and tiers by kind; the highest amendment of each cell, and a bit for each cell and number, made
- * with the first amendment.
- */
+/* Of the amendments, by cell: the highest number, whether there was one, and then a bit for each number. */
+struct amendments {
+    uint64_t highest[CELLS];
+    uint8_t begun[CELLS];
+    uint64_t set[CELLS][1024];
+};
+
+/* What has been read: cells by number less 601, sheets and tiers by kind; the amendments, made with the first of them. */
 struct seen {
-    uint8_t cell[61], kind[6];
-    uint64_t number[61], *amended;
+    uint8_t cell[CELLS], kind[9];
+    struct amendments *amended;
 };
 
 static uint64_t number(const uint8_t *p, int width)
@@ -41,31 +41,38 @@ static uint64_t number(const uint8_t *p, int width)
     return n;
 }
 
-static uint64_t cell(const struct contents *k, int n) { return k->cell[n - 601]; }
+static int is_listed(uint64_t n) { return FIRST_CELL <= n && n <= LAST_CELL && limit[n - FIRST_CELL] != 0; }
 
-/* Kind 1, or kind 6 where `fine`: coupons alone, in thousandths. */
+/* Whether a listed cell is the coupon of certificates, which may be given in thousandths. */
+static int is_fine(uint64_t n) { return limit[n - FIRST_CELL] == 1500 && n < 675; }
+
+/* Kind 1, or kind 6 where `fine`: coupons of certificates alone, in thousandths. */
 static int read_cell(const uint8_t *body, size_t length, int fine, struct contents *k, struct seen *seen)
 {
     if (length != 12) return 2;
     uint64_t n = number(body, 2), v = number(body + 2, 8);
-    if (n < 601 || n > 661 || limit[n - 601] == 0) return 3;
-    int coupon = limit[n - 601] == 1500;
-    if (fine && !coupon) return 3;
-    if (seen->cell[n - 601]) return 4;
-    if (v > (fine ? 15000 : limit[n - 601])) return 5;
-    seen->cell[n - 601] = 1;
-    if (seen->number[n - 601] == 0) k->cell[n - 601] = coupon && !fine ? 10 * v : v;
+    if (!is_listed(n) || (fine && !is_fine(n))) return 3;
+    if (seen->cell[n - FIRST_CELL]) return 4;
+    if (v > (fine ? 15000 : limit[n - FIRST_CELL])) return 5;
+    seen->cell[n - FIRST_CELL] = 1;
+    if (seen->amended == NULL || seen->amended->highest[n - FIRST_CELL] == 0) k->cell[n - FIRST_CELL] = is_fine(n) && !fine ? 10 * v : v;
     return 0;
 }
 
 /* Whether a cell and number have been read; they have then. */
 static int amended_before(uint64_t cell, uint64_t number, struct seen *seen)
 {
-    if (seen->amended == NULL) seen->amended = calloc(61 * 1024, 8);
-    if (seen->amended == NULL) abort();
-    uint64_t *word = &seen->amended[1024 * cell + number / 64], bit = UINT64_C(1) << number % 64, before = *word & bit;
-    *word |= bit;
-    return before != 0;
+    if (seen->amended == NULL) {
+        seen->amended = malloc(sizeof *seen->amended);
+        if (seen->amended == NULL) abort();
+        memset(seen->amended, 0, offsetof(struct amendments, set));
+    }
+    uint64_t *set = seen->amended->set[cell], bit = UINT64_C(1) << number % 64;
+    if (!seen->amended->begun[cell]) memset(set, 0, sizeof seen->amended->set[cell]);
+    seen->amended->begun[cell] = 1;
+    int before = (set[number / 64] & bit) != 0;
+    set[number / 64] |= bit;
+    return before;
 }
 
 /* Kind 7: an amended or withdrawn cell. */
@@ -73,17 +80,17 @@ static int read_amendment(const uint8_t *body, size_t length, struct contents *k
 {
     if (length != 16) return 2;
     uint64_t n = number(body, 2), i = number(body + 2, 2), state = number(body + 4, 2), v = number(body + 6, 8);
-    if (n < 601 || n > 661 || limit[n - 601] == 0) return 3;
-    if (amended_before(n - 601, i, seen)) return 16;
-    if (i == 0 || state > 1 || v > limit[n - 601] || (state == 1 && v != 0)) return 5;
-    if (i > seen->number[n - 601]) {
-        seen->number[n - 601] = i;
-        k->cell[n - 601] = limit[n - 601] == 1500 ? 10 * v : v;
+    if (!is_listed(n)) return 3;
+    if (amended_before(n - FIRST_CELL, i, seen)) return 16;
+    if (i == 0 || state > 1 || v > limit[n - FIRST_CELL] || (state == 1 && v != 0)) return 5;
+    if (i > seen->amended->highest[n - FIRST_CELL]) {
+        seen->amended->highest[n - FIRST_CELL] = i;
+        k->cell[n - FIRST_CELL] = is_fine(n) ? 10 * v : v;
     }
     return 0;
 }
 
-/* Kinds 2, 3 and 5: `count` numbers. `instead` is whether a sheet has been read that leaves no room for this one. */
+/* Kinds 2, 3, 5 and 8: `count` numbers. `instead` is whether a sheet has been read that leaves no room for this one. */
 static int read_sheet(const uint8_t *body, size_t length, int count, uint8_t *seen, int instead, uint64_t *to)
 {
     if (length != 2 + 2 * (size_t)count) return 2;
@@ -149,6 +156,7 @@ static int read_records(const uint8_t *s, size_t size, struct contents *k, struc
         case 5: fault = read_sheet(body, length, 360, &seen->kind[5], seen->kind[3], k->rate[0]); break;
         case 6: fault = read_cell(body, length, 1, k, seen); break;
         case 7: fault = read_amendment(body, length, k, seen); break;
+        case 8: fault = read_sheet(body, length, 120, &seen->kind[8], 0, k->libor); break;
         }
         if (fault != 0) return fault;
         at += 2 + length;
@@ -158,52 +166,10 @@ static int read_records(const uint8_t *s, size_t size, struct contents *k, struc
     return seen->kind[2] && (seen->kind[3] || seen->kind[5]) ? 0 : 6;
 }
 
-/* The conditions on the contents: 7 to 9. */
-static int check_contents(const struct contents *k, uint64_t *place)
-{
-    uint64_t sum[3] = {0}, total = 0;
-    for (int i = 0; i < 9; i++) {
-        uint64_t b = cell(k, balance_cell[i]), t = cell(k, months_cell[i]);
-        *place = (uint64_t)months_cell[i];
-        if (b != 0 && (t < least_months[i] || t > most_months[i])) return 7;
-        sum[column[i]] += b;
-        total += b;
-    }
-    for (int i = 0; i < 6; i++) {
-        *place = (uint64_t)(650 + i);
-        if (cell(k, 650 + i) > sum[i % 3]) return 8;
-    }
-    *place = 645;
-    if (cell(k, 645) != total) return 9;
-    *place = 0;
-    return 0;
-}
-
 int read_filing(const uint8_t *filing, size_t size, struct contents *k, uint64_t *place)
 {
-    struct seen seen = {{0}, {0}, {0}, NULL};
+    struct seen seen = {{0}, {0}, NULL};
     int refusal = read_records(filing, size, k, &seen, place);
     free(seen.amended);
-    return refusal != 0 ? refusal : check_contents(k, place);
-}
-
-void split(const struct contents *k, struct place places[36])
-{
-    uint64_t sum[3] = {0}, before[3] = {0};
-    for (int i = 0; i < 9; i++) sum[column[i]] += cell(k, balance_cell[i]);
-    for (int i = 0; i < 9; i++) {
-        int j = column[i];
-        uint64_t b = cell(k, balance_cell[i]), brokered = cell(k, 650 + j), penalty = cell(k, 653 + j);
-        uint64_t held = 0, retail_penalty = 0, held_penalty = 0, first = before[j], last = first + b;
-        if (sum[j] != 0) {
-            held = brokered * last / sum[j] - brokered * first / sum[j];
-            retail_penalty = penalty * (last - held) / sum[j] - penalty * first / sum[j];
-            held_penalty = penalty * last / sum[j] - penalty * (last - held) / sum[j];
-        }
-        uint64_t share[4] = {retail_penalty, b - held - retail_penalty, held_penalty, held - held_penalty};
-        for (int l = 0; l < 4; l++)
-            places[4 * i + l] = (struct place){
-                share[l], cell(k, coupon_cell[i]), l % 2 == 0 ? cell(k, 656 + j) : 0, (int)cell(k, months_cell[i]), j};
-        before[j] = last;
-    }
+    return refusal != 0 ? refusal : check_contents(k, seen.kind[8], place);
 }

@@ -14,10 +14,10 @@ struct call {
 
 static void *run(void *call)
 {
-    static uint64_t list[568];
+    static uint64_t numbers[568], borrowings[374];
     struct call *c = call;
     uint64_t place;
-    if (c->function != NULL) c->function(c->filing.bytes, c->filing.size, list, 568, &place);
+    if (c->function != NULL) c->function(c->filing.bytes, c->filing.size, numbers, 568, borrowings, 374, &place);
     return NULL;
 }
 

@@ -8,7 +8,8 @@
 #include <stddef.h>
 #include <stdint.h>
 
-typedef uint64_t value_function(const uint8_t *, size_t, uint64_t *, size_t, uint64_t *);
+/* Called as spritapricot_value is: the filing, the list of 568 numbers and that of the 374 of borrowings, each with its length, and the place. */
+typedef uint64_t value_function(const uint8_t *, size_t, uint64_t *, size_t, uint64_t *, size_t, uint64_t *);
 
 value_function value_recomputed, value_tabled, value_multiplied, value_in_runs, value_in_step;
 

@@ -1,6 +1,6 @@
 /*
- * Values a filing of certificate deposits under seven rate scenarios, turns certificates into the cells of a filing, and keeps a book. Link libexports.a, which
- * `rt staticlib exports` makes.
+ * Values a filing of certificate deposits and borrowings under seven rate scenarios, turns certificates into the cells of a filing, and keeps a book. Link
+ * libexports.a, which `rt staticlib exports` makes.
  */
 #ifndef SPRITAPRICOT_H
 #define SPRITAPRICOT_H
@@ -13,13 +13,17 @@ extern "C" {
 #endif
 
 /*
- * Values the filing of `filing_length` bytes at `filing`. Answers 0 for acceptance: the first 568 of the `numbers_length` numbers at
- * `numbers` are then the filing's, and *place is 0. Otherwise answers the refusal's number, 1 to 12 or 16, with its place in *place, and leaves
- * every number as it was.
- * Needs no memory but the stack. The numbers and *place may be written in no other thread during the call, and may not overlap each other
+ * Values the filing of `filing_length` bytes at `filing`. Answers 0 for acceptance: the first 568 of the `numbers_length` numbers at `numbers` are then
+ * those of its certificates, the first 374 of the `borrowings_length` numbers at `borrowings` those of its borrowings, all 0 where it has none, and *place
+ * is 0. Otherwise answers the refusal's number, 1 to 12, 16, 18 or 19, with its place in *place, and leaves every number of both lists as it was. A 10 is
+ * answered before anything is read: at `numbers_length` where that is below 568, else at `borrowings_length` where that is below 374.
+ * The 374 are fifteen for each of the 24 borrowings by ascending cell, 675, 676, 677, 679 to 705: its balance in thousands of dollars, then its lower and
+ * upper value in dollars for each scenario; then the lower and the upper total for each scenario.
+ * Needs no memory but the stack. The numbers of both lists and *place may be written in no other thread during the call, and may not overlap each other
  * or the filing; no pointer is null, also where its length is 0.
  */
-uint64_t spritapricot_value(const uint8_t *filing, size_t filing_length, uint64_t *numbers, size_t numbers_length, uint64_t *place);
+uint64_t spritapricot_value(const uint8_t *filing, size_t filing_length, uint64_t *numbers, size_t numbers_length, uint64_t *borrowings,
+    size_t borrowings_length, uint64_t *place);
 
 /*
  * Turns certificates into cells at the valuation date `year`, `month`, `day`. The `certificates_length` numbers at `certificates` are eight for each

@@ -151,7 +151,7 @@ def values_and_states():
 
 
 def unlisted():
-    for number in (0, 1, 599, 600, 611, 630, 646, 649, 662, 675, 715, 65_535):
+    for number in (0, 1, 599, 600, 611, 630, 646, 649, 662, 674, 707, 710, 714, 716, 65_535):
         yield f"amendment of {number}", amended(number, 1, 0)
 
 
@@ -196,7 +196,7 @@ def many():
     every = sorted((*LIMITS, *UNUSED))
     one = b"".join(amended(650, n, 0) for n in range(1, 101))
     turn = b"".join(amended(number, n, 0) for n in range(1, 4) for number in every)
-    for name, data, last in (("one cell", one, 650), ("all cells in turn", turn, 661)):
+    for name, data, last in (("one cell", one, 650), ("all cells in turn", turn, 715)):
         yield f"many amendments of {name}", SHEETS + cells(LISTING) + data
         yield f"many amendments of {name}, the last two alike", SHEETS + cells(LISTING) + data + amended(last, 3, 0)
         yield f"many amendments of {name}, withdrawn at last", SHEETS + cells(LISTING) + data + withdrawn(601, 500) + withdrawn(645, 500)

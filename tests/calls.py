@@ -13,6 +13,7 @@ LISTING_TEXT = 1
 SEARCH = 2
 CERTIFICATES = 3
 BOOK = 4
+BOTH_LISTS = 5
 UNKNOWN = 4_294_967_295
 
 VALUES = shared(deposits(7_777, 525, middle_month), 35, 45, 300)

@@ -2,7 +2,8 @@
 """The entries that the two test programs run: writes crates/test_figures/stdin and crates/test_second/stdin, the same bytes.
 
 With the word `names` it prints the number and the name of each entry instead. An entry is four 4-byte numbers, little-endian (the number of
-the call, the length of the list of numbers, that of the list of places and that of the input), and then the input."""
+the call, the length of its first list, that of its second list and that of the input), and then the input. The first list has the numbers of
+certificates; the second has places, or the numbers of borrowings."""
 import struct
 import sys
 from pathlib import Path
@@ -12,6 +13,7 @@ sys.dont_write_bytecode = True
 import accepted
 import amendments
 import book
+import borrowings
 import calls
 import certificates
 import fine_coupons
@@ -22,10 +24,12 @@ import searches
 
 CRATES = Path(__file__).resolve().parent.parent / "crates"
 
-# The programs read an entry's input into a room of this size, a byte more than the listing takes, and lend lists of at most as many numbers and places.
+# The programs read an entry's input into a room of this size, a byte more than the listing takes, and lend lists of at most as many numbers, and as many places
+# or numbers of borrowings.
 ROOM = 65_537
 MOST_NUMBERS = 600
 MOST_PLACES = 40
+MOST_BORROWINGS = 400
 
 
 FILINGS = (
@@ -51,12 +55,19 @@ def entries():
     for family in book.FAMILIES:
         for name, data in family():
             yield f"book: {name}", entry(calls.BOOK, data)
+    for family in borrowings.FAMILIES:
+        for name, data, *lists in family():
+            yield f"borrowings: {name}", entry(calls.BOTH_LISTS, data, *(lists or (568, 374)))
+    for call, name, family in borrowings.OTHER_CALLS:
+        for filing, data in family():
+            yield f"borrowings, {name}: {filing}", entry(call, data)
     yield "a call that is unknown", entry(calls.UNKNOWN, b"")
 
 
-def entry(call, data, numbers=568, places=36):
-    assert len(data) <= ROOM and numbers <= MOST_NUMBERS and places <= MOST_PLACES, "an entry that the test programs cannot hold"
-    return struct.pack("<IIII", call, numbers, places, len(data)) + data
+def entry(call, data, first=568, second=36):
+    most = MOST_BORROWINGS if call == calls.BOTH_LISTS else MOST_PLACES
+    assert len(data) <= ROOM and first <= MOST_NUMBERS and second <= most, "an entry that the test programs cannot hold"
+    return struct.pack("<IIII", call, first, second, len(data)) + data
 
 
 def print_names():

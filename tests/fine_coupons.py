@@ -97,7 +97,7 @@ def every_cell():
     """Only the nine WAC cells may be of kind 6."""
     for number in sorted((*LIMITS, *UNUSED)):
         yield f"kind 6 for {number}", cells({601: 0}) + fine(number, 0)
-    for number in (0, 5, 599, 600, 611, 614, 662, 675, 678, 65_535):
+    for number in (0, 5, 599, 600, 611, 614, 662, 674, 707, 710, 714, 716, 65_535):
         yield f"kind 6 for {number}", fine(number, 0)
 
 

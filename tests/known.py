@@ -6,6 +6,7 @@ sys.dont_write_bytecode = True
 
 import amendments
 import book
+import borrowings
 import certificates
 import filings
 import fine_coupons
@@ -29,8 +30,8 @@ def totals(text):
 
 def check():
     texts = printed()
-    figures = monthly_rates.FIGURES | fine_coupons.FIGURES | certificates.FIGURES | book.FIGURES | searches.known()
-    pairs = {*monthly_rates.SAME, *fine_coupons.SAME, *amendments.SAME, *book.SAME}
+    figures = monthly_rates.FIGURES | fine_coupons.FIGURES | certificates.FIGURES | book.FIGURES | borrowings.FIGURES | searches.known()
+    pairs = {*monthly_rates.SAME, *fine_coupons.SAME, *amendments.SAME, *book.SAME, *borrowings.SAME}
     for name, line in figures.items():
         assert f"{line}\n" in texts[name], f"{name}: no line {line}"
     for one, other in pairs:

@@ -20,6 +20,15 @@ def longest_filing():
     return exactly(FILING, filing)
 
 
+def longest_borrowings():
+    """The example filing with a borrowing and amendments of its balance, of which the last gives it its value."""
+    filing = (ROOT / "examples" / "filing").read_bytes() + records.libor(records.flat(0))
+    filing += records.cells({675: 1, 711: 1, 715: 1_000, records.UNUSED[0]: 0})
+    count = (FILING - len(filing)) // len(records.amended(675, 1, 0))
+    filing += b"".join(records.amended(675, n, n) for n in range(1, count)) + records.amended(675, count, 1_000)
+    return exactly(FILING, filing)
+
+
 def longest_certificates():
     """The example certificates behind one without a balance, whose 0 has as many digits as there is room for."""
     date, *lines = (ROOT / "examples" / "certificates").read_bytes().splitlines(keepends=True)
@@ -49,6 +58,7 @@ def exactly(size, data):
 def main():
     crates = ROOT / "crates"
     (crates / "listing" / "stdin").write_bytes(longest_filing())
+    (crates / "borrowings" / "stdin").write_bytes(longest_borrowings())
     (crates / "book" / "data" / "filing").write_bytes(longest_filing())
     (crates / "cells" / "stdin").write_bytes(longest_certificates())
     (crates / "book" / "stdin").write_bytes(longest_lines())

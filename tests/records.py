@@ -11,6 +11,16 @@ POSITIONS = [
 ]
 COLUMNS = (1, 2, 3)
 TOTAL = 645
+
+Borrowing = namedtuple("Borrowing", "balance coupon months lowest highest first last")
+
+# The lowest and the highest coupon of each class, the first and the last month of each term.
+CLASSES = ((0, 499), (500, 599), (600, 699), (700, 799), (800, 899), (900, 999), (1_000, 1_099), (1_100, 1_500))
+TERMS = ((1, 3), (4, 36), (37, 120))
+BORROWINGS = [
+    Borrowing(675 + 4 * i + j, 678 + 4 * i, 711 + j, *coupons, *months) for i, coupons in enumerate(CLASSES) for j, months in enumerate(TERMS)
+]
+BORROWED = 715
 UNUSED = (604, 618, 633, 642, 659, 660, 661)
 LARGEST = 2**64 - 1
 
@@ -34,7 +44,9 @@ def limits():
         values |= {place.balance: 999_999_999, place.coupon: 1_500, place.months: 120}
     for n in COLUMNS:
         values |= {brokered_cell(n): 3_999_999_996, penalty_balance_cell(n): 3_999_999_996, penalty_cell(n): 3_600}
-    return dict(sorted(values.items()))
+    for place in BORROWINGS:
+        values |= {place.balance: 999_999_999, place.coupon: 1_500, place.months: 120}
+    return dict(sorted(values.items())) | {BORROWED: 23_999_999_976}
 
 
 LIMITS = limits()
@@ -80,6 +92,11 @@ def yields(values):
     return record(2, struct.pack("<120H", *values))
 
 
+def libor(values):
+    """LIBOR yields, by which borrowings are discounted."""
+    return record(8, struct.pack("<120H", *values))
+
+
 def rates(values):
     return record(3, struct.pack("<3H", *values))
 
@@ -118,6 +135,15 @@ def path_filing(values, curve, *columns):
 def totalled(values):
     """The cells with cell 645, the sum of the balances."""
     return values | {TOTAL: sum(values.get(place.balance, 0) for place in POSITIONS)}
+
+
+def borrowed(values):
+    """The cells with cell 715, the sum of the borrowings."""
+    return values | {BORROWED: sum(values.get(place.balance, 0) for place in BORROWINGS)}
+
+
+def borrowing(place, balance, coupon, months):
+    return {place.balance: balance, place.coupon: coupon, place.months: months}
 
 
 def column_sums(values):

@@ -1,5 +1,5 @@
 #!/usr/bin/env python3
-"""Runs `listing`, `cells` and `book`, as `rt check` or `rt ci` left them in target/bin, and compares what each prints, byte by byte.
+"""Runs `listing`, `borrowings`, `cells` and `book`, as `rt check` or `rt ci` left them in target/bin, and compares what each prints, byte by byte.
 
 The runs of tests/runs/PROGRAM: NAME.in is standard input and NAME.out what is to be printed; NAME.args holds arguments, one a line, NAME.filing is a file whose
 name is the argument. A run starts in tests/runs/PROGRAM. run_filings.py makes the filings among them. Runs that are too long to be stored are made here.
@@ -43,6 +43,15 @@ def long_filings():
     yield "a million bytes", [], bytes(1_000_000), TOO_LONG
 
 
+def long_borrowings():
+    longest = programs.longest_borrowings()
+    yield "as long as allowed", [], longest, output("borrowings", "borrowing_one_month")
+    yield "one byte too long", [], longest + b"\0", TOO_LONG
+    yield "as many zeros as allowed", [], bytes(65_536), b"refused 1 0\n"
+    yield "one zero too many", [], bytes(65_537), TOO_LONG
+    yield "a million bytes", [], bytes(1_000_000), TOO_LONG
+
+
 def long_lists():
     longest = programs.longest_certificates()
     day, one = (RUNS / "cells" / "one.in").read_bytes().splitlines(keepends=True)
@@ -75,7 +84,7 @@ def long_books():
     yield "a thousand lines", small, b"clear 3\n" * 1_000, b"opened\n" + b"ok\n" * 1_000
 
 
-LONG = {"listing": long_filings, "cells": long_lists, "book": long_books}
+LONG = {"listing": long_filings, "borrowings": long_borrowings, "cells": long_lists, "book": long_books}
 
 
 def printed(program, args, data):

@@ -1,9 +1,9 @@
 -- What stands at each place of a list that begins with the 374 numbers of a filing's borrowings. Assumes nothing.
-use Prim.Native.Nat.{ℕ, suc, _+_, _*_, _<_}
+use Prim.Native.Nat.{ℕ, suc, _+_, _*_, _≤_, _<_}
 use mathlib.Core.Path.{_≡_, refl, ap, _∙_}
 use mathlib.Core.List.{List, _++_, append-assoc}
 use native.Mathlib.Omega.{arith}
-use lib.ListN.{length, getD, List·getD-append}
+use lib.ListN.{length, getD, length-append, List·getD-append}
 use lib.Seq.{getD-append-add}
 use Rattle.lists.specs.Tables.{table, joined}
 use Rattle.lists.proofs.TableLaws.{joined-length, joined-getD}
@@ -12,7 +12,7 @@ use Rattle.form.specs.Counts.{placeNumberCount}
 use Rattle.form.specs.Shift.{scenarioCount}
 use Rattle.pricing.specs.Rounding.{down, up}
 use Rattle.borrowing_numbers.specs.Borrowed.{balanceOf, borrowedBy}
-use Rattle.borrowing_numbers.specs.Numbers.{borrowingTotalsStart, boundsOf, borrowingNumbers, totalsOf, numbers}
+use Rattle.borrowing_numbers.specs.Numbers.{borrowingTotalsStart, borrowingNumberCount, boundsOf, borrowingNumbers, totalsOf, numbers}
 use Rattle.borrowing_numbers.specs.Promise.{balanceIn, lowerIn, upperIn, totalNumber}
 
 module _ (cells : List ℕ) (z : ℕ → ℕ → ℕ) where
@@ -82,6 +82,10 @@ module _ (cells : List ℕ) (z : ℕ → ℕ → ℕ) where
     split : list ≡ rows ++ (totals ++ rest)
     unfolding numbers
     split = append-assoc rows totals rest
+
+    -- it has them all
+    pub list-length : borrowingNumberCount ≤ length list
+    list-length = rw (split, length-append, length-append) (omega (arith, rows-length, totals-length))
 
     pub balance-read : (i : ℕ) → i < borrowingCount → balanceIn list i ≡ balanceOf cells i
     unfolding balanceIn

@@ -1,24 +1,46 @@
 -- A list that begins with the 374 numbers of valid borrowings encloses their exact values. Assumes nothing.
-use Prim.Native.Nat.{ℕ, _+_, _*_, _≤_, _<_}
-use mathlib.Core.Path.{_≡_, _∙_}
+use Prim.Native.Nat.{ℕ, _+_, _-_, _*_, _≤_, _<_}
+use mathlib.Core.Path.{_≡_, refl, sym, _∙_}
+use native.Mathlib.Omega.{arith}
 use mathlib.Core.List.{List}
 use lib.Dec.{lit<}
 use Rattle.lists.specs.Sums.{sumWhere, everywhere}
-use Rattle.lists.proofs.SumLaws.{sumWhere-ext}
+use Rattle.lists.proofs.SumLaws.{sumWhere-ext, sum-everywhere}
 use Rattle.fraction.specs.Fraction.{Encloses}
 use Rattle.fraction.specs.Totals.{totalWhere}
 use Rattle.fraction.proofs.EnclosureLaws.{total-encloses}
 use Rattle.form.specs.Borrowings.{borrowingCount, borrowingsTotalCell}
 use Rattle.form.specs.Shift.{scenarioCount}
 use Rattle.filing_cells.specs.Balances.{cellIn}
+use Rattle.filing_cells.specs.BorrowingConditions.{borrowings}
+use Rattle.filing_cells.specs.ValidBorrowings.{ValidBorrowings}
 use Rattle.pricing.specs.Rounding.{down, up}
 use Rattle.pricing.proofs.EnclosedValuesLaws.{values-enclosed}
 use Rattle.borrowing_prices.proofs.EnclosureLaws.{value-encloses}
 use Rattle.borrowing_prices.proofs.WidthLaws.{value-width}
-use Rattle.borrowing_numbers.specs.Borrowed.{balanceOf, couponOf, monthsOf, exactBorrowed, borrowedBy}
+use Rattle.filing_contents.specs.Contents.{Contents, liborYield}
+use Rattle.filing_contents.specs.Valid.{Valid}
+use Rattle.price_factors.specs.Inner.Factors.{WithinRates, sheetYield}
+use Rattle.borrowing_numbers.specs.Inner.Rows.{BorrowingLimits}
+use Rattle.borrowing_numbers.specs.Borrowed.{liborRate, balanceOf, couponOf, monthsOf, exactBorrowed, borrowedBy}
 use Rattle.borrowing_numbers.specs.Numbers.{totalBy, totalsOf}
-use Rattle.borrowing_numbers.specs.Promise.{balanceIn, lowerIn, upperIn, totalNumber, ValidBorrowings, EnclosedBorrowings}
+use Rattle.borrowing_numbers.specs.Promise.{balanceIn, lowerIn, upperIn, totalNumber, EnclosedBorrowings}
 use Rattle.borrowing_numbers.proofs.NumberLaws.{list, balance-read, lower-read, upper-read, total-read}
+
+-- borrowings of a valid filing are within the limits that the code asks
+pub borrowing-limits : (cells : List ℕ) → ValidBorrowings cells → BorrowingLimits cells
+unfolding balanceOf couponOf monthsOf
+borrowing-limits cells v = record { balance-le = v .balance-limit; coupon-le = v .coupon-limit; months-le = v .months-limit }
+
+-- and its LIBOR yields within theirs
+pub libor-within : (k : Contents) → Valid k → WithinRates (k .libor)
+unfolding liborYield
+libor-within k v i = let e : i + 1 - 1 ≡ i = omega arith in rw e at (v .libor-limit (i + 1))
+
+-- the LIBOR yields of a filing, shifted, as the code reads them off its sheet
+pub libor-is : (k : Contents) → sheetYield (k .libor) ≡ liborRate k
+unfolding sheetYield liborRate liborYield
+libor-is k = refl
 
 module _ (cells : List ℕ) (z : ℕ → ℕ → ℕ) where
   borrowed-encloses : (scenario i : ℕ) → Encloses (borrowedBy down cells z scenario i) (exactBorrowed cells z scenario i) (borrowedBy up cells z scenario i)
@@ -44,13 +66,17 @@ module _ (cells : List ℕ) (z : ℕ → ℕ → ℕ) where
     module _ (v : ValidBorrowings cells) where
       width-in : (scenario i : ℕ) → scenario < scenarioCount → i < borrowingCount
           → 250 * upperIn (list cells z rest) scenario i ≤ 250 * lowerIn (list cells z rest) scenario i + (balanceIn (list cells z rest) i + 500)
-      unfolding borrowedBy
+      unfolding borrowedBy couponOf monthsOf
       width-in scenario i hs hi =
           rw (lower-read cells z rest scenario i hs hi, upper-read cells z rest scenario i hs hi, balance-read cells z rest i hi)
           (value-width (balanceOf cells i) (couponOf cells i) (monthsOf cells i) (z scenario) (v .coupon-limit i hi) (v .months-limit i hi))
 
       sum-in : sumWhere everywhere (balanceIn (list cells z rest)) borrowingCount ≡ cellIn cells borrowingsTotalCell
-      sum-in = sumWhere-ext everywhere _ (balanceOf cells) borrowingCount (balance-read cells z rest) ∙ v .total-is-sum
+      unfolding borrowings balanceOf
+      sum-in =
+          sumWhere-ext everywhere _ (balanceOf cells) borrowingCount (balance-read cells z rest)
+          ∙ sym (sum-everywhere (balanceOf cells) borrowingCount)
+          ∙ sym (v .total-is-sum)
 
       -- each value read off the list is the run's, which encloses the exact one within its balance's width; the balances add up to cell 715, so
       -- that the widths add up to the total's; the totals read off the list enclose the sums of the exact values

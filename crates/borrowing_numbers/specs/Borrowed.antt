@@ -4,10 +4,16 @@ use Prim.Native.Nat.{ℕ}
 use mathlib.Core.List.{List}
 use Rattle.fraction.specs.Fraction.{Fraction}
 use Rattle.form.specs.Borrowings.{borrowingAt}
+use Rattle.form.specs.Shift.{shiftedRate}
 use Rattle.filing_cells.specs.Balances.{cellIn}
+use Rattle.filing_contents.specs.Contents.{Contents, liborYield}
 use Rattle.pricing.specs.Rounding.{Rounding}
 use Rattle.borrowing_prices.specs.Exact.{exactValue}
 use Rattle.borrowing_prices.specs.Run.{valueBy}
+
+-- the LIBOR yield of a month in a scenario under what a filing says, hundredths of a percent a year
+unfoldable pub liborRate : Contents → ℕ → ℕ → ℕ
+liborRate k scenario month = shiftedRate scenario (liborYield k month)
 
 -- of the i-th borrowing, 0 to 23: its balance, thousands of dollars, its coupon (WAC), hundredths of a percent a year, and its months (WARM)
 unfoldable pub balanceOf : List ℕ → ℕ → ℕ

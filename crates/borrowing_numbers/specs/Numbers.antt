@@ -8,7 +8,8 @@ use Rattle.form.specs.Borrowings.{borrowingCount}
 use Rattle.form.specs.Counts.{placeNumberCount}
 use Rattle.form.specs.Shift.{scenarioCount}
 use Rattle.pricing.specs.Rounding.{Rounding, down, up}
-use Rattle.borrowing_numbers.specs.Borrowed.{balanceOf, borrowedBy}
+use Rattle.filing_contents.specs.Contents.{Contents}
+use Rattle.borrowing_numbers.specs.Borrowed.{liborRate, balanceOf, borrowedBy}
 
 -- the totals begin behind the fifteen numbers of each borrowing, and are two in each scenario
 abbrev pub borrowingTotalsStart : ℕ
@@ -34,3 +35,7 @@ totalsOf cells z scenario = totalBy down cells z scenario ∷ totalBy up cells z
 
 unfoldable pub numbers : List ℕ → (ℕ → ℕ → ℕ) → List ℕ
 numbers cells z = joined (table borrowingCount (borrowingNumbers cells z)) ++ joined (table scenarioCount (totalsOf cells z))
+
+-- the 374 numbers of what a filing says
+unfoldable pub borrowedNumbers : Contents → List ℕ
+borrowedNumbers k = numbers (k .cells) (liborRate k)

@@ -1,16 +1,15 @@
 -- What holds of a list that begins with the 374 numbers of a filing's borrowings (02:CR 8). Definitions only.
 -- Balances in thousands of dollars, values and totals in dollars. z scenario month is the shifted LIBOR yield of a month.
-use Prim.Native.Nat.{ℕ, _+_, _*_, _≤_, _<_}
+use Prim.Native.Nat.{ℕ, _+_, _*_, _<_}
 use mathlib.Core.Path.{_≡_}
 use mathlib.Core.List.{List}
 use lib.ListN.{getD}
-use Rattle.lists.specs.Sums.{sumWhere, everywhere}
+use Rattle.lists.specs.Sums.{everywhere}
 use Rattle.form.specs.Borrowings.{borrowingCount, borrowingsTotalCell}
 use Rattle.form.specs.Counts.{placeNumberCount}
-use Rattle.form.specs.Limits.{filedCouponLimit, monthsLimit}
 use Rattle.filing_cells.specs.Balances.{cellIn}
 use Rattle.pricing.specs.EnclosedValues.{EnclosedValues, EnclosedTotal}
-use Rattle.borrowing_numbers.specs.Borrowed.{balanceOf, couponOf, monthsOf, exactBorrowed}
+use Rattle.borrowing_numbers.specs.Borrowed.{balanceOf, exactBorrowed}
 use Rattle.borrowing_numbers.specs.Numbers.{borrowingTotalsStart}
 
 -- read off the list: balance, lower and upper value of a borrowing; of a scenario's two totals, lower and upper, number r
@@ -26,12 +25,7 @@ upperIn list scenario i = getD list (placeNumberCount * i + 2 * scenario + 2) 0
 unfoldable pub totalNumber : List ℕ → ℕ → ℕ → ℕ
 totalNumber list r scenario = getD list (borrowingTotalsStart + 2 * scenario + r) 0
 
--- what the width rests on: coupons and months within their limits, and cell 715 the sum of the twenty-four balances
-pub record ValidBorrowings (cells : List ℕ) : Type 0 where
-  pub coupon-limit : (i : ℕ) → i < borrowingCount → couponOf cells i ≤ filedCouponLimit
-  pub months-limit : (i : ℕ) → i < borrowingCount → monthsOf cells i ≤ monthsLimit
-  pub total-is-sum : sumWhere everywhere (balanceOf cells) borrowingCount ≡ cellIn cells borrowingsTotalCell
-
+-- what holds of the list
 pub record EnclosedBorrowings (cells : List ℕ) (z : ℕ → ℕ → ℕ) (list : List ℕ) : Type 0 where
   -- the balances are those filed
   pub balances-are : (i : ℕ) → i < borrowingCount → balanceIn list i ≡ balanceOf cells i

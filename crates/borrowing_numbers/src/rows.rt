@@ -1,9 +1,12 @@
 // The rows of the borrowings, one after the other.
 use borrowing_prices::values_of;
 use filing_cells::column_sums::cells::cell_value;
+use filing_contents::sheet_rows::PositionKind;
+use filing_contents::sheet_rows::row_used;
 use form::CELLS;
 use form::borrowings::BORROWINGS;
 use form::borrowings::borrowing_at;
+use form::limits::SHEET_NUMBERS;
 use form::sub_balances::PLACE_NUMBERS;
 use lists::write;
 use price_factors::FACTORS;
@@ -15,17 +18,18 @@ ghost use Prim.Native.Nat.{_≤_, _<_, max};
 ghost use lib.ListN.{length, drop};
 ghost use Rattle.lists.specs.Tables.{table, joined};
 ghost use Rattle.form.specs.Borrowings.{borrowingCount};
-ghost use Rattle.form.specs.Limits.{monthsLimit};
+ghost use Rattle.filing_contents.specs.Contents.{liborIn};
 ghost use Rattle.price_factors.specs.Inner.Factors.{WithinRates, AtMostPar, sheetYield};
 ghost use Rattle.borrowing_numbers.specs.Numbers.{borrowingNumbers, borrowingTotalsStart};
 ghost use Rattle.borrowing_numbers.specs.Inner.Rows.{BorrowingLimits, termAt, longestTo, rowWith};
 
 // The fifteen numbers of each borrowing.
-pub(crate) fn write_rows(cells: &[u64; CELLS], libor: &[u16], list: &mut [u64])
-    requires { ⌜ BorrowingLimits (now cells) × WithinRates (now libor) × (monthsLimit ≤ length (now libor)) × (borrowingTotalsStart ≤ length (now list)) ⌝ }
-    ensures { λ _. ⌜ now (list .exit) ≡ joined (table borrowingCount (borrowingNumbers (now (cells .entry)) (sheetYield (now (libor .entry))))) ++ drop borrowingTotalsStart (now (list .entry)) ⌝ }
+pub(crate) fn write_rows(cells: &[u64; CELLS], sheets: &[u16; SHEET_NUMBERS], list: &mut [u64])
+    requires { ⌜ BorrowingLimits (now cells) × WithinRates (liborIn (now sheets)) × (borrowingTotalsStart ≤ length (now list)) ⌝ }
+    ensures { λ _. ⌜ now (list .exit) ≡ joined (table borrowingCount (borrowingNumbers (now (cells .entry)) (sheetYield (liborIn (now (sheets .entry)))))) ++ drop borrowingTotalsStart (now (list .entry)) ⌝ }
 {
     let longest = longest_term(cells);
+    let libor = row_used(sheets, PositionKind::Borrowing);
     let mut lower = [0u64; FACTORS];
     let mut upper = [0u64; FACTORS];
     fill_factors(libor, longest, &mut lower, &mut upper);

@@ -11,7 +11,8 @@ use lib.Seq.{set-at, append-snoc}
 use Rattle.lists.specs.Sums.{sum}
 use Rattle.lists.specs.Tables.{tableFrom, those, padded, contains}
 use Rattle.form.specs.Cells.{firstCell, totalCell, position, positions, positionAt, brokeredCell, penaltyBalanceCell, penaltyMonthsCell, unusedCells}
-use Rattle.form.specs.Limits.{cellClass}
+use Rattle.form.specs.Borrowings.{borrowing, borrowingAt, couponCell, termCell}
+use Rattle.form.specs.Classes.{cellClass}
 use Rattle.certificate_cells.specs.declared.filled_cells.Totals.{Totals}
 use Rattle.certificate_cells.specs.declared.filled_cells.FormCell.{FormCell}
 use Rattle.certificate_cells.specs.declared.filled_cells.CellValue.{CellValue}
@@ -39,7 +40,7 @@ module _ (t : Totals) (e : FormCell) where
 
 -- there are 28 cells
 form-length : length formCells ≡ 28
-unfolding cellClass contains firstFrom position positions positionAt those tableFrom brokeredCell penaltyBalanceCell penaltyMonthsCell unusedCells within isFilled isOfPosition positionWith formCell formCells
+unfolding cellClass contains firstFrom position positions positionAt those tableFrom brokeredCell penaltyBalanceCell penaltyMonthsCell unusedCells within isFilled isOfPosition positionWith formCell formCells borrowing borrowingAt couponCell termCell
 form-length = refl
 
 -- as many as pass a test, at most all

@@ -7,7 +7,7 @@ use lib.Dec.{eqb}
 use Rattle.lists.specs.Sums.{sum}
 use Rattle.lists.specs.Tables.{tableFrom, those, padded}
 use Rattle.form.specs.Cells.{positionAt, firstCell, totalCell}
-use Rattle.form.specs.Limits.{cellClass}
+use Rattle.form.specs.Classes.{cellClass}
 use Rattle.certificate_cells.specs.declared.filled_cells.Totals.{Totals}
 use Rattle.certificate_cells.specs.declared.filled_cells.FormCell.{FormCell}
 use Rattle.certificate_cells.specs.declared.filled_cells.CellValue.{CellValue}

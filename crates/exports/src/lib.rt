@@ -9,8 +9,13 @@ ghost use Rattle.exports.specs.Exported.{ValuedForC};
 
 // Values a filing as `valuation::value` does: answers 0 for acceptance, else the refusal's number, with the refusal's location in `location`.
 #[no_mangle]
-pub extern "C" fn spritapricot_value(filing: &[u8], numbers: &mut [u64], location: &mut u64) -> u64
-    ensures valued { λ r. ⌜ ValuedForC (now (filing .entry)) (now (numbers .entry)) r (now (location .exit)) (now (numbers .exit)) ⌝ }
+pub extern "C" fn spritapricot_value(
+    filing: &[u8],
+    numbers: &mut [u64],
+    borrowings: &mut [u64],
+    location: &mut u64,
+) -> u64
+    ensures valued { λ r. ⌜ ValuedForC (now (filing .entry)) (now (numbers .entry)) (now (borrowings .entry)) r (now (location .exit)) (now (numbers .exit)) (now (borrowings .exit)) ⌝ }
 {
-    answer_numbers(value(filing, numbers), location)
+    answer_numbers(value(filing, numbers, borrowings), location)
 }

@@ -9,10 +9,10 @@ use Rattle.record_fields.specs.Bytes.{numberAt}
 use Rattle.record_fields.specs.Records.{searchRecords, firstRecord}
 use Rattle.record_kinds.specs.Items.{firstWith}
 use Rattle.record_offsets.specs.Counting.{countsFrom, countingBefore}
-use Rattle.filing_contents.specs.Contents.{yieldsIn, ratesIn, contentsIn}
+use Rattle.filing_contents.specs.Contents.{yieldsIn, ratesIn, liborIn, contentsIn}
 use Rattle.filing_decode.specs.Contents.{cellOffset, cellValue, sheetOffset, rateNumber, contentsOf}
 use Rattle.filing.specs.EmptyContents.{emptyContents}
 
 pub zeros-said : contentsIn (replicate {A = ℕ} cellCount 0) (replicate {A = ℕ} sheetNumberCount 0) (emptyContents .tiers) ≡ emptyContents
-unfolding yieldsIn ratesIn emptyContents contentsOf cellValue cellOffset countingBefore countsFrom sheetOffset rateNumber tableFrom numberAt searchRecords firstRecord firstWith
+unfolding yieldsIn ratesIn liborIn emptyContents contentsOf cellValue cellOffset countingBefore countsFrom sheetOffset rateNumber tableFrom numberAt searchRecords firstRecord firstWith
 zeros-said = refl

@@ -16,7 +16,7 @@ use Rattle.filing_cells.specs.Inner.Sums.{columnSums}
 use Rattle.filing_contents.specs.Contents.{Contents, contentsIn}
 use Rattle.filing_decode.specs.Contents.{contentsOf}
 use Rattle.filing.specs.declared.readings.Reading.{Reading}
-use Rattle.filing.specs.RequiredSheets.{sheetVerdict}
+use Rattle.filing.specs.RequiredSheets.{sheetVerdict, liborVerdict}
 use Rattle.filing.specs.Verdict.{contentsVerdict, filingVerdict}
 use Rattle.filing.specs.EmptyContents.{emptyContents}
 use Rattle.filing.proofs.EmptyLaws.{zeros-said}
@@ -29,7 +29,7 @@ module _ (s : List ℕ) where
   records-refuse h = sym (first-refused (recordsVerdict s) _ h)
 
   module _ (passed : recordsVerdict s .number ≡ 0) where
-    filing-then : filingVerdict s ≡ firstRefusal (sheetVerdict s) (contentsVerdict (contentsOf s))
+    filing-then : filingVerdict s ≡ firstRefusal (sheetVerdict s) (firstRefusal (liborVerdict s) (contentsVerdict (contentsOf s)))
     unfolding filingVerdict
     filing-then = first-passed (recordsVerdict s) _ passed
 
@@ -37,8 +37,8 @@ module _ (s : List ℕ) where
     pub sheets-refuse : (sheetVerdict s .number ≡ 0 → ⊥) → sheetVerdict s ≡ filingVerdict s
     sheets-refuse h = sym (filing-then ∙ first-refused (sheetVerdict s) _ h)
 
-    -- then the verdict on the contents
-    pub contents-decide : sheetVerdict s .number ≡ 0 → contentsVerdict (contentsOf s) ≡ filingVerdict s
+    -- then 18, and the verdict on the contents
+    pub contents-decide : sheetVerdict s .number ≡ 0 → firstRefusal (liborVerdict s) (contentsVerdict (contentsOf s)) ≡ filingVerdict s
     contents-decide h = sym (filing-then ∙ first-passed (sheetVerdict s) _ h)
 
   -- an accepted filing leaves what it says, whatever stood there, and a refused one what stood there

@@ -1,10 +1,12 @@
-// A filing of certificate deposits, from its bytes to what it says.
+// A filing of certificate deposits and borrowings, from its bytes to what it says.
 pub mod readings;
 mod required_sheets;
 
 use crate::readings::Reading;
 use crate::readings::refusal;
+use crate::required_sheets::check_libor;
 use crate::required_sheets::check_sheets;
+use answers::first_refusals::first_refusal;
 use answers::number;
 use filing_cells::check_cells;
 use filing_decode::fill_cells;
@@ -64,8 +66,10 @@ fn read_contents(
 {
     let mut said = [0; CELLS];
     fill_cells(filing, counting, &mut said);
+    let libor = check_libor(filing, sheets, &said);
     let checked = check_cells(&said);
-    let answer = checked.answer;
+    let cells_answer = checked.answer;
+    let answer = first_refusal(libor, cells_answer);
     if number(answer) != 0 {
         return refusal(answer);
     }

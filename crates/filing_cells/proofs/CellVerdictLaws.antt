@@ -1,4 +1,4 @@
--- What holds of cells that 7 to 9 do not refuse.
+-- What holds of cells that 19 and 7 to 9 do not refuse.
 -- Assumes nothing.
 use Prim.Native.Nat.{ℕ, _+_, _%_, _≤_, _<_}
 use native.Mathlib.Omega.{arith}
@@ -14,6 +14,7 @@ use Rattle.answers.proofs.VerdictLaws.{first-none, tried-none, condition-fails}
 use Rattle.filing_cells.specs.Balances.{cellIn, columnBalances, balances}
 use Rattle.filing_cells.specs.Conditions.{monthsOutside, aboveColumn, totalDiffers}
 use Rattle.filing_cells.specs.CellVerdicts.{positionVerdict, monthsVerdict, columnVerdict, columnsVerdict, totalVerdict, cellsVerdict}
+use Rattle.filing_cells.specs.BorrowingVerdicts.{couponsVerdict, termsVerdict, borrowingsVerdict}
 use Rattle.filing_cells.proofs.ConditionLaws.{monthsAt, columnsAt, months-in-turn, columns-in-turn}
 
 -- months that are outside nowhere but without a balance
@@ -22,25 +23,45 @@ within true inside e h = absurd (true≢false e)
 within false true e h = tt
 within false false e h = absurd (true≢false h)
 
--- 7, then 8, then 9
-pub cells-in-turn : (cells : List ℕ) {first later months columns total : Verdict} → first ≡ firstRefusal months later → later ≡ firstRefusal columns total
-    → months ≡ monthsVerdict cells → columns ≡ columnsVerdict cells → total ≡ totalVerdict cells
-    → first ≡ cellsVerdict cells
+-- the verdicts on the cells in their order, each before those behind it
+pub cells-in-turn : (cells : List ℕ) {coupons months terms columns total borrowed from-coupons from-months from-terms from-columns from-total : Verdict}
+    → borrowed ≡ borrowingsVerdict cells
+    → total ≡ totalVerdict cells → from-total ≡ firstRefusal total borrowed
+    → columns ≡ columnsVerdict cells → from-columns ≡ firstRefusal columns from-total
+    → terms ≡ termsVerdict cells → from-terms ≡ firstRefusal terms from-columns
+    → months ≡ monthsVerdict cells → from-months ≡ firstRefusal months from-terms
+    → coupons ≡ couponsVerdict cells → from-coupons ≡ firstRefusal coupons from-months
+    → from-coupons ≡ cellsVerdict cells
 unfolding cellsVerdict
-cells-in-turn cells f l m c t = rw (f, l, m, c, t)
+cells-in-turn cells b t t' k k' n n' m m' c c' = rw (c', c, m', m, n', n, k', k, t', t, b)
 
-module _ (cells : List ℕ) (passed : cellsVerdict cells .number ≡ 0) where
-  columns-passed : firstRefusal (columnsVerdict cells) (totalVerdict cells) .number ≡ 0
-  unfolding cellsVerdict
-  columns-passed = first-none (monthsVerdict cells) (firstRefusal (columnsVerdict cells) (totalVerdict cells)) passed .1
+-- none of the verdicts on the cells refuses
+pub record CellsPassed (cells : List ℕ) : Type 0 where
+  pub coupons : couponsVerdict cells .number ≡ 0
+  pub months : monthsVerdict cells .number ≡ 0
+  pub terms : termsVerdict cells .number ≡ 0
+  pub columns : columnsVerdict cells .number ≡ 0
+  pub total : totalVerdict cells .number ≡ 0
+  pub borrowings : borrowingsVerdict cells .number ≡ 0
 
+-- the first refusal of the six is none, so that none of them refuses
+pub cells-passed : (cells : List ℕ) → cellsVerdict cells .number ≡ 0 → CellsPassed cells
+unfolding cellsVerdict
+cells-passed cells passed =
+    let first = first-none (couponsVerdict cells) _ passed in
+    let second = first-none (monthsVerdict cells) _ (first .1) in
+    let third = first-none (termsVerdict cells) _ (second .1) in
+    let fourth = first-none (columnsVerdict cells) _ (third .1) in
+    let fifth = first-none (totalVerdict cells) _ (fourth .1) in
+    record { coupons = first .0; months = second .0; terms = third .0; columns = fourth .0; total = fifth .0; borrowings = fifth .1 }
+
+module _ (cells : List ℕ) (passed : CellsPassed cells) where
   -- 7 holds at none of the nine positions
   months-inside : (i : ℕ) → i < 9 → monthsOutside cells (positionAt i) ≡ false
-  unfolding cellsVerdict positionVerdict
+  unfolding positionVerdict
   months-inside i l =
-      let none = first-none (monthsVerdict cells) (firstRefusal (columnsVerdict cells) (totalVerdict cells)) passed .0 in
       condition-fails (monthsOutside cells (positionAt i)) 6 (positionAt i .months)
-      (tried-none (monthsAt cells) 9 (ap (λ (v : Verdict). v .number) (sym (months-in-turn cells)) ∙ none) i l)
+      (tried-none (monthsAt cells) 9 (ap (λ (v : Verdict). v .number) (sym (months-in-turn cells)) ∙ passed .months) i l)
 
   -- so a balance has its months within its row
   pub months-hold : (i : ℕ) → i < 9 → 0 < cellIn cells (positionAt i .balance)
@@ -54,10 +75,9 @@ module _ (cells : List ℕ) (passed : cellsVerdict cells .number ≡ 0) where
   pub column-holds : (i : ℕ) → i < 6 → cellIn cells (i + firstColumnCell) ≤ sum (columnBalances cells (i % 3 + 1))
   unfolding columnVerdict aboveColumn
   column-holds i l =
-      let none = first-none (columnsVerdict cells) (totalVerdict cells) columns-passed .0 in
       ltb-false (sum (columnBalances cells (i % 3 + 1))) (cellIn cells (i + firstColumnCell))
       (condition-fails (aboveColumn cells (i % 3 + 1) (i + firstColumnCell)) 7 (i + firstColumnCell)
-      (tried-none (columnsAt cells) 6 (ap (λ (v : Verdict). v .number) (sym (columns-in-turn cells)) ∙ none) i l))
+      (tried-none (columnsAt cells) 6 (ap (λ (v : Verdict). v .number) (sym (columns-in-turn cells)) ∙ passed .columns) i l))
 
   -- 9 does not hold: the total is the sum of the nine balances
   pub total-holds : cellIn cells totalCell ≡ sum (balances cells)
@@ -65,4 +85,4 @@ module _ (cells : List ℕ) (passed : cellsVerdict cells .number ≡ 0) where
   total-holds =
       eqb-true (cellIn cells totalCell) (sum (balances cells))
       (not-false (eqb (cellIn cells totalCell) (sum (balances cells)))
-      (condition-fails (totalDiffers cells) 8 totalCell (first-none (columnsVerdict cells) (totalVerdict cells) columns-passed .1)))
+      (condition-fails (totalDiffers cells) 8 totalCell (passed .total)))

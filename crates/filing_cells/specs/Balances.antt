@@ -1,4 +1,4 @@
--- The values of cells 601 to 661 of a filing, and the balances among them. Definitions only.
+-- The values of the cells of a filing, and the certificates' balances among them. Definitions only.
 use Prim.Native.Nat.{ℕ, _-_}
 use mathlib.Core.Bool.{cond, _&&_}
 use mathlib.Core.List.{List, map}

@@ -1,10 +1,11 @@
--- The verdict on the cells of a filing (01:37-39, 01:41): 7 to 9, each by ascending cell number. Definitions only.
+-- The verdict on the cells of a filing (01:37-39, 01:41; 02:CR 8): 19, then 7 to 9, each by ascending cell number. Definitions only.
 use Prim.Native.Nat.{ℕ}
 use mathlib.Core.List.{List, [], _∷_, map}
 use Rattle.form.specs.declared.Position.{Position}
 use Rattle.form.specs.Cells.{positions, brokeredCell, penaltyBalanceCell, totalCell}
 use Rattle.answers.specs.Verdict.{Verdict, refusedIf, firstRefusal, firstOf}
 use Rattle.filing_cells.specs.Conditions.{monthsOutside, aboveColumn, totalDiffers}
+use Rattle.filing_cells.specs.BorrowingVerdicts.{couponsVerdict, termsVerdict, borrowingsVerdict}
 
 -- 7 at a position, at its WARM cell; and the first of the nine, by ascending WARM cell
 unfoldable pub positionVerdict : List ℕ → Position → Verdict
@@ -32,6 +33,12 @@ columnsVerdict cells =
 unfoldable pub totalVerdict : List ℕ → Verdict
 totalVerdict cells = refusedIf (totalDiffers cells) 9 totalCell
 
--- 7 to 9, on the cells
+-- 19; then 7, of the certificates and then of the borrowings; then 8; then 9, at cell 645 and then at cell 715
 unfoldable pub cellsVerdict : List ℕ → Verdict
-cellsVerdict cells = firstRefusal (monthsVerdict cells) (firstRefusal (columnsVerdict cells) (totalVerdict cells))
+cellsVerdict cells =
+    firstRefusal (couponsVerdict cells)
+    (firstRefusal (monthsVerdict cells)
+    (firstRefusal (termsVerdict cells)
+    (firstRefusal (columnsVerdict cells)
+    (firstRefusal (totalVerdict cells)
+    (borrowingsVerdict cells)))))

@@ -1,4 +1,4 @@
--- What can be wrong with the cells of a filing, the values of cells 601 to 661: refusals 7 to 9 (01:37-39). Definitions only.
+-- What can be wrong with the certificates among the cells of a filing: refusals 7 to 9 (01:37-39). Definitions only.
 use Prim.Native.Nat.{ℕ}
 use mathlib.Core.Bool.{Bool, not, _&&_}
 use mathlib.Core.List.{List}

@@ -1,5 +1,6 @@
 pub mod Conditions
 pub mod CellVerdicts
+pub mod ValidBorrowings
 pub mod ValidCells
 pub mod Balances
 pub mod BorrowingConditions

@@ -1,7 +1,10 @@
-// What can be wrong with the cells of a filing whose records are sound: refusals 7 to 9, in the paper's order.
+// What can be wrong with the cells of a filing whose records are sound: refusals 19 and 7 to 9, in the paper's order.
 pub mod borrowings;
 pub mod column_sums;
 
+use crate::borrowings::check_borrowings_total;
+use crate::borrowings::check_coupons;
+use crate::borrowings::check_terms;
 use crate::column_sums::ColumnSums;
 use crate::column_sums::cells::cell_value;
 use crate::column_sums::sums::column_sums;
@@ -16,6 +19,7 @@ use form::positions::within_row;
 ghost use mathlib.Core.Path.{_≡_};
 ghost use Rattle.answers.specs.Answers.{verdictOf};
 ghost use Rattle.filing_cells.specs.Inner.Sums.{BalancesWithin, columnSums};
+ghost use Rattle.filing_cells.specs.Inner.Borrowed.{BorrowingsWithin};
 ghost use Rattle.filing_cells.specs.Conditions.{monthsOutside};
 ghost use Rattle.filing_cells.specs.CellVerdicts.{monthsVerdict, columnsVerdict, totalVerdict, cellsVerdict};
 
@@ -25,18 +29,20 @@ pub struct CheckedCells {
     pub sums: ColumnSums,
 }
 
-// 7 to 9, on the cells of a filing.
+// 19 and 7 to 9, on the cells of a filing.
 pub fn check_cells(cells: &[u64; CELLS]) -> CheckedCells
-    requires { ⌜ BalancesWithin (now cells) ⌝ }
+    requires { ⌜ BalancesWithin (now cells) × BorrowingsWithin (now cells) ⌝ }
     ensures { λ r. ⌜ verdictOf (r .answer) ≡ cellsVerdict (now (cells .entry)) ⌝ }
     ensures { λ r. ⌜ r .sums ≡ columnSums (now (cells .entry)) ⌝ }
 {
     let sums = column_sums(cells);
-    let months = check_months(cells);
-    let columns = check_columns(cells, &sums.totals);
-    let total = check_total(cells, &sums.totals);
+    let borrowed = check_borrowings_total(cells);
+    let total = first_refusal(check_total(cells, &sums.totals), borrowed);
+    let columns = first_refusal(check_columns(cells, &sums.totals), total);
+    let terms = first_refusal(check_terms(cells), columns);
+    let months = first_refusal(check_months(cells), terms);
     CheckedCells {
-        answer: first_refusal(months, first_refusal(columns, total)),
+        answer: first_refusal(check_coupons(cells), months),
         sums,
     }
 }

@@ -10,7 +10,8 @@ use record_kinds::AMENDMENT_KIND;
 use record_kinds::FINE_COUPON_KIND;
 ghost use mathlib.Core.Path.{_≡_};
 ghost use Prim.Native.Nat.{_≤_};
-ghost use Rattle.form.specs.Limits.{cellClass, heldLimit};
+ghost use Rattle.form.specs.Limits.{heldLimit};
+ghost use Rattle.form.specs.Classes.{cellClass};
 ghost use Rattle.record_fields.specs.Records.{recordCell};
 ghost use Rattle.filing_contents.specs.Amounts.{filedValue, amountAt};
 

@@ -1,8 +1,10 @@
-// What an accepted filing says is held in two arrays that a caller lends: the values of cells 601 to 661, and the numbers of all sheets, those of each where
-// the table of sheets says (`record_kinds`): the CD yields of months 1 to 120, then the retail rates of months 1 to 120 column by column. Cells are in their
-// own units, coupons among them in thousandths of a percent a year, yields and rates in hundredths. Its tiers of annual withdrawal go by value.
+// What an accepted filing says is held in two arrays that a caller lends: the values of cells 601 to 715, and the numbers of all sheets, those of each where
+// the table of sheets says (`record_kinds`): the CD yields of months 1 to 120, the retail rates of months 1 to 120 column by column, the LIBOR yields of
+// months 1 to 120. Cells are in their own units, the certificates' coupons among them in thousandths of a percent a year, the borrowings' coupons, yields and
+// rates in hundredths. Its tiers of annual withdrawal go by value.
 pub mod cell_amounts;
 pub mod sheet_numbers;
+pub mod sheet_rows;
 
 use form::limits::TIER_LIMIT;
 

@@ -15,13 +15,13 @@ use Rattle.lists.specs.Tables.{table, tableFrom}
 use Rattle.lists.proofs.TableLaws.{tableFrom-getD, table-getD, table-length, table-ext}
 use Rattle.lists.proofs.RunLaws.{written-back, part-written, part-before}
 use Rattle.form.specs.Cells.{firstCell, cellCount}
-use Rattle.form.specs.Limits.{sheetMonths, rateCount, yieldsStart, ratesStart, sheetNumberCount}
+use Rattle.form.specs.Limits.{sheetMonths, rateCount, yieldsStart, ratesStart, liborStart, sheetNumberCount}
 use Rattle.record_kinds.specs.declared.items.Item.the-variants.{Sheet}
 use Rattle.record_fields.specs.Records.{sheetNumber}
 use Rattle.record_kinds.specs.Kinds.{kindCount, flatRatesKind, ratePathKind}
 use Rattle.record_offsets.specs.Inner.Notes.{notedBefore}
 use Rattle.record_offsets.proofs.NoteLaws.{noted-counting, noted-sheet, offset-end}
-use Rattle.filing_contents.specs.Contents.{yieldsIn, ratesIn}
+use Rattle.filing_contents.specs.Contents.{yieldsIn, ratesIn, liborIn}
 use Rattle.filing_contents.specs.Amounts.{amountAt}
 use Rattle.filing_contents.proofs.AmountLaws.{amount-past}
 use Rattle.filing_decode.specs.Contents.{cellOffset, cellValue, sheetOffset, rateNumber, contentsOf}
@@ -71,24 +71,41 @@ pub rates-long : (s : List ℕ) → length (contentsOf s .rates) ≡ rateCount
 unfolding contentsOf
 rates-long s = table-length 0 rateCount _
 
--- the yields written, and then the rates: each part of the numbers is what the filing says
-module _ (s l middle after : List ℕ) (as-long : length middle ≡ sheetNumberCount)
-    (first : middle ≡ written l yieldsStart (contentsOf s .yields)) (then : after ≡ written middle ratesStart (contentsOf s .rates)) where
+pub libor-long : (s : List ℕ) → length (contentsOf s .libor) ≡ sheetMonths
+unfolding contentsOf
+libor-long s = table-length 1 sheetMonths _
+
+-- the part of n numbers where a run of as many is written is the run
+run-filled : (l run : List ℕ) (at n : ℕ) → length run ≡ n → at ≤ length l → take n (drop at (written l at run)) ≡ run
+run-filled l run at n e h = ap (λ (k : ℕ). take k (drop at (written l at run))) (sym e) ∙ part-written l at run h
+
+-- the yields written, then the rates, then the LIBOR yields: each part of the numbers is what the filing says, since what is written later stands behind it
+module _ (s l after-yields after-rates after : List ℕ) (long : length l ≡ sheetNumberCount)
+    (long-yields : length after-yields ≡ sheetNumberCount) (long-rates : length after-rates ≡ sheetNumberCount)
+    (yields-written : after-yields ≡ written l yieldsStart (contentsOf s .yields))
+    (rates-written : after-rates ≡ written after-yields ratesStart (contentsOf s .rates))
+    (libor-written : after ≡ written after-rates liborStart (contentsOf s .libor)) where
   pub yields-filled : yieldsIn after ≡ contentsOf s .yields
   unfolding yieldsIn
   yields-filled =
-      ap yieldsIn then
-      ∙ part-before middle ratesStart (contentsOf s .rates) yieldsStart sheetMonths (omega (arith, as-long)) (lit≤ tt)
-      ∙ ap yieldsIn first
-      ∙ ap (λ (n : ℕ). take n (drop yieldsStart (written l yieldsStart (contentsOf s .yields)))) (sym (yields-long s))
-      ∙ part-written l yieldsStart (contentsOf s .yields) (omega arith)
+      ap yieldsIn libor-written
+      ∙ part-before after-rates liborStart (contentsOf s .libor) yieldsStart sheetMonths (omega (arith, long-rates)) (lit≤ tt)
+      ∙ ap yieldsIn rates-written
+      ∙ part-before after-yields ratesStart (contentsOf s .rates) yieldsStart sheetMonths (omega (arith, long-yields)) (lit≤ tt)
+      ∙ ap yieldsIn yields-written
+      ∙ run-filled l (contentsOf s .yields) yieldsStart sheetMonths (yields-long s) (omega arith)
 
   pub rates-filled : ratesIn after ≡ contentsOf s .rates
   unfolding ratesIn
   rates-filled =
-      ap ratesIn then
-      ∙ ap (λ (n : ℕ). take n (drop ratesStart (written middle ratesStart (contentsOf s .rates)))) (sym (rates-long s))
-      ∙ part-written middle ratesStart (contentsOf s .rates) (omega (arith, as-long))
+      ap ratesIn libor-written
+      ∙ part-before after-rates liborStart (contentsOf s .libor) ratesStart rateCount (omega (arith, long-rates)) (lit≤ tt)
+      ∙ ap ratesIn rates-written
+      ∙ run-filled after-yields (contentsOf s .rates) ratesStart rateCount (rates-long s) (omega (arith, long-yields))
+
+  pub libor-filled : liborIn after ≡ contentsOf s .libor
+  unfolding liborIn
+  libor-filled = ap liborIn libor-written ∙ run-filled after-rates (contentsOf s .libor) liborStart sheetMonths (libor-long s) (omega (arith, long-rates))
 
 -- the rates of a filing, by the sheet that holds them
 module _ (s : List ℕ) {path : ℕ} (path-is : path ≡ sheetOffset s ratePathKind) where

@@ -11,8 +11,10 @@ use lib.ListN.{length, getD}
 use Rattle.lists.specs.Tables.{table}
 use Rattle.lists.proofs.TableLaws.{tableFrom-getD, table-getD, table-le}
 use Rattle.form.specs.Cells.{positionAt, firstCell, lastCell, cellCount}
-use Rattle.form.specs.Limits.{couponClass, couponLimit, cellClass, classLimit, heldLimit, tierLimit, withdrawalLimit}
-use Rattle.form.proofs.CellLaws.{CellOf, balance-cell}
+use Rattle.form.specs.Limits.{couponClass, couponLimit, classLimit, heldLimit, tierLimit, withdrawalLimit}
+use Rattle.form.specs.Borrowings.{borrowingAt}
+use Rattle.form.specs.Classes.{cellClass}
+use Rattle.form.proofs.CellLaws.{CellOf, balance-cell, borrowing-balance-cell}
 use Rattle.record_kinds.specs.declared.items.Item.{Item}
 use Rattle.record_kinds.specs.declared.items.Item.the-variants.{Cell, Sheet, Amendment, Nothing}
 use Rattle.record_fields.specs.Records.{recordKind, recordCell, amendmentState, amendmentValue, sheetNumber, tierCount}
@@ -37,6 +39,7 @@ use Rattle.filing_decode.specs.Contents.{cellOffset, cellValue, sheetOff
 use Rattle.filing_contents.specs.Contents.{cell}
 use Rattle.filing_contents.proofs.AmountLaws.{amount-past}
 use Rattle.filing_cells.specs.Inner.Sums.{BalancesWithin}
+use Rattle.filing_cells.specs.Inner.Borrowed.{BorrowingsWithin}
 
 -- a cell from the first to the last, as read from the contents
 cell-read : (s : List ℕ) (n : ℕ) → firstCell ≤ n → n ≤ lastCell → cell (contentsOf s) n ≡ cellValue s n
@@ -155,6 +158,10 @@ module _ (s : List ℕ) (none : firstFaulty s ≡ length s) where
   pub balances-within : BalancesWithin (contentsOf s .cells)
   unfolding heldLimit classLimit
   balances-within i h = cell-within (positionAt i .balance) 1 (balance-cell i h)
+
+  pub borrowings-within : BorrowingsWithin (contentsOf s .cells)
+  unfolding heldLimit classLimit
+  borrowings-within i h = cell-within (borrowingAt i .balance) 8 (borrowing-balance-cell i h)
 
   -- each number of a sheet that is present is within the limit of its kind
   pub sheet-limit : (kind : ℕ) → sheetOffset s kind < length s

@@ -1,4 +1,5 @@
--- What a filing says: its cells (amended, 02:CR 6; coupons in thousandths, 02:CR 4), its CD yields, its retail rates (01:6-11; by month, 02:CR 3) and its tiers (02:CR 1). Definitions only.
+-- What a filing says: its cells (amended, 02:CR 6; coupons in thousandths, 02:CR 4), its CD yields, its retail rates (01:6-11; by month, 02:CR 3),
+-- its LIBOR yields (02:CR 8) and its tiers (02:CR 1). Definitions only.
 use Prim.Native.Nat.{ℕ, _+_, _/_}
 use mathlib.Core.Bool.{cond}
 use mathlib.Core.List.{List}
@@ -8,7 +9,7 @@ use Rattle.lists.specs.Tables.{table, tableFrom}
 use Rattle.form.specs.Cells.{firstCell, cellCount}
 use Rattle.form.specs.Limits.{sheetMonths, rateCount}
 use Rattle.record_fields.specs.Records.{sheetNumber}
-use Rattle.record_kinds.specs.Kinds.{yieldsKind, flatRatesKind, tiersKind, ratePathKind}
+use Rattle.record_kinds.specs.Kinds.{yieldsKind, flatRatesKind, tiersKind, ratePathKind, liborKind}
 use Rattle.record_kinds.specs.declared.items.Item.the-variants.{Sheet}
 use Rattle.record_kinds.specs.Items.{firstWith}
 use Rattle.record_offsets.specs.Counting.{countingBefore}
@@ -35,11 +36,13 @@ rateNumber s i =
     cond (ltb (sheetOffset s ratePathKind) (length s)) (sheetNumber s (sheetOffset s ratePathKind) (i + 1))
     (sheetNumber s (sheetOffset s flatRatesKind) (i / sheetMonths + 1))
 
--- the cells from 601 on, the yields of kind 2 by month from 1 on, the retail rates of kinds 3 and 5 column by column, the tiers of kind 4
+-- the cells from 601 on, the yields of kind 2 by month from 1 on, the retail rates of kinds 3 and 5 column by column, the LIBOR yields
+-- of kind 8 by month, the tiers of kind 4. Where there is no kind 8 its numbers are read at the input's length, where every number is 0
 unfoldable pub contentsOf : List ℕ → Contents
 contentsOf s =
     contentsWith
     (tableFrom firstCell cellCount (cellValue s))
     (tableFrom 1 sheetMonths (sheetNumber s (sheetOffset s yieldsKind)))
     (table rateCount (rateNumber s))
+    (tableFrom 1 sheetMonths (sheetNumber s (sheetOffset s liborKind)))
     (tiersAt s (sheetOffset s tiersKind))

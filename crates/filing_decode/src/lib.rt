@@ -10,6 +10,7 @@ use form::limits::RATES_START;
 use form::limits::SHEET_NUMBERS;
 use record_kinds::FLAT_RATES_KIND;
 use record_kinds::KINDS;
+use record_kinds::LIBOR_KIND;
 use record_kinds::RATE_PATH_KIND;
 use record_kinds::TIERS_KIND;
 use record_kinds::YIELDS_KIND;
@@ -28,7 +29,7 @@ ghost use Rattle.record_verdicts.specs.RecordVerdicts.{firstFaulty};
 ghost use Rattle.filing_contents.specs.Contents.{contentsIn};
 ghost use Rattle.filing_decode.specs.Contents.{sheetOffset, contentsOf};
 
-// Fills in the values of cells 601 to 661 of a filing whose records are sound, from the records that count for them.
+// Fills in the values of the cells of a filing whose records are sound, from the records that count for them.
 pub fn fill_cells(s: &[u8], offsets: &[usize; CELLS], cells: &mut [u64; CELLS])
     requires { ⌜ (firstFaulty (now s) ≡ length (now s)) × (now offsets ≡ notedBefore (now s) (length (now s)) .counting) ⌝ }
     requires { ⌜ length (now cells) ≡ cellCount ⌝ }
@@ -52,6 +53,7 @@ pub fn fill_sheets(
 {
     fill_sheet(s, sheets[YIELDS_KIND], YIELDS_KIND, numbers);
     fill_rates(s, sheets[FLAT_RATES_KIND], sheets[RATE_PATH_KIND], numbers);
+    fill_sheet(s, sheets[LIBOR_KIND], LIBOR_KIND, numbers);
     tiers_at(s, sheets[TIERS_KIND])
 }
 

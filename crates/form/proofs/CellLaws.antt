@@ -1,14 +1,15 @@
--- The numbers and classes of the cells of the nine positions and of the columns, each by one test over all of them.
+-- The numbers and classes of the cells of the nine positions, of the columns and of the borrowings, each by one test over all of them.
 -- Assumes nothing.
 use Prim.Native.Nat.{ℕ, _+_, _≤_, _<_}
 use native.Mathlib.Omega.{arith}
 use mathlib.Core.Path.{_≡_}
 use mathlib.Core.Bool.{Bool, true, false, _&&_}
 use lib.Dec.{T, leb, eqb, leb→le, eqb→eq}
-use Rattle.lists.specs.Tables.{contains}
+use Rattle.lists.specs.Tables.{contains, tableFrom}
 use Rattle.lists.proofs.TestLaws.{allFrom, all-at}
-use Rattle.form.specs.Cells.{position, positions, positionAt, brokeredCell, penaltyBalanceCell, penaltyMonthsCell, firstCell, lastCell}
-use Rattle.form.specs.Limits.{cellClass}
+use Rattle.form.specs.Cells.{position, positions, positionAt, brokeredCell, penaltyBalanceCell, penaltyMonthsCell, unusedCells, firstCell, lastCell}
+use Rattle.form.specs.Borrowings.{borrowingCount, borrowing, borrowingAt, couponCell, termCell}
+use Rattle.form.specs.Classes.{cellClass}
 
 -- a cell lies from the first to the last, and is of a class
 pub record CellOf (n class : ℕ) : Type 0 where
@@ -54,3 +55,16 @@ months-cell i h = cells-of (λ (m : ℕ). positionAt m .months) 3 0 9 tt i (omeg
 pub penalty-months-cell : (j : ℕ) → 1 ≤ j → j ≤ 3 → CellOf (penaltyMonthsCell j) 5
 unfolding allFrom cellClass contains positions position brokeredCell penaltyBalanceCell penaltyMonthsCell
 penalty-months-cell j l u = cells-of penaltyMonthsCell 5 1 3 tt j l (omega arith)
+
+-- the cells of the twenty-four borrowings, and their total
+pub borrowing-balance-cell : (i : ℕ) → i < borrowingCount → CellOf (borrowingAt i .balance) 8
+unfolding allFrom cellClass contains positions position brokeredCell penaltyBalanceCell penaltyMonthsCell unusedCells borrowing borrowingAt couponCell termCell tableFrom
+borrowing-balance-cell i h = cells-of (λ (m : ℕ). borrowingAt m .balance) 8 0 borrowingCount tt i (omega arith) (omega arith)
+
+pub borrowing-coupon-cell : (i : ℕ) → i < borrowingCount → CellOf (borrowingAt i .coupon) 9
+unfolding allFrom cellClass contains positions position brokeredCell penaltyBalanceCell penaltyMonthsCell unusedCells borrowing borrowingAt couponCell termCell tableFrom
+borrowing-coupon-cell i h = cells-of (λ (m : ℕ). borrowingAt m .coupon) 9 0 borrowingCount tt i (omega arith) (omega arith)
+
+pub borrowing-months-cell : (i : ℕ) → i < borrowingCount → CellOf (borrowingAt i .months) 10
+unfolding allFrom cellClass contains positions position brokeredCell penaltyBalanceCell penaltyMonthsCell unusedCells borrowing borrowingAt couponCell termCell tableFrom
+borrowing-months-cell i h = cells-of (λ (m : ℕ). borrowingAt m .months) 10 0 borrowingCount tt i (omega arith) (omega arith)

@@ -32,12 +32,9 @@ borrowing c t = record { class = c; term = t; balance = 675 + 4 * c + t; coupon 
 unfoldable pub borrowingAt : ℕ → Borrowing
 borrowingAt i = borrowing (i / borrowingTerms) (i % borrowingTerms)
 
--- the total of the twenty-four balances and its limit, inclusive (02:CR 8), thousands of dollars
+-- the total of the twenty-four balances (02:CR 8), thousands of dollars
 abbrev pub borrowingsTotalCell : ℕ
 borrowingsTotalCell = 715
-
-abbrev pub borrowingsTotalLimit : ℕ
-borrowingsTotalLimit = 23999999976
 
 -- the least and the most coupon of a class as printed (02:CR 8), hundredths of a percent a year; "1,100 up" ends at the coupon's limit
 abbrev pub leastCoupon : ℕ → ℕ

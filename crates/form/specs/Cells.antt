@@ -1,4 +1,4 @@
--- The cells of Schedule CMR that a filing of certificate deposits may carry (01:13-22). Definitions only.
+-- The cells of Schedule CMR for certificate deposits (01:13-22), and how far the cells of the form go. Definitions only.
 use Prim.Native.Nat.{ℕ, suc, _+_, _-_}
 use mathlib.Core.Bool.{Bool, _&&_}
 use mathlib.Core.List.{List, [], _∷_}
@@ -7,12 +7,12 @@ use lib.Dec.{leb, eqb}
 use Rattle.lists.specs.Tables.{those}
 use Rattle.form.specs.declared.Position.{Position}
 
--- the listed cells (01:13-22) lie from the first to the last, which are so many numbers
+-- the listed cells (01:13-22; 02:CR 8) lie from the first to the last, which are so many numbers
 abbrev pub firstCell : ℕ
 firstCell = 601
 
 abbrev pub lastCell : ℕ
-lastCell = 661
+lastCell = 715
 
 abbrev pub cellCount : ℕ
 cellCount = suc lastCell - firstCell

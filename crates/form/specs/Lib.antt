@@ -1,5 +1,6 @@
 pub mod Borrowings
 pub mod Cells
+pub mod Classes
 pub mod Counts
 pub mod Limits
 pub mod Shift

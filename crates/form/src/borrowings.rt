@@ -1,6 +1,8 @@
 // The twenty-four borrowings of Schedule CMR, 0 to 23 by ascending balance cell: eight coupon classes of three terms each. The check tests the tables against
 // the definitions.
 use crate::limits::FILED_COUPON_LIMIT;
+use crate::sub_balances::PLACE_NUMBERS;
+use crate::sub_balances::PLACE_VALUES;
 use crate::tables::within;
 ghost use mathlib.Core.Path.{_≡_};
 ghost use Prim.Native.Nat.{_<_};
@@ -12,6 +14,11 @@ pub const COUPON_CLASSES: usize = 8;
 pub const BORROWING_TERMS: usize = 3;
 
 pub const BORROWINGS: usize = 24;
+
+// Their totals begin behind the numbers of all, and are two in each scenario; and the numbers in a list.
+pub const BORROWING_TOTALS_START: usize = PLACE_NUMBERS * BORROWINGS;
+
+pub const BORROWING_NUMBERS: usize = BORROWING_TOTALS_START + PLACE_VALUES;
 
 // The total of the twenty-four balances.
 pub const BORROWINGS_TOTAL_CELL: usize = 715;

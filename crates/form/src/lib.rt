@@ -8,7 +8,7 @@ pub mod tables;
 // The listed cells lie from the first to the last, which are so many numbers.
 pub const FIRST_CELL: u64 = 601;
 
-pub const LAST_CELL: u64 = 661;
+pub const LAST_CELL: u64 = 715;
 
 pub const CELLS: usize = (LAST_CELL - FIRST_CELL + 1) as usize;
 

@@ -1,12 +1,14 @@
 // The limits of the form, inclusive (01:24, 01:51; 02:CR 1, CR 4), and where the numbers of its sheets stand in one array. The code takes them from here; the
 // months of the rows (`form`) are figures of their own.
 
-// Of a balance, of a column's brokered balance or balance subject to penalty, and of the total, in thousands of dollars.
+// Of a balance, of a column's brokered balance or balance subject to penalty, and of the totals of certificates and borrowings, in thousands of dollars.
 pub const BALANCE_LIMIT: u64 = 999_999_999;
 
 pub const COLUMN_LIMIT: u64 = 3_999_999_996;
 
 pub const TOTAL_LIMIT: u64 = 8_999_999_991;
+
+pub const BORROWINGS_TOTAL_LIMIT: u64 = 23_999_999_976;
 
 // Of a coupon: as filed, in hundredths of a percent a year, and in what a filing says, in thousandths.
 pub const FILED_COUPON_LIMIT: u64 = 1_500;
@@ -36,7 +38,9 @@ pub const YIELDS_START: usize = 0;
 
 pub const RATES_START: usize = 120;
 
-pub const SHEET_NUMBERS: usize = 480;
+pub const LIBOR_START: usize = 480;
+
+pub const SHEET_NUMBERS: usize = 600;
 
 // Of tiers, and of their annual withdrawal, in thousandths.
 pub const TIER_LIMIT: usize = 16;

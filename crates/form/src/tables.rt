@@ -3,6 +3,7 @@
 use crate::FIRST_CELL;
 use crate::LAST_CELL;
 use crate::limits::BALANCE_LIMIT;
+use crate::limits::BORROWINGS_TOTAL_LIMIT;
 use crate::limits::COLUMN_LIMIT;
 use crate::limits::FILED_COUPON_LIMIT;
 use crate::limits::MONTHS_LIMIT;
@@ -13,10 +14,11 @@ ghost use mathlib.Core.Path.{_≡_};
 ghost use Prim.Native.Nat.{_<_};
 ghost use lib.ListN.{getD};
 ghost use Rattle.lists.specs.Ranges.{within};
-ghost use Rattle.form.specs.Limits.{cellClass, classLimit};
+ghost use Rattle.form.specs.Limits.{classLimit};
+ghost use Rattle.form.specs.Classes.{cellClass};
 ghost use Rattle.form.specs.Inner.Classes.{sixteenClasses};
 
-// The class of a coupon.
+// The class of a certificates' coupon.
 pub const COUPON_CLASS: usize = 2;
 
 // The class of a cell: 0 where it is not listed.
@@ -35,14 +37,18 @@ pub fn cell_class(cell: u64) -> usize
 
 // The classes of sixteen cells, a hexadecimal digit each, the lowest cell's last.
 fn sixteen_classes(part: u64) -> u64
-    requires { ⌜ part < 4 ⌝ }
+    requires { ⌜ part < 8 ⌝ }
     ensures { λ r. ⌜ r ≡ sixteenClasses part ⌝ }
 {
     match part {
         0 => 0x1100_0033_3222_7111,
         1 => 0x1100_0000_3332_2271,
         2 => 0x0006_3271_0003_3227,
-        _ => 0x0007_7755_5444_4440,
+        3 => 0x0007_7755_5444_4440,
+        4 => 0x8898_8800_0000_0000,
+        5 => 0x8898_8898_8898_8898,
+        6 => 0xaa00_0098_8898_8898,
+        _ => 0x0000_0000_0000_0b0a,
     }
 }
 
@@ -59,6 +65,10 @@ pub fn class_limit(class: usize) -> u64
         5 => PENALTY_LIMIT,
         6 => TOTAL_LIMIT,
         7 => UNUSED_LIMIT,
+        8 => BALANCE_LIMIT,
+        9 => FILED_COUPON_LIMIT,
+        10 => MONTHS_LIMIT,
+        11 => BORROWINGS_TOTAL_LIMIT,
         _ => 0,
     }
 }

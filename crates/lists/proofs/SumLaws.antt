@@ -1,15 +1,15 @@
 -- Laws of sums of whole numbers: of a list, and of a function over the indices that pass a test. Assumes nothing.
 use Prim.Native.Nat.{ℕ, zero, suc, _+_, _*_, _≤_, _<_}
-use mathlib.Core.Path.{_≡_, refl}
+use mathlib.Core.Path.{_≡_, refl, _∙_}
 use mathlib.Core.Bool.{Bool, true, false, cond, not}
 use mathlib.Core.List.{List, [], _∷_}
-use native.Mathlib.Nat.{add-zero, add-suc, suc-add, lt-suc-self, lt-trans}
+use native.Mathlib.Nat.{add-zero, zero-add, add-suc, suc-add, lt-suc-self, lt-trans}
 use native.Mathlib.Numerals.{add-one}
 use native.Mathlib.Omega.{arith}
 use lib.ListN.{getD, take}
 use lib.Seq.{take-nil}
 use Rattle.lists.specs.Sums.{sum, sumWhere, everywhere}
-use Rattle.lists.specs.Tables.{tableFrom}
+use Rattle.lists.specs.Tables.{table, tableFrom}
 
 -- an element is at most the sum
 pub sum-getD-le : (xs : List ℕ) (i : ℕ) → getD xs i 0 ≤ sum xs
@@ -40,6 +40,12 @@ sum-table s (suc n) f = rw (add-suc, ← suc-add) (omega (arith, sum-table (suc 
 -- the sum of a table of one entry more
 pub sum-table-suc : (s n : ℕ) (f : ℕ → ℕ) → sum (tableFrom s (n + 1) f) ≡ sum (tableFrom s n f) + f (s + n)
 sum-table-suc s n f = rw add-one (sum-table s n f)
+
+-- the sum of a table is that of its function over all indices
+pub sum-everywhere : (f : ℕ → ℕ) (n : ℕ) → sum (table n f) ≡ sumWhere everywhere f n
+unfolding sum sumWhere tableFrom
+sum-everywhere f zero = refl
+sum-everywhere f (suc n) = sum-table 0 n f ∙ rw (sum-everywhere f n, zero-add n)
 
 -- functions that agree have the same sum
 pub sumWhere-ext : (test : ℕ → Bool) (f g : ℕ → ℕ) (n : ℕ) → ((i : ℕ) → i < n → f i ≡ g i) → sumWhere test f n ≡ sumWhere test g n

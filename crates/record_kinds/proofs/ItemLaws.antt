@@ -10,7 +10,8 @@ use lib.Dec.{ltb, eqb}
 use lib.ListN.{length, List·getD-eq-default}
 use Rattle.lists.proofs.TestLaws.{and-true}
 use Rattle.form.specs.Cells.{firstCell, cellCount}
-use Rattle.form.specs.Limits.{couponClass, cellClass}
+use Rattle.form.specs.Limits.{couponClass}
+use Rattle.form.specs.Classes.{cellClass}
 use Rattle.form.proofs.ClassLaws.{class-listed}
 use Rattle.record_kinds.specs.declared.items.Item.{Item}
 use Rattle.record_kinds.specs.declared.items.Item.the-variants.{Cell, Sheet, Amendment, Nothing}

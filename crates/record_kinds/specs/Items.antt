@@ -4,7 +4,8 @@ use Prim.Native.Nat.{ℕ}
 use mathlib.Core.Bool.{Bool, false, cond, _&&_}
 use mathlib.Core.List.{List}
 use lib.Dec.{eqb}
-use Rattle.form.specs.Limits.{couponClass, cellClass}
+use Rattle.form.specs.Limits.{couponClass}
+use Rattle.form.specs.Classes.{cellClass}
 use Rattle.record_kinds.specs.declared.items.Item.{Item}
 use Rattle.record_kinds.specs.declared.items.Item.the-variants.{Cell, Sheet, Amendment, Nothing}
 use Rattle.record_fields.specs.Records.{recordKind, recordCell, amendmentNumber, firstRecord}

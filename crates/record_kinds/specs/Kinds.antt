@@ -1,23 +1,24 @@
--- The kinds of record (01:7-9; 02:CR 1, CR 3, CR 4, CR 6): what a sheet of each kind holds, and the length that a record is to have. Definitions only.
+-- The kinds of record (01:7-9; 02:CR 1, CR 3, CR 4, CR 6, CR 8): what a sheet of each kind holds, and the length that a record is to have. Definitions only.
 use Prim.Native.Nat.{ℕ, _+_, _*_}
 use mathlib.Core.Bool.{Bool, cond, _||_}
 use mathlib.Core.List.{List, [], _∷_}
 use lib.ListN.{getD}
 use lib.Dec.{eqb}
-use Rattle.form.specs.Limits.{rateLimit, sheetMonths, rateCount, yieldsStart, ratesStart}
+use Rattle.form.specs.Limits.{rateLimit, sheetMonths, rateCount, yieldsStart, ratesStart, liborStart}
 use Rattle.record_kinds.specs.declared.SheetKind.{SheetKind}
 use Rattle.record_fields.specs.Records.{recordKind, tierCount}
 
 -- the kinds are below this number
 abbrev pub kindCount : ℕ
-kindCount = 8
+kindCount = 9
 
 -- a sheet of so many numbers, 2 bytes each, up to a limit, which stand from `start` on in the list of the numbers of all sheets
 unfoldable pub sheetOf : ℕ → ℕ → ℕ → SheetKind
 sheetOf numbers limit start = record { numbers = numbers; limit = limit; start = start }
 
--- The sheets by kind (01:8-9, 01:24; 02:CR 3): 2, the CD yields of months 1 to 120; 3, the flat retail rates of columns 1 to 3; 5, the retail rates of
--- months 1 to 120, column by column, where a flat one stands in each month of its column. A kind that is no sheet holds no number
+-- The sheets by kind (01:8-9, 01:24; 02:CR 3, CR 8): 2, the CD yields of months 1 to 120; 3, the flat retail rates of columns 1 to 3; 5, the retail rates of
+-- months 1 to 120, column by column, where a flat one stands in each month of its column; 8, the LIBOR yields of months 1 to 120. A kind that is no sheet
+-- holds no number
 unfoldable pub sheetKinds : List SheetKind
 sheetKinds =
     sheetOf 0 0 0
@@ -28,6 +29,7 @@ sheetKinds =
     ∷ sheetOf rateCount rateLimit ratesStart
     ∷ sheetOf 0 0 0
     ∷ sheetOf 0 0 0
+    ∷ sheetOf sheetMonths rateLimit liborStart
     ∷ []
 
 unfoldable pub sheetKind : ℕ → SheetKind
@@ -65,6 +67,10 @@ flatRatesKind = 3
 
 abbrev pub ratePathKind : ℕ
 ratePathKind = 5
+
+-- the kind of the LIBOR yields (02:CR 8)
+abbrev pub liborKind : ℕ
+liborKind = 8
 
 -- the kind of the tiers (02:CR 1)
 abbrev pub tiersKind : ℕ

@@ -1,6 +1,7 @@
 // The kinds of record: what a sheet of each kind holds, and the length that a record is to have.
 pub mod items;
 
+use form::limits::LIBOR_START;
 use form::limits::RATE_LIMIT;
 use form::limits::RATES;
 use form::limits::RATES_START;
@@ -12,9 +13,9 @@ ghost use mathlib.Core.Path.{_≡_};
 ghost use Rattle.record_kinds.specs.Kinds.{givesCell, namesCell, sheetOf, sheetKind, dueLength};
 
 // The kinds of record are below this number.
-pub const KINDS: usize = 8;
+pub const KINDS: usize = 9;
 
-// The kinds: a cell, CD yields, flat retail rates, tiers, retail rates by month, a coupon in thousandths, an amendment.
+// The kinds: a cell, CD yields, flat retail rates, tiers, retail rates by month, a coupon in thousandths, an amendment, LIBOR yields.
 pub const CELL_KIND: usize = 1;
 
 pub const YIELDS_KIND: usize = 2;
@@ -28,6 +29,8 @@ pub const RATE_PATH_KIND: usize = 5;
 pub const FINE_COUPON_KIND: usize = 6;
 
 pub const AMENDMENT_KIND: usize = 7;
+
+pub const LIBOR_KIND: usize = 8;
 
 // A kind of sheet: how many numbers it holds, 2 bytes each, the largest that each may be, and where the first stands in the array of the numbers of all
 // sheets. One that is no sheet holds none.
@@ -50,6 +53,7 @@ pub fn sheet_kind(kind: usize) -> SheetKind
         5 => sheet_of(RATES as u16, RATE_LIMIT, RATES_START),
         6 => sheet_of(0, 0, 0),
         7 => sheet_of(0, 0, 0),
+        8 => sheet_of(SHEET_MONTHS as u16, RATE_LIMIT, LIBOR_START),
         _ => sheet_of(0, 0, 0),
     }
 }

@@ -7,7 +7,8 @@ use mathlib.Core.Bool.{Bool, true, false, cond, not, _||_, true≢false}
 use mathlib.Core.List.{List}
 use borrow.Author.Tests.{ltb-false, eqb-true, eqb-false, eq-eqb, ne-eqb}
 use lib.Dec.{ltb, eqb}
-use Rattle.form.specs.Limits.{cellClass, classLimit}
+use Rattle.form.specs.Limits.{classLimit}
+use Rattle.form.specs.Classes.{cellClass}
 use Rattle.record_fields.specs.Records.{recordKind, recordCell, recordValue, amendmentNumber, amendmentState, amendmentValue, sheetNumber}
 use Rattle.record_kinds.specs.Kinds.{cellKind, fineCouponKind, givesCell, amendmentKind, sheetOf, sheetKinds, sheetKind}
 use Rattle.record_limits.specs.Bodies.{valueLimit, unfitFor, unfitAmendment, numberOver, overLimit}

@@ -4,7 +4,8 @@ use mathlib.Core.Bool.{Bool, true, cond, not}
 use mathlib.Core.List.{List}
 use lib.Dec.{ltb, eqb}
 use Rattle.lists.specs.Tables.{anyBelow}
-use Rattle.form.specs.Limits.{couponLimit, cellClass, classLimit}
+use Rattle.form.specs.Limits.{couponLimit, classLimit}
+use Rattle.form.specs.Classes.{cellClass}
 use Rattle.record_fields.specs.Records.{recordKind, recordCell, recordValue, amendmentNumber, amendmentState, amendmentValue, sheetNumber}
 use Rattle.record_kinds.specs.Kinds.{fineCouponKind, givesCell, amendmentKind, sheetKind}
 

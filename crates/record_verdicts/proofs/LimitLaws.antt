@@ -3,40 +3,25 @@
 use Prim.Native.Nat.{ℕ}
 use mathlib.Core.Path.{_≡_, refl, sym, _∙_}
 use mathlib.Core.Bool.{Bool, true, false, cond}
-use mathlib.Core.List.{List, [], _∷_, map}
+use mathlib.Core.List.{List}
 use borrow.Author.Tests.{eqb-true, eq-eqb}
 use lib.Dec.{eqb}
-use Rattle.lists.specs.Tables.{contains}
-use Rattle.lists.proofs.TestLaws.{either}
-use Rattle.form.specs.declared.Position.{Position}
-use Rattle.form.specs.Cells.{positions, brokeredCell, penaltyBalanceCell, penaltyMonthsCell, totalCell, unusedCells}
-use Rattle.form.specs.Limits.{couponClass, couponLimit, cellClass, classLimit}
+use Rattle.lists.proofs.EachLaws.{each-lt}
+use Rattle.form.specs.Limits.{couponClass, couponLimit, classLimit}
+use Rattle.form.specs.Classes.{cellClass, classCount}
+use Rattle.form.proofs.ClassLaws.{class-lt}
 use Rattle.record_fields.specs.Records.{recordKind, recordCell}
 use Rattle.record_kinds.specs.Kinds.{fineCouponKind, amendmentKind}
 use Rattle.record_kinds.specs.Items.{recordClass}
 use Rattle.record_limits.specs.Bodies.{valueLimit}
 use Rattle.record_verdicts.specs.Inner.SoundRecords.{mostIn}
 
--- what holds of each class holds of the class of a cell: the class is found by eight tests in a row, and in either case of each the class is
--- one of those, the last being none
-of-class : (P : ℕ → Type 0) → P 0 → P 1 → P 2 → P 3 → P 4 → P 5 → P 6 → P 7 → (cell : ℕ) → P (cellClass cell)
-unfolding cellClass
-of-class P p0 p1 p2 p3 p4 p5 p6 p7 cell =
-    either P (contains (map (λ (p : Position). p .balance) positions) cell) p1
-    (either P (contains (map (λ (p : Position). p .coupon) positions) cell) p2
-    (either P (contains (map (λ (p : Position). p .months) positions) cell) p3
-    (either P (contains (map brokeredCell columns) cell) p4
-    (either P (contains (map penaltyBalanceCell columns) cell) p4
-    (either P (contains (map penaltyMonthsCell columns) cell) p5
-    (either P (eqb cell totalCell) p6
-    (either P (contains unusedCells cell) p7 p0)))))))
-  where
-    columns : List ℕ
-    columns = 1 ∷ 2 ∷ 3 ∷ []
-
+-- the limit of a class is 0 just where it is no cell's: each of the classes by itself
 limit-listed : (cell : ℕ) → eqb (classLimit (cellClass cell)) 0 ≡ eqb (cellClass cell) 0
 unfolding classLimit
-limit-listed = of-class (λ (class : ℕ). eqb (classLimit class) 0 ≡ eqb class 0) refl refl refl refl refl refl refl refl
+limit-listed cell =
+    each-lt classCount (λ (class : ℕ). eqb (classLimit class) 0 ≡ eqb class 0)
+    (refl, (refl, (refl, (refl, (refl, (refl, (refl, (refl, (refl, (refl, (refl, (refl, tt)))))))))))) (cellClass cell) (class-lt cell)
 
 -- the largest value of a record's cell is 0 just where the cell is not listed for its kind
 module _ (s : List ℕ) (at : ℕ) where

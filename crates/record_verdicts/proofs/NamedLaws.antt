@@ -10,7 +10,8 @@ use lib.Dec.{eqb}
 use lib.ListN.{length, getD}
 use Rattle.form.specs.Cells.{firstCell}
 use Rattle.answers.specs.Verdict.{accepted, refusedIf, firstRefusal, firstOf}
-use Rattle.form.specs.Limits.{cellClass, classLimit}
+use Rattle.form.specs.Limits.{classLimit}
+use Rattle.form.specs.Classes.{cellClass}
 use Rattle.record_fields.specs.Bytes.{numberAt}
 use Rattle.record_fields.specs.Records.{recordLength, recordKind, recordCell, recordValue, nextRecord}
 use Rattle.record_kinds.specs.Kinds.{cellKind, flatRatesKind, tiersKind, ratePathKind, fineCouponKind, amendmentKind, givesCell, namesCell, dueLength}

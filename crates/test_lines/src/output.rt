@@ -1,4 +1,5 @@
 // Lines of text and numbers on standard output.
+use form::sub_balances::SCENARIOS;
 use form::sub_balances::TOTALS_START;
 use form_scenarios::Scenario;
 use libc::STDOUT_FILENO;
@@ -38,17 +39,20 @@ pub(crate) fn scenario_lines(name: &[u8], numbers: &[u64]) {
 
 // The same from a list of totals, four for each scenario.
 pub fn total_lines(name: &[u8], totals: &[u64]) {
-    let mut scenario: usize = 0;
-    while (scenario as u64) < Scenario::COUNT {
-        text(name);
-        shift(scenario as u64);
+    for scenario in 0..SCENARIOS {
         let from = 4 * scenario;
         let end = from + 4;
         if end <= totals.len() {
-            rest_of_line(&totals[from..end]);
+            scenario_line(name, scenario as u64, &totals[from..end]);
         }
-        scenario += 1;
     }
+}
+
+// A line of a name, the shift of a scenario and numbers.
+pub(crate) fn scenario_line(name: &[u8], scenario: u64, numbers: &[u64]) {
+    text(name);
+    shift(scenario);
+    rest_of_line(numbers);
 }
 
 // The numbers of a list, each behind a space, and the line's end.

@@ -8,13 +8,13 @@ use crate::verdicts::print_counts;
 use form::sub_balances::NUMBERS;
 use form::sub_balances::PLACE_NUMBERS;
 use form::sub_balances::SUB_BALANCES;
-ghost use Prim.Native.Nat.{_<_};
+ghost use Prim.Native.Nat.{_<_, _≤_};
 ghost use Rattle.form.specs.PlaceOrder.{subBalanceCount};
 
 // On acceptance the 568 numbers; and how many of those past them, or on a refusal of all, are still 7.
 pub fn print_left(list: &[u64], is_accepted: bool) {
     if is_accepted {
-        print_values(list);
+        print_rows(b"value", list, SUB_BALANCES);
         scenario_lines(b"total ", list);
         print_rest(list, NUMBERS);
     } else {
@@ -23,7 +23,7 @@ pub fn print_left(list: &[u64], is_accepted: bool) {
 }
 
 // How many numbers are past the first `written`, and how many of them are 7.
-fn print_rest(list: &[u64], written: usize) {
+pub(crate) fn print_rest(list: &[u64], written: usize) {
     if written <= list.len() {
         let rest = &list[written..];
         print_counts(rest.len() as u64, sevens(rest));
@@ -39,27 +39,29 @@ fn sevens(list: &[u64]) -> u64 {
     count
 }
 
-// The fifteen numbers of each of the 36 places.
-fn print_values(list: &[u64]) {
-    for place in 0..SUB_BALANCES {
-        print_place(list, place);
+// The fifteen numbers of each of the first `count` places, behind a name.
+pub(crate) fn print_rows(name: &[u8], list: &[u64], count: usize)
+    requires { ⌜ count ≤ subBalanceCount ⌝ }
+{
+    for place in 0..count {
+        print_place(name, list, place);
     }
 }
 
 // A place's numbers, where one of them is not 0.
-fn print_place(list: &[u64], place: usize)
+fn print_place(name: &[u8], list: &[u64], place: usize)
     requires { ⌜ place < subBalanceCount ⌝ }
 {
     let from = PLACE_NUMBERS * place;
     let end = from + PLACE_NUMBERS;
     if end <= list.len() {
-        print_row(place as u64, &list[from..end]);
+        print_row(name, place as u64, &list[from..end]);
     }
 }
 
-fn print_row(place: u64, row: &[u64]) {
+fn print_row(name: &[u8], place: u64, row: &[u64]) {
     if any_number(row) {
-        text(b"value");
+        text(name);
         next_number(place);
         rest_of_line(row);
     }

@@ -1,6 +1,8 @@
-// The cells of Schedule CMR that the valuation reads: nine balances, ascending, each with its WAC
-// (coupon), its WARM (remaining months), its column and the months of its row.
+// The cells of Schedule CMR that the valuation reads: the limit of each; and of certificates the nine
+// balances, ascending, each with its WAC (coupon), its WARM (remaining months), its column and the
+// months of its row.
 use crate::arith::LARGEST;
+use crate::arith::chosen;
 use crate::arith::sub;
 use crate::bytes::letter;
 
@@ -48,19 +50,34 @@ pub fn entry(table: &[u64], k: u64) -> u64 {
     if i < table.len() { table[i] } else { 0 }
 }
 
-// The largest value that a filing may have in a cell; 0 for a cell that it may not have. Cells 601
-// to 661 hold a balance, a coupon (WAC), months (WARM), the total, a brokered or penalty share of a
-// column, a penalty, or any value; the others are -.
+// The largest value that a filing may have in a cell; 0 for a cell that it may not have. A cell has
+// a balance, a coupon (WAC), months (WARM), the total, a brokered or penalty share of a column, a
+// penalty, or any value; borrowings have a WAC of their own kind and a total U. The others are -.
 pub fn limit(cell: u64) -> u64 {
-    let classes = b"-BBBXCCCMMM----BBBXCCCMMM------BBXCCMM---BXCMT----SSSSSSPPPXXX";
-    match letter(classes, sub(cell, 600)) {
+    match class_of(cell) {
         b'B' => 999999999,
-        b'C' => MOST_COUPON,
+        b'C' | b'W' => MOST_COUPON,
         b'M' => 120,
         b'T' => 8999999991,
+        b'U' => 23999999976,
         b'S' => 3999999996,
         b'P' => 3600,
         b'X' => LARGEST,
         _ => 0,
+    }
+}
+
+// The largest coupon in thousandths of a percent; 0 for a cell that has no such coupon.
+pub fn fine_limit(cell: u64) -> u64 {
+    chosen(class_of(cell) == b'C', 15000, 0)
+}
+
+// The class of a cell: those of certificates from 601 on, those of borrowings from 675 on.
+fn class_of(cell: u64) -> u8 {
+    if cell < 675 {
+        let classes = b"-BBBXCCCMMM----BBBXCCCMMM------BBXCCMM---BXCMT----SSSSSSPPPXXX";
+        letter(classes, sub(cell, 600))
+    } else {
+        letter(b"BBBWBBBWBBBWBBBWBBBWBBBWBBBWBBBW----MMM-U", sub(cell, 675))
     }
 }

@@ -1,5 +1,5 @@
-// The entries of standard input. An entry is the number of a call, the length of its list of
-// numbers, that of its list of places and that of its input, 4 bytes each, and the input.
+// The entries of standard input. An entry is the number of a call, the length of its first list, that
+// of its second list and that of its input, 4 bytes each, and the input.
 use crate::bytes::number;
 use crate::calls::print_call;
 use crate::lines::print_line;

@@ -1,9 +1,12 @@
-// What is printed of sub-balances, of a filing or of a book.
+// What is printed of sub-balances, of a filing or of a book, and of borrowings.
 use crate::arith::mul;
 use crate::arith::sub;
+use crate::borrowings::nth_borrowing;
+use crate::cells::entry;
 use crate::lines::print;
 use crate::lines::print_line;
 use crate::lines::print_numbers;
+use crate::pricing::borrowed_bounds;
 use crate::pricing::bounds_of;
 use crate::pricing::totals_of;
 use crate::shares::SubBalance;
@@ -29,6 +32,29 @@ pub fn print_totals(s: &[u8], survivals: &[u64], name: &[u8], calls: &[u8], coun
         print(name);
         print_shift(scenario);
         print_line(b"", &totals_of(s, survivals, calls, count, scenario));
+    }
+}
+
+// The balance and the values of each borrowing whose balance is not zero, and their totals.
+pub fn print_borrowings(s: &[u8]) {
+    for k in 0..24 {
+        let balance = nth_borrowing(s, k).balance;
+        if balance != 0 {
+            print_numbers(b"borrowing", &[k, balance]);
+            print_line(b"", &borrowed_bounds(s, k, 1));
+        }
+    }
+    let totals = borrowed_bounds(s, 0, 24);
+    print_borrowed(&totals);
+}
+
+// The lower and the upper total of each scenario.
+fn print_borrowed(totals: &[u64]) {
+    for scenario in 0..7 {
+        let at = scenario << 1;
+        print(b"borrowings ");
+        print_shift(scenario);
+        print_line(b"", &[entry(totals, at), entry(totals, at | 1)]);
     }
 }
 

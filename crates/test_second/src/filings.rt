@@ -1,6 +1,7 @@
 // What is printed of a filing: its values, its sub-balances and its listing.
 use crate::arith::chosen;
 use crate::arith::sub;
+use crate::figures::print_borrowings;
 use crate::figures::print_bounds;
 use crate::figures::print_part;
 use crate::figures::print_totals;
@@ -9,12 +10,16 @@ use crate::lines::print_answer;
 use crate::lines::print_line;
 use crate::lines::print_numbers;
 use crate::refusals::refusal_of;
+use crate::refusals::refused_if;
 use crate::shares::sub_balance;
 
-// How many numbers the values of a filing are, and how many places its sub-balances.
+// How many numbers the values of a filing are, how many places its sub-balances, and how many numbers
+// the values of its borrowings.
 pub const NUMBERS: u64 = 568;
 
 pub const PLACES: u64 = 36;
+
+const BORROWINGS: u64 = 374;
 
 // Values a filing, with a list of `length` numbers of which NUMBERS are needed, or splits it, with a
 // list of `length` places of which PLACES are needed. The rest stands last: how many places of the list
@@ -28,6 +33,26 @@ pub fn print_list(s: &[u8], survivals: &[u64], length: u64, needed: u64) {
         PLACES => print_shares(s),
         _ => {}
     }
+    print_rest(length, written);
+}
+
+// Values a filing with a list for its certificates and one for its borrowings, of as many numbers each.
+pub fn print_both(s: &[u8], survivals: &[u64], numbers: u64, borrowings: u64) {
+    let later = refusal_of(s, borrowings, BORROWINGS);
+    let refusal = refused_if(numbers < NUMBERS, 10, numbers, later);
+    print_answer(refusal.number, refusal.location);
+    if refusal.number == 0 {
+        print_values(s, survivals);
+        print_rest(numbers, NUMBERS);
+        print_borrowings(s);
+        print_rest(borrowings, BORROWINGS);
+    } else {
+        print_rest(numbers, 0);
+        print_rest(borrowings, 0);
+    }
+}
+
+fn print_rest(length: u64, written: u64) {
     let rest = sub(length, written);
     print_line(b"rest", &[rest, rest]);
 }

@@ -7,6 +7,7 @@ mod arith;
 mod bytes;
 mod cells;
 // What a filing says, and why it is refused.
+mod borrowings;
 mod records;
 mod refusals;
 mod tiers;

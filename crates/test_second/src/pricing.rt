@@ -1,11 +1,13 @@
-// The price of a sub-balance in parts of 10^9, and its value in dollars. Each line of the monthly
-// run is rounded once, down for the lower figure and up for the upper one.
+// The price of a sub-balance, or of a borrowing, in parts of 10^9, and its value in dollars. Each line
+// of the monthly run is rounded once, down for the lower figure and up for the upper one.
 use crate::arith::add;
 use crate::arith::chosen;
 use crate::arith::mul;
 use crate::arith::scaled;
 use crate::arith::sub;
 use crate::book_calls::held;
+use crate::borrowings::nth_borrowing;
+use crate::records::LIBOR;
 use crate::records::YIELDS;
 use crate::records::retail_rate;
 use crate::records::sheet_number;
@@ -76,16 +78,51 @@ fn run_month(
     let servicing = chosen(part.brokered, 19000, 175000);
     let out = scaled(run.balance, add(servicing, sub(WHOLE, q)), WHOLE, up);
     let flow = add(out, chosen(left == 0, after, 0));
-    let factor = discount_factor(s, month, scenario, up);
+    let factor = discount_factor(s, YIELDS, month, scenario, up);
     Run {
         balance: after,
         price: add(run.price, scaled(flow, factor, WHOLE, up)),
     }
 }
 
-// 120,000 / (120,000 + z) to the power of the month, z its shifted yield, rounded after each factor.
-fn discount_factor(s: &[u8], month: u64, scenario: u64, up: bool) -> u64 {
-    let z = shifted(sheet_number(s, YIELDS, month), scenario);
+// The lower and the upper value in each scenario of `count` borrowings together, from the first one on.
+pub fn borrowed_bounds(s: &[u8], first: u64, count: u64) -> [u64; 14] {
+    let mut bounds = [0u64; 14];
+    for i in 0..14usize {
+        let scenario = (i / 2) as u64;
+        bounds[i] = borrowed_sum(s, first, count, scenario, i % 2 == 1);
+    }
+    bounds
+}
+
+fn borrowed_sum(s: &[u8], first: u64, count: u64, scenario: u64, up: bool) -> u64 {
+    let mut sum = 0;
+    for i in 0..count {
+        sum = add(sum, borrowed_value(s, add(first, i), scenario, up));
+    }
+    sum
+}
+
+// The value of the k-th borrowing: interest each month, and the balance in the last, nothing of it
+// withdrawn and no servicing.
+fn borrowed_value(s: &[u8], k: u64, scenario: u64, up: bool) -> u64 {
+    let part = nth_borrowing(s, k);
+    let interest = scaled(WHOLE, part.coupon, 120000, up);
+    let months = chosen(part.balance == 0, 0, part.months);
+    let mut price = 0;
+    for t in 0..months {
+        let month = t + 1;
+        let flow = add(interest, chosen(month == months, WHOLE, 0));
+        let factor = discount_factor(s, LIBOR, month, scenario, up);
+        price = add(price, scaled(flow, factor, WHOLE, up));
+    }
+    scaled(part.balance, price, 1000000, up)
+}
+
+// 120,000 / (120,000 + z) to the power of the month, z its shifted yield on the sheet of a kind,
+// rounded after each factor.
+fn discount_factor(s: &[u8], kind: u64, month: u64, scenario: u64, up: bool) -> u64 {
+    let z = shifted(sheet_number(s, kind, month), scenario);
     let mut factor = WHOLE;
     for _ in 0..month {
         factor = scaled(factor, 120000, add(120000, z), up);

@@ -25,6 +25,8 @@ pub const FINE: u64 = 6;
 
 pub const AMENDMENT: u64 = 7;
 
+pub const LIBOR: u64 = 8;
+
 // A cell's value, 0 where the filing does not have the cell or has withdrawn it, which leaves 0 in
 // the record.
 pub fn value(s: &[u8], cell: u64) -> u64 {

@@ -1,16 +1,23 @@
 // Why a filing is refused: the number of the refusal and its location. Number 0 is none.
 use crate::arith::add;
 use crate::arith::chosen;
+use crate::borrowings::BORROWED;
+use crate::borrowings::borrowed;
+use crate::borrowings::first_outside_class;
+use crate::borrowings::first_outside_term;
+use crate::borrowings::wac;
+use crate::borrowings::warm;
 use crate::bytes::number;
 use crate::cells::BALANCE;
-use crate::cells::MOST_COUPON;
 use crate::cells::TOTAL;
 use crate::cells::WARM;
+use crate::cells::fine_limit;
 use crate::cells::is_within;
 use crate::cells::known;
 use crate::cells::limit;
 use crate::records::CELL;
 use crate::records::FINE;
+use crate::records::LIBOR;
 use crate::records::PATH;
 use crate::records::RATES;
 use crate::records::TIERS;
@@ -37,7 +44,7 @@ pub fn refusal_of(s: &[u8], length: u64, needed: u64) -> Refusal {
 }
 
 // A refusal where something holds, else one that is tested later.
-fn refused_if(holds: bool, number: u64, location: u64, later: Refusal) -> Refusal {
+pub fn refused_if(holds: bool, number: u64, location: u64, later: Refusal) -> Refusal {
     Refusal {
         number: chosen(holds, number, later.number),
         location: chosen(holds, location, later.location),
@@ -57,18 +64,18 @@ fn first_faulty(s: &[u8]) -> u64 {
 }
 
 // The first fault of the record at `at`, of 1 to 5, 11, 12 and 16; at the end it is a 1, as where it
-// runs past the end or is too short for a kind. Kind 6 has coupons alone, in tenths of what the others
-// have.
+// runs past the end or is too short for a kind.
 fn record_fault(s: &[u8], at: u64) -> u64 {
-    let most = limit(number(s, at, 4, 2));
+    let cell = number(s, at, 4, 2);
     let fault = match number(s, at, 2, 2) {
-        1 => cell_fault(s, at, most),
+        1 => cell_fault(s, at, limit(cell)),
         2 => sheet_fault(s, at, YIELDS, 120, YIELDS),
         3 => sheet_fault(s, at, RATES, 3, PATH),
         4 => tiers_fault(s, at),
         5 => sheet_fault(s, at, PATH, 360, RATES),
-        6 => cell_fault(s, at, chosen(most == MOST_COUPON, 15000, 0)),
-        7 => amendment_fault(s, at, most),
+        6 => cell_fault(s, at, fine_limit(cell)),
+        7 => amendment_fault(s, at, limit(cell)),
+        8 => sheet_fault(s, at, LIBOR, 120, LIBOR),
         _ => 2,
     };
     let is_broken = (number(s, at, 0, 2) < 2) | ((s.len() as u64) < next(s, at));
@@ -126,19 +133,28 @@ fn is_rate_over(s: &[u8], at: u64, count: u64) -> bool {
     is_over
 }
 
-// Refusals 6 to 9, of a filing whose records are each in order.
+// Refusals 6, 18, 19 and 7 to 9, of a filing whose records are each in order.
 fn whole_refusal(s: &[u8]) -> Refusal {
     let none = Refusal {
         number: 0,
         location: 0,
     };
+    let all = borrowed(s, 0, 1, 24);
+    let mut refusal = refused_if(value(s, BORROWED) != all, 9, BORROWED, none);
     let is_unequal = value(s, TOTAL) != column_sum(s, 0, 9);
-    let mut refusal = refused_if(is_unequal, 9, TOTAL, none);
+    refusal = refused_if(is_unequal, 9, TOTAL, refusal);
     let excess = first_excess(s);
     refusal = refused_if(excess < 656, 8, excess, refusal);
+    let term = first_outside_term(s);
+    refusal = refused_if(term < 3, 7, warm(term), refusal);
     let k = first_misplaced(s);
     refusal = refused_if(k < 9, 7, known(k, WARM), refusal);
-    refused_if(lacks_a_sheet(s), 6, s.len() as u64, refusal)
+    let class = first_outside_class(s);
+    refusal = refused_if(class < 8, 19, wac(class), refusal);
+    let end = s.len() as u64;
+    let lacks_libor = sheet(s, LIBOR) == end;
+    refusal = refused_if(lacks_libor & (all != 0), 18, end, refusal);
+    refused_if(lacks_a_sheet(s), 6, end, refusal)
 }
 
 // Whether the yields are missing, or retail rates of either form.

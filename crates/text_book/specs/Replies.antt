@@ -36,7 +36,7 @@ placeText b place = cond (ltb place subBalanceCount) (heldLine (heldIn b place))
 
 -- the balance total, and the lines of the seven scenarios
 unfoldable pub totalsText : Book → List ℕ
-totalsText b = (decimal (b .balance) ++ (10 ∷ [])) ++ linesIn (b .totals) 0
+totalsText b = (decimal (b .balance) ++ (10 ∷ [])) ++ linesIn (b .totals) 0 4
 
 -- what is printed to a command
 unfoldable pub replyTo : Book → Command → List ℕ

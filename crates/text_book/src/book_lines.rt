@@ -94,9 +94,9 @@ fn append_numbers(
 // The balance total and the lines of the seven scenarios.
 pub(crate) fn append_totals(out: &mut [u8], balance: u64, totals: &[u64; TOTALS]) -> usize
     requires { ⌜ 644 ≤ length (now out) ⌝ }
-    ensures { λ r. ⌜ Appended (now (out .entry)) 0 ((decimal balance ++ (10 ∷ [])) ++ linesIn (now (totals .entry)) 0) (now (out .exit)) r × (r ≤ 644) ⌝ }
+    ensures { λ r. ⌜ Appended (now (out .entry)) 0 ((decimal balance ++ (10 ∷ [])) ++ linesIn (now (totals .entry)) 0 4) (now (out .exit)) r × (r ≤ 644) ⌝ }
 {
     let behind = append_number(out, 0, balance);
     let next = append_byte(out, behind, b'\n');
-    append_scenarios(out, next, totals, 0)
+    append_scenarios(out, next, totals, 0, 4)
 }

@@ -24,10 +24,14 @@ scenarioLine k scenario = signed (shift scenario) ++ restOfLine (scenarioTotals 
 unfoldable pub scenarioLines : Contents → List ℕ
 scenarioLines k = joined (table scenarioCount (scenarioLine k))
 
--- the text of a filing with its verdict: the seven lines where it is accepted, else the line of the refusal
+-- the text of a verdict: the lines of an accepted filing, else the line of the refusal
 unfoldable pub verdictText : List ℕ → Verdict → List ℕ
-verdictText s v = cond (eqb (v .number) 0) (scenarioLines (contentsOf s)) (refusalLine (v .number) (v .location))
+verdictText lines v = cond (eqb (v .number) 0) lines (refusalLine (v .number) (v .location))
 
--- the text of any input
+-- the text of any input, by the lines of what an accepted filing says
+unfoldable pub filingText : (Contents → List ℕ) → List ℕ → List ℕ
+filingText lines s = cond (ltb filingLimit (length s)) tooLong (verdictText (lines (contentsOf s)) (filingVerdict s))
+
+-- the text that the listing prints of any input
 unfoldable pub listingText : List ℕ → List ℕ
-listingText s = cond (ltb filingLimit (length s)) tooLong (verdictText s (filingVerdict s))
+listingText s = filingText scenarioLines s

@@ -1,8 +1,10 @@
 // The text that the listing prints of a filing.
+pub mod borrowings;
 pub mod total_lines;
 
 use crate::total_lines::append_scenarios;
 use answers::number;
+use form::borrowings::BORROWING_NUMBERS;
 use form::sub_balances::NUMBERS;
 use form::sub_balances::TOTALS_START;
 use text::answer_lines::append_refused;
@@ -34,9 +36,10 @@ pub fn write_listing(filing: &[u8], out: &mut [u8; 623]) -> usize
         return append_too_long(out);
     }
     let mut numbers = [0u64; NUMBERS];
-    let answer = value(filing, &mut numbers);
+    let mut borrowings = [0u64; BORROWING_NUMBERS];
+    let answer = value(filing, &mut numbers, &mut borrowings);
     if number(answer) != 0 {
         return append_refused(out, answer);
     }
-    append_scenarios(out, 0, &numbers, TOTALS_START)
+    append_scenarios(out, 0, &numbers, TOTALS_START, 4)
 }

@@ -7,7 +7,9 @@ use mathlib.Core.List.{List, [], _∷_, _++_, map}
 use Rattle.lists.specs.Sums.{sum}
 use Rattle.lists.specs.Tables.{tableFrom, those, contains, joined, anyBelow}
 use Rattle.form.specs.Cells.{position, positions, inColumn, withinRow, brokeredCell, penaltyBalanceCell, penaltyMonthsCell, unusedCells}
-use Rattle.form.specs.Limits.{cellClass, classLimit}
+use Rattle.form.specs.Limits.{classLimit}
+use Rattle.form.specs.Borrowings.{borrowing, borrowingAt, couponCell, termCell, withinClass, withinTerm}
+use Rattle.form.specs.Classes.{cellClass}
 use Rattle.answers.specs.Verdict.{accepted, refused, refusedIf, firstRefusal, firstOf}
 use Rattle.record_fields.specs.Bytes.{numberAt}
 use Rattle.record_fields.specs.Records.{nextRecord, searchRecords, firstRecord}
@@ -25,8 +27,11 @@ use Rattle.filing_contents.specs.Amounts.{filedValue, amountAt}
 use Rattle.filing_contents.specs.Sheets.{tierNumber, tiersAt}
 use Rattle.filing_decode.specs.Contents.{cellOffset, cellValue, sheetOffset, rateNumber, contentsOf}
 use Rattle.filing_contents.specs.Contents.{Contents, cell}
-use Rattle.filing.specs.RequiredSheets.{sheetMissing, sheetVerdict}
+use Rattle.filing.specs.RequiredSheets.{sheetMissing, sheetVerdict, liborMissing, liborVerdict}
 use Rattle.filing.specs.Verdict.{filingVerdict}
+use Rattle.filing_cells.specs.BorrowingConditions.{filled, someBorrowed, classBorrowed, termBorrowed, couponOutside, termOutside, borrowings, borrowingsDiffer}
+use Rattle.filing_cells.specs.BorrowingVerdicts.{couponVerdict, couponsVerdict, termVerdict, termsVerdict, borrowingsVerdict}
+use Rattle.lists.specs.Ranges.{within}
 use Rattle.theorem_cases.specs.Filings.{bytes, filed, fined, amendment, complete, Case, gives}
 
 -- 2, 3 and 5 at an amendment: its length, a cell that is not listed, number 0, another state, a withdrawn value, its limit and one over, an unused cell
@@ -84,7 +89,7 @@ cases = body-cases ++ order-cases ++ survivor-cases
 
 -- every case holds
 verdicts-hold : map (λ (c : Case). filingVerdict (c .input)) cases ≡ map (λ (c : Case). c .verdict) cases
-unfolding numberAt nextRecord searchRecords firstRecord givesCell namesCell sheetOf sheetKinds sheetKind sheetLength dueLength sameItem recordClass recordItem firstWith itemRank counting countsFrom countingBefore incomplete standsBefore sheetBefore pathBesideFlat anyBelow valueLimit unfitFor unfitAmendment numberOver overLimit unfitTier unsoundTiers cellClass classLimit contains position positions brokeredCell penaltyBalanceCell penaltyMonthsCell unusedCells firstRefused verdictBy sheetOffset sheetMissing filingVerdict refused filedValue amountAt cellOffset cellValue contentsOf rateNumber tiersAt tierNumber cellIn monthsOutside columnBalances balances aboveColumn totalDiffers sum those inColumn withinRow sheetVerdict positionVerdict monthsVerdict columnVerdict columnsVerdict totalVerdict cellsVerdict shapeVerdict bodyVerdict recordVerdict accepted refusedIf firstRefusal firstOf tableFrom joined
+unfolding numberAt nextRecord searchRecords firstRecord givesCell namesCell sheetOf sheetKinds sheetKind sheetLength dueLength sameItem recordClass recordItem firstWith itemRank counting countsFrom countingBefore incomplete standsBefore sheetBefore pathBesideFlat anyBelow valueLimit unfitFor unfitAmendment numberOver overLimit unfitTier unsoundTiers cellClass classLimit contains position positions brokeredCell penaltyBalanceCell penaltyMonthsCell unusedCells firstRefused verdictBy sheetOffset sheetMissing filingVerdict refused filedValue amountAt cellOffset cellValue contentsOf rateNumber tiersAt tierNumber cellIn monthsOutside columnBalances balances aboveColumn totalDiffers sum those inColumn withinRow sheetVerdict positionVerdict monthsVerdict columnVerdict columnsVerdict totalVerdict cellsVerdict shapeVerdict bodyVerdict recordVerdict accepted refusedIf firstRefusal firstOf tableFrom joined borrowing borrowingAt couponCell termCell liborMissing liborVerdict filled someBorrowed classBorrowed termBorrowed couponOutside termOutside borrowings borrowingsDiffer couponVerdict couponsVerdict termVerdict termsVerdict borrowingsVerdict withinClass withinTerm within
 verdicts-hold = refl
 
 -- the record that counts: the highest number wherever it stands, kinds 1 and 6 as number 0, withdrawn as absent, a coupon tenfold
@@ -97,5 +102,5 @@ sample =
 sample-holds :
     cell sample 601 ∷ cell sample 602 ∷ cell sample 603 ∷ cell sample 605 ∷ cell sample 606 ∷ cell sample 607 ∷ cell sample 608 ∷ []
     ≡ 30 ∷ 0 ∷ 7 ∷ 1000 ∷ 0 ∷ 77 ∷ 0 ∷ []
-unfolding numberAt nextRecord searchRecords firstRecord givesCell namesCell sheetOf sheetKinds sheetKind sheetLength dueLength sameItem recordClass recordItem firstWith itemRank counting countsFrom countingBefore cellClass contains position positions brokeredCell penaltyBalanceCell penaltyMonthsCell unusedCells filedValue amountAt cellOffset cellValue sheetOffset contentsOf rateNumber tiersAt tierNumber cellIn tableFrom joined
+unfolding numberAt nextRecord searchRecords firstRecord givesCell namesCell sheetOf sheetKinds sheetKind sheetLength dueLength sameItem recordClass recordItem firstWith itemRank counting countsFrom countingBefore cellClass contains position positions brokeredCell penaltyBalanceCell penaltyMonthsCell unusedCells filedValue amountAt cellOffset cellValue sheetOffset contentsOf rateNumber tiersAt tierNumber cellIn tableFrom joined borrowing borrowingAt couponCell termCell
 sample-holds = refl

@@ -5,4 +5,6 @@ pub mod MonthCases
 pub mod RefusalCases
 pub mod AmendmentCases
 pub mod RequestCases
+pub mod BorrowingCases
+pub mod BorrowingPriceCases
 pub mod PlaceCases

@@ -8,7 +8,9 @@ use lib.ListN.{getD}
 use Rattle.lists.specs.Sums.{sum}
 use Rattle.lists.specs.Tables.{tableFrom, those, contains, joined, anyBelow}
 use Rattle.form.specs.Cells.{position, positions, inColumn, withinRow, brokeredCell, penaltyBalanceCell, penaltyMonthsCell, unusedCells}
-use Rattle.form.specs.Limits.{cellClass, classLimit}
+use Rattle.form.specs.Limits.{classLimit}
+use Rattle.form.specs.Borrowings.{borrowing, borrowingAt, couponCell, termCell, withinClass, withinTerm}
+use Rattle.form.specs.Classes.{cellClass}
 use Rattle.form.specs.Shift.{pathRate}
 use Rattle.answers.specs.Verdict.{accepted, refused, refusedIf, firstRefusal, firstOf, listVerdict}
 use Rattle.record_fields.specs.Bytes.{numberAt}
@@ -20,6 +22,9 @@ use Rattle.record_limits.specs.Bodies.{valueLimit, unfitFor, unfitAmendment, nu
 use Rattle.record_limits.specs.TierFaults.{unfitTier, unsoundTiers}
 use Rattle.record_shape.specs.Faults.{incomplete, standsBefore, sheetBefore, pathBesideFlat}
 use Rattle.record_verdicts.specs.RecordVerdicts.{shapeVerdict, bodyVerdict, recordVerdict, firstRefused, verdictBy}
+use Rattle.filing_cells.specs.BorrowingConditions.{filled, someBorrowed, classBorrowed, termBorrowed, couponOutside, termOutside, borrowings, borrowingsDiffer}
+use Rattle.filing_cells.specs.BorrowingVerdicts.{couponVerdict, couponsVerdict, termVerdict, termsVerdict, borrowingsVerdict}
+use Rattle.lists.specs.Ranges.{within}
 use Rattle.theorem_cases.specs.Filings.{bytes, filed, yieldSheet, rateSheet, tierSheet, complete, Case, gives}
 use Rattle.filing_cells.specs.Balances.{cellIn, columnBalances, balances}
 use Rattle.filing_cells.specs.Conditions.{monthsOutside, aboveColumn, totalDiffers}
@@ -27,7 +32,7 @@ use Rattle.filing_contents.specs.Amounts.{filedValue, amountAt}
 use Rattle.filing_contents.specs.Sheets.{tierNumber, tiersAt}
 use Rattle.filing_decode.specs.Contents.{cellOffset, cellValue, sheetOffset, rateNumber, contentsOf}
 use Rattle.filing_contents.specs.Contents.{Contents, cell, cdYield, retailRate}
-use Rattle.filing.specs.RequiredSheets.{sheetMissing, sheetVerdict}
+use Rattle.filing.specs.RequiredSheets.{sheetMissing, sheetVerdict, liborMissing, liborVerdict}
 use Rattle.filing.specs.Verdict.{filingVerdict}
 use Rattle.filing_cells.specs.CellVerdicts.{positionVerdict, monthsVerdict, columnVerdict, columnsVerdict, totalVerdict, cellsVerdict}
 
@@ -178,7 +183,7 @@ cases = shape-cases ++ cell-cases ++ sheet-cases ++ tier-cases ++ months-cases +
 
 -- every case holds
 verdicts-hold : map (λ (c : Case). filingVerdict (c .input)) cases ≡ map (λ (c : Case). c .verdict) cases
-unfolding numberAt nextRecord searchRecords firstRecord givesCell namesCell sheetOf sheetKinds sheetKind sheetLength dueLength sameItem recordClass recordItem firstWith itemRank counting countsFrom countingBefore incomplete standsBefore sheetBefore pathBesideFlat anyBelow valueLimit unfitFor unfitAmendment numberOver overLimit unfitTier unsoundTiers cellClass classLimit contains position positions brokeredCell penaltyBalanceCell penaltyMonthsCell unusedCells firstRefused verdictBy sheetOffset sheetMissing filingVerdict refused filedValue amountAt cellOffset cellValue contentsOf rateNumber tiersAt tierNumber cellIn monthsOutside columnBalances balances aboveColumn totalDiffers sum those inColumn withinRow sheetVerdict positionVerdict monthsVerdict columnVerdict columnsVerdict totalVerdict cellsVerdict shapeVerdict bodyVerdict recordVerdict accepted refusedIf firstRefusal firstOf tableFrom joined
+unfolding numberAt nextRecord searchRecords firstRecord givesCell namesCell sheetOf sheetKinds sheetKind sheetLength dueLength sameItem recordClass recordItem firstWith itemRank counting countsFrom countingBefore incomplete standsBefore sheetBefore pathBesideFlat anyBelow valueLimit unfitFor unfitAmendment numberOver overLimit unfitTier unsoundTiers cellClass classLimit contains position positions brokeredCell penaltyBalanceCell penaltyMonthsCell unusedCells firstRefused verdictBy sheetOffset sheetMissing filingVerdict refused filedValue amountAt cellOffset cellValue contentsOf rateNumber tiersAt tierNumber cellIn monthsOutside columnBalances balances aboveColumn totalDiffers sum those inColumn withinRow sheetVerdict positionVerdict monthsVerdict columnVerdict columnsVerdict totalVerdict cellsVerdict shapeVerdict bodyVerdict recordVerdict accepted refusedIf firstRefusal firstOf tableFrom joined borrowing borrowingAt couponCell termCell liborMissing liborVerdict filled someBorrowed classBorrowed termBorrowed couponOutside termOutside borrowings borrowingsDiffer couponVerdict couponsVerdict termVerdict termsVerdict borrowingsVerdict withinClass withinTerm within
 verdicts-hold = refl
 
 -- what a filing says: cells that are present and absent, the ends of the yields and of the rates, and reads beyond them
@@ -191,7 +196,7 @@ contents-hold :
     ∷ retailRate sample 3 120 ∷ sample .tiers .count ∷ getD (sample .tiers .edges) 1 0 ∷ getD (sample .tiers .withdrawals) 0 0
     ∷ getD (sample .tiers .withdrawals) 2 0 ∷ []
     ≡ 0 ∷ 10 ∷ 0 ∷ 20 ∷ 0 ∷ 10 ∷ 1200 ∷ 0 ∷ 100 ∷ 300 ∷ 2 ∷ 100 ∷ 40 ∷ 0 ∷ []
-unfolding numberAt nextRecord searchRecords firstRecord givesCell namesCell sheetOf sheetKinds sheetKind sheetLength dueLength sameItem recordClass recordItem firstWith itemRank counting countsFrom countingBefore cellClass contains position positions brokeredCell penaltyBalanceCell penaltyMonthsCell unusedCells filedValue amountAt cellOffset cellValue sheetOffset contentsOf tiersAt tierNumber cellIn cdYield pathRate rateNumber tableFrom joined
+unfolding numberAt nextRecord searchRecords firstRecord givesCell namesCell sheetOf sheetKinds sheetKind sheetLength dueLength sameItem recordClass recordItem firstWith itemRank counting countsFrom countingBefore cellClass contains position positions brokeredCell penaltyBalanceCell penaltyMonthsCell unusedCells filedValue amountAt cellOffset cellValue sheetOffset contentsOf tiersAt tierNumber cellIn cdYield pathRate rateNumber tableFrom joined borrowing borrowingAt couponCell termCell
 contents-hold = refl
 
 -- 10 comes before the verdict on the filing, at the list's length

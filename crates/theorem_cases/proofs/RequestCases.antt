@@ -7,7 +7,9 @@ use mathlib.Core.List.{List, [], _∷_, _++_, map}
 use Rattle.lists.specs.Sums.{sum}
 use Rattle.lists.specs.Tables.{tableFrom, those, contains, joined, anyBelow}
 use Rattle.form.specs.Cells.{position, positions, inColumn, withinRow, brokeredCell, penaltyBalanceCell, penaltyMonthsCell, unusedCells}
-use Rattle.form.specs.Limits.{cellClass, classLimit}
+use Rattle.form.specs.Limits.{classLimit}
+use Rattle.form.specs.Borrowings.{borrowing, borrowingAt, couponCell, termCell, withinClass, withinTerm}
+use Rattle.form.specs.Classes.{cellClass}
 use Rattle.form.specs.Shift.{pathRate}
 use Rattle.answers.specs.Verdict.{accepted, refused, refusedIf, firstRefusal, firstOf}
 use Rattle.record_fields.specs.Bytes.{numberAt}
@@ -26,8 +28,11 @@ use Rattle.filing_contents.specs.Amounts.{filedValue, amountAt}
 use Rattle.filing_contents.specs.Sheets.{tierNumber, tiersAt}
 use Rattle.filing_decode.specs.Contents.{cellOffset, cellValue, sheetOffset, rateNumber, contentsOf}
 use Rattle.filing_contents.specs.Contents.{Contents, cell, retailRate}
-use Rattle.filing.specs.RequiredSheets.{sheetMissing, sheetVerdict}
+use Rattle.filing.specs.RequiredSheets.{sheetMissing, sheetVerdict, liborMissing, liborVerdict}
 use Rattle.filing.specs.Verdict.{filingVerdict}
+use Rattle.filing_cells.specs.BorrowingConditions.{filled, someBorrowed, classBorrowed, termBorrowed, couponOutside, termOutside, borrowings, borrowingsDiffer}
+use Rattle.filing_cells.specs.BorrowingVerdicts.{couponVerdict, couponsVerdict, termVerdict, termsVerdict, borrowingsVerdict}
+use Rattle.lists.specs.Ranges.{within}
 use Rattle.theorem_cases.specs.Filings.{bytes, filed, yieldSheet, rateSheet, pathSheet, fined, complete, Case, gives}
 
 -- 2, 4, 12, 5 and 6 at the retail rates by month: a length that is not 722, the path twice, beside flat rates in both orders and over the limit besides, each
@@ -77,7 +82,7 @@ cases = path-cases ++ coupon-cases
 
 -- every case holds
 verdicts-hold : map (λ (c : Case). filingVerdict (c .input)) cases ≡ map (λ (c : Case). c .verdict) cases
-unfolding numberAt nextRecord searchRecords firstRecord givesCell namesCell sheetOf sheetKinds sheetKind sheetLength dueLength sameItem recordClass recordItem firstWith itemRank counting countsFrom countingBefore incomplete standsBefore sheetBefore pathBesideFlat anyBelow valueLimit unfitFor unfitAmendment numberOver overLimit unfitTier unsoundTiers cellClass classLimit contains position positions brokeredCell penaltyBalanceCell penaltyMonthsCell unusedCells firstRefused verdictBy sheetOffset sheetMissing filingVerdict refused filedValue amountAt cellOffset cellValue contentsOf rateNumber tiersAt tierNumber cellIn monthsOutside columnBalances balances aboveColumn totalDiffers sum those inColumn withinRow sheetVerdict positionVerdict monthsVerdict columnVerdict columnsVerdict totalVerdict cellsVerdict shapeVerdict bodyVerdict recordVerdict accepted refusedIf firstRefusal firstOf tableFrom joined
+unfolding numberAt nextRecord searchRecords firstRecord givesCell namesCell sheetOf sheetKinds sheetKind sheetLength dueLength sameItem recordClass recordItem firstWith itemRank counting countsFrom countingBefore incomplete standsBefore sheetBefore pathBesideFlat anyBelow valueLimit unfitFor unfitAmendment numberOver overLimit unfitTier unsoundTiers cellClass classLimit contains position positions brokeredCell penaltyBalanceCell penaltyMonthsCell unusedCells firstRefused verdictBy sheetOffset sheetMissing filingVerdict refused filedValue amountAt cellOffset cellValue contentsOf rateNumber tiersAt tierNumber cellIn monthsOutside columnBalances balances aboveColumn totalDiffers sum those inColumn withinRow sheetVerdict positionVerdict monthsVerdict columnVerdict columnsVerdict totalVerdict cellsVerdict shapeVerdict bodyVerdict recordVerdict accepted refusedIf firstRefusal firstOf tableFrom joined borrowing borrowingAt couponCell termCell liborMissing liborVerdict filled someBorrowed classBorrowed termBorrowed couponOutside termOutside borrowings borrowingsDiffer couponVerdict couponsVerdict termVerdict termsVerdict borrowingsVerdict withinClass withinTerm within
 verdicts-hold = refl
 
 -- the retail rates that a path says, at both ends of each column, and those of flat rates
@@ -91,7 +96,7 @@ rates-hold :
     retailRate by-month 1 1 ∷ retailRate by-month 1 120 ∷ retailRate by-month 2 1 ∷ retailRate by-month 2 120 ∷ retailRate by-month 3 1
     ∷ retailRate by-month 3 120 ∷ retailRate by-month 3 121 ∷ retailRate flat 1 1 ∷ retailRate flat 1 120 ∷ retailRate flat 2 1 ∷ retailRate flat 3 120 ∷ []
     ≡ 1000 ∷ 1119 ∷ 1120 ∷ 1239 ∷ 1240 ∷ 1359 ∷ 0 ∷ 1001 ∷ 1001 ∷ 1002 ∷ 1003 ∷ []
-unfolding numberAt nextRecord searchRecords firstRecord givesCell namesCell sheetOf sheetKinds sheetKind sheetLength dueLength sameItem recordClass recordItem firstWith itemRank counting countsFrom countingBefore cellClass contains position positions brokeredCell penaltyBalanceCell penaltyMonthsCell unusedCells filedValue amountAt cellOffset cellValue sheetOffset contentsOf rateNumber tiersAt tierNumber pathRate tableFrom joined
+unfolding numberAt nextRecord searchRecords firstRecord givesCell namesCell sheetOf sheetKinds sheetKind sheetLength dueLength sameItem recordClass recordItem firstWith itemRank counting countsFrom countingBefore cellClass contains position positions brokeredCell penaltyBalanceCell penaltyMonthsCell unusedCells filedValue amountAt cellOffset cellValue sheetOffset contentsOf rateNumber tiersAt tierNumber pathRate tableFrom joined borrowing borrowingAt couponCell termCell
 rates-hold = refl
 
 -- coupons by both kinds, in thousandths, beside other cells
@@ -99,5 +104,5 @@ abbrev coupons : Contents
 coupons = contentsOf (filed ((601, 10) ∷ (605, 1234) ∷ (608, 3) ∷ []) ++ fined ((606, 1234) ∷ []))
 
 coupons-hold : cell coupons 601 ∷ cell coupons 605 ∷ cell coupons 606 ∷ cell coupons 607 ∷ cell coupons 608 ∷ [] ≡ 10 ∷ 12340 ∷ 1234 ∷ 0 ∷ 3 ∷ []
-unfolding numberAt nextRecord searchRecords firstRecord givesCell namesCell sheetOf sheetKinds sheetKind sheetLength dueLength sameItem recordClass recordItem firstWith itemRank counting countsFrom countingBefore cellClass contains position positions brokeredCell penaltyBalanceCell penaltyMonthsCell unusedCells filedValue amountAt cellOffset cellValue sheetOffset contentsOf rateNumber tiersAt tierNumber cellIn tableFrom joined
+unfolding numberAt nextRecord searchRecords firstRecord givesCell namesCell sheetOf sheetKinds sheetKind sheetLength dueLength sameItem recordClass recordItem firstWith itemRank counting countsFrom countingBefore cellClass contains position positions brokeredCell penaltyBalanceCell penaltyMonthsCell unusedCells filedValue amountAt cellOffset cellValue sheetOffset contentsOf rateNumber tiersAt tierNumber cellIn tableFrom joined borrowing borrowingAt couponCell termCell
 coupons-hold = refl

@@ -25,10 +25,17 @@ fined (c ∷ cs) = bytes 2 12 ++ bytes 2 6 ++ bytes 2 (c .0) ++ bytes 8 (c .1) +
 abbrev pub amendment : ℕ → ℕ → ℕ → ℕ → List ℕ
 amendment n number state value = bytes 2 16 ++ bytes 2 7 ++ bytes 2 n ++ bytes 2 number ++ bytes 2 state ++ bytes 8 value
 
--- the sheets, with the rate of a month and of a column
-abbrev pub yieldSheet : (ℕ → ℕ) → List ℕ
-yieldSheet rate = bytes 2 242 ++ bytes 2 2 ++ joined (tableFrom 1 120 (λ (t : ℕ). bytes 2 (rate t)))
+-- the sheets by month, of CD yields and of LIBOR yields (02:CR 8), with the rate of a month
+abbrev monthSheet : ℕ → (ℕ → ℕ) → List ℕ
+monthSheet kind rate = bytes 2 242 ++ bytes 2 kind ++ joined (tableFrom 1 120 (λ (t : ℕ). bytes 2 (rate t)))
 
+abbrev pub yieldSheet : (ℕ → ℕ) → List ℕ
+yieldSheet rate = monthSheet 2 rate
+
+abbrev pub liborSheet : (ℕ → ℕ) → List ℕ
+liborSheet rate = monthSheet 8 rate
+
+-- the flat retail rates, with the rate of a column
 abbrev pub rateSheet : (ℕ → ℕ) → List ℕ
 rateSheet rate = bytes 2 8 ++ bytes 2 3 ++ joined (tableFrom 1 3 (λ (j : ℕ). bytes 2 (rate j)))
 
@@ -47,6 +54,10 @@ tierSheet xs = bytes 2 (4 + 4 * length xs) ++ bytes 2 4 ++ bytes 2 (length xs) +
 -- a filing of cells with both sheets, which take 254 bytes
 abbrev pub complete : List (ℕ × ℕ) → List ℕ
 complete cells = yieldSheet (λ (t : ℕ). 10 * t) ++ rateSheet (λ (j : ℕ). 100 * j) ++ filed cells
+
+-- a filing of cells with these sheets and a LIBOR sheet behind them (02:CR 8)
+abbrev pub withLibor : List (ℕ × ℕ) → List ℕ
+withLibor cells = filed cells ++ rateSheet (λ (j : ℕ). 100 * j) ++ yieldSheet (λ (t : ℕ). 10 * t) ++ liborSheet (λ (t : ℕ). 20 * t)
 
 -- a filing and the verdict on it
 pub record Case : Type 0 where

@@ -1,24 +1,28 @@
 -- A filing made of the cells that accepted certificates fill and of two sound sheets is accepted. Assumes nothing.
-use Prim.Native.Nat.{ℕ, zero, suc, _+_, _≤_, _<_}
+use Prim.Native.Nat.{ℕ, _≤_, _<_}
 use native.Mathlib.Omega.{arith}
 use mathlib.Core.Path.{_≡_, refl, sym, ap, _∙_}
-use mathlib.Core.Bool.{Bool, true, false, not, _&&_}
+use mathlib.Core.Bool.{Bool, true, false, not, and-false, _&&_}
 use mathlib.Core.List.{List, map}
 use borrow.Author.Tests.{le-ltb, eq-eqb, eqb-false}
-use lib.Dec.{eqb}
+use lib.Dec.{leb, eqb}
+use lib.ListN.{length}
 use Rattle.lists.specs.Sums.{sum}
 use Rattle.lists.specs.Tables.{tableFrom, table, contains}
 use Rattle.lists.proofs.TableLaws.{table-ext}
 use Rattle.form.specs.declared.Position.{Position}
-use Rattle.form.specs.Cells.{position, positions, positionAt, withinRow, totalCell, brokeredCell, penaltyBalanceCell, penaltyMonthsCell, lastCell}
-use Rattle.form.specs.Limits.{cellClass, rateLimit}
-use Rattle.form.proofs.CellLaws.{CellOf, balance-cell, months-cell}
+use Rattle.form.specs.Cells.{position, positions, positionAt, withinRow, totalCell, brokeredCell, penaltyBalanceCell, penaltyMonthsCell, unusedCells, lastCell}
+use Rattle.form.specs.Borrowings.{borrowingCount, borrowing, borrowingAt, couponCell, termCell, borrowingsTotalCell}
+use Rattle.form.specs.Limits.{rateLimit}
+use Rattle.form.specs.Classes.{cellClass}
+use Rattle.form.proofs.CellLaws.{CellOf, balance-cell, months-cell, borrowing-balance-cell}
 use Rattle.answers.specs.Verdict.{Verdict, accepted, refusedIf, firstRefusal, firstOf}
 use Rattle.filing_cells.specs.Balances.{cellIn, columnBalances, balances}
 use Rattle.filing_cells.specs.Conditions.{monthsOutside, aboveColumn, totalDiffers}
 use Rattle.filing_cells.specs.CellVerdicts.{positionVerdict, monthsVerdict, columnVerdict, columnsVerdict, totalVerdict, cellsVerdict}
-use Rattle.filing_decode.specs.Contents.{contentsOf}
-use Rattle.filing.specs.RequiredSheets.{sheetVerdict}
+use Rattle.record_kinds.specs.Kinds.{liborKind}
+use Rattle.filing_decode.specs.Contents.{sheetOffset, contentsOf}
+use Rattle.filing.specs.RequiredSheets.{sheetVerdict, liborMissing, liborVerdict}
 use Rattle.filing.specs.Verdict.{filingVerdict}
 use Rattle.certificate_calendar.specs.declared.Date.{Date}
 use Rattle.certificate_terms.specs.Terms.{certificateCount}
@@ -31,19 +35,14 @@ use Rattle.certificates.specs.Filled.{filledCells}
 use Rattle.certificates.proofs.CallLaws.{totals-bounded, filled-some}
 use Rattle.theorem_certificates.proofs.FilledLaws.{all-passed}
 use Rattle.theorem_certificates.specs.Fit.{valueIn, Fit}
-use Rattle.theorem_certificates.specs.Filed.{filingOf}
+use Rattle.theorem_certificates.specs.Filed.{run, filedBodies, filingOf}
 use Rattle.theorem_certificates.proofs.LookUpLaws.{value-past}
 use Rattle.theorem_certificates.proofs.TotalLaws.{filled-total-le}
 use Rattle.theorem_certificates.proofs.FitLaws.{balances-by-position, certificates-fit}
 use Rattle.theorem_certificates.proofs.FileableLaws.{Fileable, cells-fileable}
 use Rattle.theorem_certificates.proofs.FiledLaws.{records-pass}
+use Rattle.theorem_certificates.proofs.NoneBorrowedLaws.{none-refuses, none-some, coupons-pass, terms-pass, borrowings-pass}
 use Rattle.theorem_certificates.proofs.SaidLaws.{sheets-there, saidCells, said}
-
--- verdicts of which none refuses
-none-refuses : (verdict : ℕ → Verdict) (j n : ℕ) → ((i : ℕ) → i < j + n → verdict i ≡ accepted) → firstOf (tableFrom j n verdict) ≡ accepted
-unfolding firstOf tableFrom firstRefusal accepted
-none-refuses verdict j zero f = refl
-none-refuses verdict j (suc n) f = rw (f j (omega arith)) (none-refuses verdict (suc j) n (λ i l. f i (omega arith)))
 
 -- the nine positions as a table
 by-position : (f : Position → Verdict) → map f positions ≡ table 9 (λ (i : ℕ). f (positionAt i))
@@ -52,6 +51,9 @@ by-position f = refl
 
 module _ (cells : List CellValue) (yields rates : ℕ → ℕ) (fileable : Fileable 0 cells) (ys : (t : ℕ) → yields t ≤ rateLimit) (rs : (j : ℕ) → rates j ≤ rateLimit)
     (fit : Fit cells) (past : (n : ℕ) → totalCell < n → valueIn cells n ≡ 0) where
+  abbrev made : List ℕ
+  made = run (filedBodies cells yields rates)
+
   abbrev told : List ℕ
   told = saidCells cells yields rates fileable ys rs
 
@@ -117,14 +119,38 @@ module _ (cells : List CellValue) (yields rates : ℕ → ℕ) (fileable : Filea
       let same : cellIn told totalCell ≡ sum (balances told) = says totalCell 6 total-cell refl ∙ fit .total-is-sum ∙ ap sum (sym balances-told) in
       rw (eq-eqb (cellIn told totalCell) (sum (balances told)) same)
 
+  -- 18, 19, and 7 and 9 of the borrowings: their cells lie behind the total too, and each is 0
+  none-borrowed : (i : ℕ) → i < borrowingCount → cellIn told (borrowingAt i .balance) ≡ 0
+  unfolding borrowingAt borrowing
+  none-borrowed i h = says (borrowingAt i .balance) 8 (borrowing-balance-cell i h) refl ∙ past (borrowingAt i .balance) (omega arith)
+
+  borrowings-total : cellIn told borrowingsTotalCell ≡ 0
+  unfolding cellClass contains positions position brokeredCell penaltyBalanceCell penaltyMonthsCell unusedCells borrowing borrowingAt couponCell termCell tableFrom
+  borrowings-total =
+      says borrowingsTotalCell 11 (record { from-first = omega arith; to-last = omega arith; in-class = refl }) refl
+      ∙ past borrowingsTotalCell (omega arith)
+
+  no-libor-due : liborMissing made ≡ false
+  unfolding liborMissing contentsOf
+  no-libor-due = rw (none-some told none-borrowed) (and-false (leb (length made) (sheetOffset made liborKind)))
+
   cells-pass : cellsVerdict told ≡ accepted
   unfolding cellsVerdict firstRefusal accepted
-  cells-pass = rw (months-pass, columns-pass, total-passes)
+  cells-pass =
+      rw (
+        coupons-pass told none-borrowed,
+        months-pass,
+        terms-pass told none-borrowed,
+        columns-pass,
+        total-passes,
+        borrowings-pass told none-borrowed borrowings-total,
+      )
 
   -- no row of the table holds
   pub filing-accepted : filingVerdict (filingOf cells yields rates) ≡ accepted
-  unfolding filingOf filingVerdict firstRefusal sheetVerdict refusedIf contentsOf accepted
-  filing-accepted = rw (records-pass cells yields rates fileable ys rs, sheets-there cells yields rates fileable ys rs) cells-pass
+  unfolding filingOf filingVerdict firstRefusal sheetVerdict liborVerdict refusedIf contentsOf accepted
+  filing-accepted =
+      rw (records-pass cells yields rates fileable ys rs, sheets-there cells yields rates fileable ys rs, no-libor-due) cells-pass
 
 -- the cells that accepted certificates fill, with two sheets of rates up to their limit
 pub certificates-accepted : (v : Date) (s : List ℕ) (yields rates : ℕ → ℕ) → certificatesVerdict v s .number ≡ 0

@@ -8,7 +8,8 @@ use Rattle.lists.specs.Ranges.{within, firstFrom}
 use Rattle.lists.specs.Sums.{sum, sumWhere}
 use Rattle.lists.specs.Tables.{tableFrom, joined, those, contains}
 use Rattle.form.specs.Cells.{position, positions, positionAt, withinRow, brokeredCell, penaltyBalanceCell, penaltyMonthsCell, unusedCells}
-use Rattle.form.specs.Limits.{cellClass}
+use Rattle.form.specs.Borrowings.{borrowing, borrowingAt, couponCell, termCell}
+use Rattle.form.specs.Classes.{cellClass}
 use Rattle.answers.specs.Verdict.{Verdict, accepted, refused, refusedIf, firstRefusal, firstOf}
 use Rattle.certificate_calendar.specs.declared.Date.{Date}
 use Rattle.certificate_calendar.specs.Dates.{isLeap, lastDay, isDate, onOrAfter, dayIn, movedOn, monthsBetween}
@@ -126,5 +127,5 @@ cells-hold :
     ∷ (cell 602 5 ∷ cell 603 6 ∷ cell 606 5 ∷ cell 607 6 ∷ cell 609 1 ∷ cell 610 1 ∷ cell 645 11 ∷ [])
     ∷ []
     ∷ []
-unfolding filledCells cellsOf cellValue valueOf isPresent formCells formCell isOfPosition positionWith isFilled totalsOf balanceAt couponAt monthsAt mean sum those contains cellClass brokeredCell penaltyBalanceCell penaltyMonthsCell unusedCells certificatesVerdict countVerdict eachVerdict certificateVerdict ownVerdict sumOverLimit certificateCount certificateAt dateAt overLimit noSuchDay notOutstanding tooManyMonths positionSum standsAt positionOf positionFor columnOf isDate within lastDay isLeap onOrAfter movedOn dayIn monthsBetween firstFrom withinRow positionAt positions position sumWhere tableFrom joined refused accepted refusedIf firstRefusal firstOf
+unfolding filledCells cellsOf cellValue valueOf isPresent formCells formCell isOfPosition positionWith isFilled totalsOf balanceAt couponAt monthsAt mean sum those contains cellClass brokeredCell penaltyBalanceCell penaltyMonthsCell unusedCells certificatesVerdict countVerdict eachVerdict certificateVerdict ownVerdict sumOverLimit certificateCount certificateAt dateAt overLimit noSuchDay notOutstanding tooManyMonths positionSum standsAt positionOf positionFor columnOf isDate within lastDay isLeap onOrAfter movedOn dayIn monthsBetween firstFrom withinRow positionAt positions position sumWhere tableFrom joined refused accepted refusedIf firstRefusal firstOf borrowing borrowingAt couponCell termCell
 cells-hold = refl

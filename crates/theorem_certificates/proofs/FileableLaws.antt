@@ -14,7 +14,8 @@ use Rattle.lists.specs.Sums.{sum}
 use Rattle.lists.specs.Tables.{tableFrom, those, contains}
 use Rattle.lists.proofs.RangeLaws.{within-both}
 use Rattle.form.specs.Cells.{position, positions, totalCell, brokeredCell, penaltyBalanceCell, penaltyMonthsCell, firstCell}
-use Rattle.form.specs.Limits.{filedCouponLimit, monthsLimit, totalLimit, cellClass, classLimit}
+use Rattle.form.specs.Limits.{filedCouponLimit, monthsLimit, totalLimit, classLimit}
+use Rattle.form.specs.Classes.{cellClass}
 use Rattle.certificate_cells.specs.declared.filled_cells.Totals.{Totals}
 use Rattle.certificate_cells.specs.declared.filled_cells.CellValue.{CellValue}
 use Rattle.certificate_cells.specs.Means.{balanceAt, couponAt, monthsAt}

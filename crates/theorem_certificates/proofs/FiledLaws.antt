@@ -5,13 +5,14 @@ use native.Mathlib.Omega.{arith}
 use mathlib.Core.Path.{_≡_, refl, sym, ap, subst, _∙_}
 use mathlib.Core.Logic.{_⊎_, inl, inr, ⊎-elim}
 use mathlib.Core.Bool.{false, not}
-use mathlib.Core.List.{List, [], _∷_}
+use mathlib.Core.List.{List, []}
 use borrow.Author.Tests.{le-ltb, ne-eqb}
 use lib.Dec.{eqb}
 use lib.ListN.{length, getD}
 use Rattle.lists.proofs.OrderLaws.{lt-or-le}
 use Rattle.lists.proofs.TestLaws.{entries-le}
-use Rattle.form.specs.Limits.{balanceLimit, columnLimit, totalLimit, filedCouponLimit, monthsLimit, penaltyLimit, cellClass, classLimit, rateLimit}
+use Rattle.form.specs.Limits.{classLimits, classLimit, rateLimit}
+use Rattle.form.specs.Classes.{cellClass}
 use Rattle.answers.specs.Verdict.{accepted}
 use Rattle.record_fields.specs.Bytes.{numberAt}
 use Rattle.record_fields.specs.Records.{nextRecord}
@@ -31,10 +32,7 @@ use Rattle.theorem_certificates.proofs.FileableLaws.{Entry, Fileable, f
 -- every limit fits eight bytes
 class-limit-le : (k : ℕ) → classLimit k ≤ 18446744073709551615
 unfolding classLimit
-class-limit-le k =
-    entries-le
-    (0 ∷ balanceLimit ∷ filedCouponLimit ∷ monthsLimit ∷ columnLimit ∷ penaltyLimit ∷ totalLimit ∷ 18446744073709551615 ∷ [])
-    18446744073709551615 tt k
+class-limit-le k = entries-le classLimits 18446744073709551615 tt k
 
 -- one of n, or one of the two behind them
 three : (n i : ℕ) → i < n + 2 → (i < n) ⊎ ((i ≡ n) ⊎ (i ≡ suc n))

@@ -13,7 +13,8 @@ use Rattle.lists.proofs.TestLaws.{both, allFrom, all-at}
 use Rattle.lists.proofs.TableLaws.{table-ext, table-getD}
 use Rattle.form.specs.declared.Position.{Position}
 use Rattle.form.specs.Cells.{position, positions, positionAt, totalCell, brokeredCell, penaltyBalanceCell, penaltyMonthsCell, firstCell}
-use Rattle.form.specs.Limits.{filedCouponLimit, monthsLimit, cellClass}
+use Rattle.form.specs.Limits.{filedCouponLimit, monthsLimit}
+use Rattle.form.specs.Classes.{cellClass}
 use Rattle.certificate_calendar.specs.declared.Date.{Date}
 use Rattle.certificate_terms.specs.Terms.{certificateCount}
 use Rattle.certificate_cells.specs.declared.filled_cells.Totals.{Totals}

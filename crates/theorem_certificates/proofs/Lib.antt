@@ -12,6 +12,7 @@ pub mod PassLaws
 pub mod FileableLaws
 pub mod FiledLaws
 pub mod SaidLaws
+pub mod NoneBorrowedLaws
 pub mod AcceptedLaws
 pub mod DateCases
 pub mod CertificateCases

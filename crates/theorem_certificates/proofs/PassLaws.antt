@@ -8,7 +8,8 @@ use borrow.Author.Tests.{le-ltb, eq-eqb, ne-eqb}
 use lib.Dec.{ltb, eqb}
 use lib.ListN.{length}
 use Rattle.lists.specs.Tables.{anyBelow}
-use Rattle.form.specs.Limits.{cellClass, classLimit, rateLimit}
+use Rattle.form.specs.Limits.{classLimit, rateLimit}
+use Rattle.form.specs.Classes.{cellClass}
 use Rattle.answers.specs.Verdict.{accepted, refusedIf, firstRefusal, firstOf}
 use Rattle.record_fields.specs.Records.{recordLength, recordKind, recordCell, recordValue, sheetNumber, nextRecord}
 use Rattle.record_kinds.specs.Kinds.{sheetOf, sheetKinds, sheetKind, sheetLength, givesCell, namesCell, amendmentKind, tiersKind, dueLength}

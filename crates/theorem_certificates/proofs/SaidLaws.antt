@@ -14,7 +14,8 @@ use Rattle.lists.specs.Tables.{tableFrom}
 use Rattle.lists.proofs.OrderLaws.{lt-or-le}
 use Rattle.lists.proofs.RangeLaws.{least-passes, least-fails}
 use Rattle.lists.proofs.TableLaws.{tableFrom-getD}
-use Rattle.form.specs.Limits.{couponClass, cellClass, rateLimit}
+use Rattle.form.specs.Limits.{couponClass, rateLimit}
+use Rattle.form.specs.Classes.{cellClass}
 use Rattle.form.proofs.CellLaws.{CellOf}
 use Rattle.form.specs.Cells.{firstCell, lastCell, cellCount}
 use Rattle.record_kinds.specs.Kinds.{flatRatesKind, givesCell, dueLength, sheetLength, sheetKind, sheetKinds, sheetOf}

@@ -11,7 +11,7 @@ use lib.Dec.{eqb}
 use lib.ListN.{length}
 use Rattle.lists.proofs.TestLaws.{and-true}
 use Rattle.lists.proofs.OrderLaws.{lt-or-le}
-use Rattle.form.specs.Limits.{cellClass}
+use Rattle.form.specs.Classes.{cellClass}
 use Rattle.record_fields.specs.Bytes.{numberAt}
 use Rattle.record_fields.specs.Records.{recordKind, recordCell, amendmentValue}
 use Rattle.record_fields.proofs.SearchLaws.{Reached}

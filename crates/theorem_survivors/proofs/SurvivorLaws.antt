@@ -12,10 +12,11 @@ use lib.ListN.{length}
 use Rattle.lists.proofs.TestLaws.{and-true}
 use Rattle.lists.proofs.TableLaws.{tableFrom-ext}
 use Rattle.form.specs.Cells.{firstCell, lastCell, cellCount}
-use Rattle.form.specs.Limits.{couponClass, cellClass, sheetMonths, tierLimit, rateCount}
+use Rattle.form.specs.Limits.{couponClass, sheetMonths, tierLimit, rateCount}
+use Rattle.form.specs.Classes.{cellClass}
 use Rattle.record_fields.specs.Records.{recordKind, recordCell, amendmentState, sheetNumber, tierCount}
 use Rattle.record_fields.proofs.ByteLaws.{number-past}
-use Rattle.record_kinds.specs.Kinds.{kindCount, sheetOf, sheetKinds, sheetKind, fineCouponKind, amendmentKind, yieldsKind, tiersKind, ratePathKind, flatRatesKind}
+use Rattle.record_kinds.specs.Kinds.{kindCount, sheetOf, sheetKinds, sheetKind, fineCouponKind, amendmentKind, yieldsKind, tiersKind, ratePathKind, flatRatesKind, liborKind}
 use Rattle.filing_contents.specs.Amounts.{filedValue, amountAt}
 use Rattle.filing_contents.specs.Sheets.{tierNumber, tiersAt}
 use Rattle.filing_decode.specs.Contents.{cellOffset, cellValue, sheetOffset, rateNumber, contentsOf}
@@ -85,6 +86,10 @@ module _ (s t : List ℕ) (u : Surviving s t) where
   unfolding numbersOf sheetKind sheetKinds sheetOf
   yield-same i l m = number-same yieldsKind i (lit< tt) l m
 
+  libor-same : (i : ℕ) → 1 ≤ i → i ≤ sheetMonths → sheetNumber t (sheetOffset t liborKind) i ≡ sheetNumber s (sheetOffset s liborKind) i
+  unfolding numbersOf sheetKind sheetKinds sheetOf
+  libor-same i l m = number-same liborKind i (lit< tt) l m
+
   rate-same : (i : ℕ) → i < rateCount → rateNumber t i ≡ rateNumber s i
   unfolding rateNumber numbersOf sheetKind sheetKinds sheetOf
   rate-same i m =
@@ -114,8 +119,8 @@ module _ (s t : List ℕ) (u : Surviving s t) where
           number-same tiersKind (first + 2 * i) (lit< tt) (omega arith) (omega arith)
       by false h = refl
 
-  -- Both say the same: cell by cell, then the yields of months 1 to 120, the rates of a path or of a flat sheet, and the tiers below their count: each
-  -- of these reads a sheet up to its last number
+  -- Both say the same: cell by cell, then the CD yields of months 1 to 120, the rates of a path or of a flat sheet, the LIBOR yields, and the tiers below
+  -- their count: each of these reads a sheet up to its last number
   pub survivors-say : contentsOf t ≡ contentsOf s
   unfolding contentsOf tiersAt
   survivors-say =
@@ -123,6 +128,7 @@ module _ (s t : List ℕ) (u : Surviving s t) where
         tableFrom-ext firstCell cellCount (cellValue t) (cellValue s) (λ n l m. cell-same n l (omega arith)),
         tableFrom-ext 1 sheetMonths (sheetNumber t (sheetOffset t yieldsKind)) (sheetNumber s (sheetOffset s yieldsKind)) (λ i l m. yield-same i l (omega arith)),
         tableFrom-ext 0 rateCount (rateNumber t) (rateNumber s) (λ i l m. rate-same i m),
+        tableFrom-ext 1 sheetMonths (sheetNumber t (sheetOffset t liborKind)) (sheetNumber s (sheetOffset s liborKind)) (λ i l m. libor-same i l (omega arith)),
         tableFrom-ext 0 tierLimit _ _ (λ i l m. tier-same 2 i (omega arith) (omega arith)),
         tableFrom-ext 0 tierLimit _ _ (λ i l m. tier-same 3 i (omega arith) (omega arith)),
         count-same,

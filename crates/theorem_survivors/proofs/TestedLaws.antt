@@ -1,4 +1,4 @@
--- Whether a filing has only the surviving cells of another is a finite test: the cells 601 to 661, the kinds of sheet, and the numbers of each sheet.
+-- Whether a filing has only the surviving cells of another is a finite test: the cells 601 to 715, the kinds of sheet, and the numbers of each sheet.
 -- Assumes nothing.
 use Prim.Native.Nat.{ℕ, _≤_, _<_}
 use native.Mathlib.Omega.{arith}
@@ -23,9 +23,16 @@ passed true h = refl
 passed false h = absurd h
 
 -- two tests agree
-same : Bool → Bool → Bool
+abbrev pub same : Bool → Bool → Bool
 same true b = b
 same false b = not b
+
+-- tests that are equal agree
+same-holds : (a b : Bool) → a ≡ b → T (not (same a b)) → ⊥
+same-holds true true e h = h
+same-holds true false e h = true≢false e
+same-holds false true e h = true≢false (sym e)
+same-holds false false e h = h
 
 module _ (s t : List ℕ) where
   -- the cell stands in t with its amount, or is absent
@@ -131,6 +138,12 @@ module _ (s t : List ℕ) where
       eqb-false (sheetNumber t (sheetOffset t kind) i) (sheetNumber s (sheetOffset s kind) i) (not-true (numberKept kind i) (passed _ (to .1)))
       (u .same-numbers kind i (ltb-true kind kindCount (passed _ (known .0))) (passed _ (there .0)) (leb-true 1 i (passed _ (from .0)))
       (leb-true i (numbersOf s kind) (passed _ (to .0))))
+
+  -- and so is one sheet that is present in one of them only
+  pub sheet-differs : (kind : ℕ) → T (ltb kind kindCount && not (same (hasSheet t kind) (hasSheet s kind))) → Surviving s t → ⊥
+  sheet-differs kind h u =
+      let known = both (ltb kind kindCount) _ h in
+      same-holds (hasSheet t kind) (hasSheet s kind) (u .same-sheets kind (ltb-true kind kindCount (passed _ (known .0)))) (known .1)
 
   -- and so is one cell: the fields of that cell would make its test pass
   pub cell-differs : (n : ℕ) → T (leb firstCell n && (leb n lastCell && not (cellKept n))) → Surviving s t → ⊥

@@ -30,7 +30,7 @@ ownOffset t n = firstWith t (Cell n) (length t)
 abbrev pub hasSheet : List ℕ → ℕ → Bool
 hasSheet s kind = ltb (sheetOffset s kind) (length s)
 
--- how many numbers of 2 bytes a filing's sheet of a kind has (01:8-9; 02:CR 3); of the tiers (02:CR 1) their count, and an edge and a withdrawal for each
+-- how many numbers of 2 bytes a filing's sheet of a kind has (01:8-9; 02:CR 3, CR 8); of the tiers (02:CR 1) their count, and an edge and a withdrawal for each
 unfoldable pub numbersOf : List ℕ → ℕ → ℕ
 numbersOf s kind = cond (eqb kind tiersKind) (1 + 2 * tierCount s (sheetOffset s kind)) (sheetKind kind .numbers)
 

@@ -1,5 +1,5 @@
--- What the valuing call promises, for any bytes and any list lent to it (01:26-41, 01:58-61, 01:88-93). Definitions only.
--- Read off the list after the call: balances in thousands of dollars, values and totals in dollars.
+-- What the valuing call promises, for any bytes and any two lists lent to it (01:26-41, 01:58-61, 01:88-93; 02:CR 8). Definitions only.
+-- Read off the lists after the call: balances in thousands of dollars, values and totals in dollars.
 use Prim.Native.Nat.{ℕ, _+_, _*_, _<_}
 use mathlib.Core.Path.{_≡_}
 use mathlib.Core.Bool.{cond}
@@ -19,15 +19,23 @@ use Rattle.form.specs.Counts.{placeNumberCount, totalsStart, numberCount}
 use Rattle.pricing.specs.EnclosedValues.{EnclosedValues, EnclosedTotal}
 use Rattle.valuation.specs.Exact.{exactValueAt}
 use Rattle.value_numbers.specs.Numbers.{numbers}
+use Rattle.borrowing_numbers.specs.Borrowed.{liborRate}
+use Rattle.borrowing_numbers.specs.Numbers.{borrowingNumberCount, borrowedNumbers}
+use Rattle.borrowing_numbers.specs.Promise.{EnclosedBorrowings}
 
--- the verdict on a list and a filing: a list under 568 numbers is a 10, and comes first
-unfoldable pub verdictOn : List ℕ → List ℕ → Verdict
-verdictOn s before = firstRefusal (listVerdict numberCount (length before)) (filingVerdict s)
+-- the verdict on two lists and a filing: a list under 568 numbers is a 10 and comes first, then one under 374 for the borrowings
+unfoldable pub verdictOn : List ℕ → List ℕ → List ℕ → Verdict
+verdictOn s list borrowings =
+    firstRefusal (listVerdict numberCount (length list)) (firstRefusal (listVerdict borrowingNumberCount (length borrowings)) (filingVerdict s))
 
--- the list after the call: as it was on a refusal; else the 568 numbers, and then the rest as it was
-unfoldable pub listAfter : List ℕ → List ℕ → List ℕ
-listAfter s before =
-    cond (eqb (verdictOn s before .number) 0) (numbers (contentsOf s) ++ drop numberCount before) before
+-- the lists after the call: as they were on a refusal; else the 568 numbers, or the 374 of the borrowings, and then the rest as it was
+unfoldable pub listAfter : List ℕ → List ℕ → List ℕ → List ℕ
+listAfter s list borrowings =
+    cond (eqb (verdictOn s list borrowings .number) 0) (numbers (contentsOf s) ++ drop numberCount list) list
+
+unfoldable pub borrowingsAfter : List ℕ → List ℕ → List ℕ → List ℕ
+borrowingsAfter s list borrowings =
+    cond (eqb (verdictOn s list borrowings .number) 0) (borrowedNumbers (contentsOf s) ++ drop borrowingNumberCount borrowings) borrowings
 
 -- the places of the 568: balance, lower and upper value of a place; of a scenario's four totals, short lower, short upper, long lower and long upper,
 -- number r
@@ -57,8 +65,10 @@ pub record Enclosed (s list : List ℕ) : Type 0 where
   pub short-encloses : EnclosedTotal isShort subBalanceCount (exactValueAt (contentsOf s)) (totalNumber list 0) (totalNumber list 1)
   pub long-encloses : EnclosedTotal isLong subBalanceCount (exactValueAt (contentsOf s)) (totalNumber list 2) (totalNumber list 3)
 
--- the promise: s is the filing's bytes, before and after are the list at the call and at the return
-pub record Valued (s before : List ℕ) (answer : Answer) (after : List ℕ) : Type 0 where
-  pub answer-is : verdictOf answer ≡ verdictOn s before
-  pub list-is : after ≡ listAfter s before
-  pub enclosed : verdictOf answer ≡ accepted → Enclosed s after
+-- the promise: s is the filing's bytes, list and borrowings are what is lent, and then what stands there at the return
+pub record Valued (s list borrowings : List ℕ) (answer : Answer) (list-after borrowings-after : List ℕ) : Type 0 where
+  pub answer-is : verdictOf answer ≡ verdictOn s list borrowings
+  pub list-is : list-after ≡ listAfter s list borrowings
+  pub borrowings-are : borrowings-after ≡ borrowingsAfter s list borrowings
+  pub enclosed : verdictOf answer ≡ accepted → Enclosed s list-after
+  pub borrowings-enclosed : verdictOf answer ≡ accepted → EnclosedBorrowings (contentsOf s .cells) (liborRate (contentsOf s)) borrowings-after

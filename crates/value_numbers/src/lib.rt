@@ -2,13 +2,13 @@
 // contents, with these arrays and the tiers passed.
 use filing_cells::column_sums::ColumnSums;
 use filing_contents::FiledTiers;
+use filing_contents::sheet_rows::PositionKind;
+use filing_contents::sheet_rows::row_used;
 use form::CELLS;
 use form::limits::RATES;
 use form::limits::RATES_START;
-use form::limits::SHEET_MONTHS;
 use form::limits::SHEET_NUMBERS;
 use form::limits::TERM_MONTHS;
-use form::limits::YIELDS_START;
 use form::sub_balances::PLACE_NUMBERS;
 use form::sub_balances::SCENARIOS;
 use form::sub_balances::SUB_BALANCES;
@@ -69,8 +69,8 @@ fn write_rows(
     let longest = longest_term(places);
     let mut lower = [0u64; FACTORS];
     let mut upper = [0u64; FACTORS];
+    let yields = row_used(sheets, PositionKind::Certificate);
     let numbers: &[u16] = sheets;
-    let yields = &numbers[YIELDS_START..YIELDS_START + SHEET_MONTHS];
     let rates = &numbers[RATES_START..RATES_START + RATES];
     discount_tables(yields, longest, &mut lower, &mut upper);
     let mut months = [[0u8; SCENARIOS]; TERM_MONTHS];

@@ -11,11 +11,8 @@ write-rows-requires c κs = search needs
 totals-of-requires : tie.Need-totals-of-requires
 totals-of-requires c κs =
     let rows = c .before .before .before in
-    let start = rows .before .before .before .before in
-    rows-within _ _ (start .args .list .now) _ (start .pre .3) (rows .write-rows .ensures) (start .pre .0)
-
-mul-write : tie.Need-mul-write
-mul-write c = search needs
+    let start = rows .before .before .before in
+    rows-within _ _ (start .args .list .now) _ (start .pre .2) (rows .write-rows .ensures) (start .pre .0)
 
 slice-aggregate-write : tie.Need-slice-aggregate-write
 slice-aggregate-write c = search needs
@@ -30,8 +27,8 @@ returns : tie.Need-returns
 returns c =
     let totals = c .before .before .before .before .before in
     let rows = totals .before .before .before .before in
-    let start = rows .before .before .before .before in
-    c .before .before .write .ensures ∙ numbers-written _ _ (start .args .list .now) _ (start .pre .3) (rows .write-rows .ensures) (totals .totals-of .result) (totals .totals-of .ensures)
+    let start = rows .before .before .before in
+    c .before .before .write .ensures ∙ numbers-written _ _ (start .args .list .now) _ (start .pre .2) (rows .write-rows .ensures) (totals .totals-of .result) (totals .totals-of .ensures)
 
 pub write-borrowings-spec : {M : Type 1} → statement M
 write-borrowings-spec =
@@ -39,7 +36,6 @@ write-borrowings-spec =
     (tie.spec
     write-rows-requires
     totals-of-requires
-    mul-write
     slice-aggregate-write
     write-requires
     same-length

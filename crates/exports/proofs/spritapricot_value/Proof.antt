@@ -13,11 +13,14 @@ answer-numbers-requires c κs = search needs
 same-length : tie.Need-same-length
 same-length c = search needs
 
+same-length-2 : tie.Need-same-length-2
+same-length-2 c = search needs
+
 returns : tie.Need-returns
 returns c =
     let numbers = c .answer-numbers .ensures in
-    valued-for-c _ _ _ _ _ _ (c .before .before .before .before .value .ensures) (numbers .0) (numbers .1)
+    valued-for-c _ _ _ _ _ _ _ _ (c .before .before .before .before .before .before .value .ensures) (numbers .0) (numbers .1)
 
 pub spritapricot-value-spec : {M : Type 1} → statement M
 spritapricot-value-spec =
-    tie.close (tie.spec value-requires answer-numbers-requires same-length returns)
+    tie.close (tie.spec value-requires answer-numbers-requires same-length same-length-2 returns)

@@ -1,4 +1,4 @@
--- `read_contents` meets its contract: the verdict on the contents is the filing's.
+-- `read_contents` meets its contract: 18 and the verdict on the contents give the filing's.
 -- Assumes nothing.
 use mathlib.Core.Path.{_≡_, refl, sym, ap, subst, _∙_}
 use borrow.Author.Needs.{needs}
@@ -7,8 +7,9 @@ use Rattle.answers.specs.Answers.{verdictOf}
 use Rattle.record_checks.proofs.ProgressLaws.{records-passed}
 use Rattle.filing_cells.specs.CellVerdicts.{cellsVerdict}
 use Rattle.filing_cells.specs.Inner.Sums.{BalancesWithin, columnSums}
+use Rattle.filing_cells.specs.Inner.Borrowed.{BorrowingsWithin}
 use Rattle.filing_contents.specs.Contents.{Contents}
-use Rattle.filing_decode.proofs.SoundLaws.{balances-within}
+use Rattle.filing_decode.proofs.SoundLaws.{balances-within, borrowings-within}
 use Rattle.filing.specs.Verdict.{filingVerdict}
 use Rattle.filing.proofs.ReadLaws.{contents-decide, accepted-over, accepted-contents, refused-reading}
 use Rattle.filing.proofs.read_contents.Statement.{statement}
@@ -23,10 +24,18 @@ fill-cells-requires c κs =
     let start = c .before .before in
     ((records-passed _ (start .pre .0 .0), start .pre .1 .1), refl)
 
+check-libor-requires : tie.Need-check-libor-requires
+check-libor-requires c κs = (start-of (c .before) .pre .1 .0, c .before .fill-cells .ensures)
+
 check-cells-requires : tie.Need-check-cells-requires
 check-cells-requires c κs =
-    let filled = c .before in
-    subst BalancesWithin (sym (filled .fill-cells .ensures)) (balances-within _ (records-passed _ (start-of filled .pre .0 .0)))
+    let filled = c .before .before .before in
+    let none = records-passed _ (start-of filled .pre .0 .0) in
+    let cells = sym (filled .fill-cells .ensures) in
+    (subst BalancesWithin cells (balances-within _ none), subst BorrowingsWithin cells (borrowings-within _ none))
+
+first-refusal-requires : tie.Need-first-refusal-requires
+first-refusal-requires c κs = search needs
 
 number-requires : tie.Need-number-requires
 number-requires c κs = search needs
@@ -34,11 +43,15 @@ number-requires c κs = search needs
 refusal-requires : tie.Need-refusal-requires
 refusal-requires c κs = search needs
 
-decided : (c : tie.After-check-cells) → verdictOf (c .check-cells .result .answer) ≡ filingVerdict (start-of (c .before .before) .args .filing .now)
+decided : (c : tie.After-first-refusal) → verdictOf (c .first-refusal .result) ≡ filingVerdict (start-of (c .before .before .before .before .before) .args .filing .now)
 decided c =
-    let filled = c .before .before in
+    let checked = c .before in
+    let libor = checked .before .before in
+    let filled = libor .before .before in
     let start = start-of filled in
-    c .check-cells .ensures .0 ∙ ap cellsVerdict (filled .fill-cells .ensures) ∙ contents-decide _ (start .pre .0 .0) (start .pre .0 .1)
+    c .first-refusal .ensures
+    ∙ rw (libor .check-libor .ensures, checked .check-cells .ensures .0 ∙ ap cellsVerdict (filled .fill-cells .ensures))
+    (contents-decide _ (start .pre .0 .0) (start .pre .0 .1))
 
 returns : tie.Need-returns
 returns c =
@@ -54,9 +67,10 @@ returns-2 : tie.Need-returns-2
 unfolding verdictOf
 returns-2 c =
     let passed = c .before .before .before in
-    let checked = passed .before .before in
-    let cells = checked .before .before .fill-cells .ensures in
-    let v = decided checked in
+    let first = passed .before .before in
+    let checked = first .before in
+    let cells = checked .before .before .before .before .fill-cells .ensures in
+    let v = decided first in
     let zero = sym (ap (λ (u : Verdict). u .number) v) ∙ sym (passed .before .number .ensures) ∙ passed .if1 .left in (
       v,
       (
@@ -70,7 +84,9 @@ read-contents-spec =
     tie.close
     (tie.spec
     fill-cells-requires
+    check-libor-requires
     check-cells-requires
+    first-refusal-requires
     number-requires
     refusal-requires
     returns

@@ -8,11 +8,11 @@ use lib.Dec.{lit<}
 use lib.ListN.{getD}
 use Rattle.lists.specs.Runs.{written}
 use Rattle.lists.specs.Tables.{tableFrom}
-use Rattle.form.specs.Limits.{sheetMonths, yieldsStart}
+use Rattle.form.specs.Limits.{sheetMonths, yieldsStart, liborStart}
 use Rattle.record_fields.specs.Records.{sheetNumber}
-use Rattle.record_kinds.specs.Kinds.{kindCount, yieldsKind, flatRatesKind, tiersKind, ratePathKind, sheetOf, sheetKinds, sheetKind}
+use Rattle.record_kinds.specs.Kinds.{kindCount, yieldsKind, flatRatesKind, tiersKind, ratePathKind, liborKind, sheetOf, sheetKinds, sheetKind}
 use Rattle.filing_decode.specs.Contents.{sheetOffset, contentsOf}
-use Rattle.filing_decode.proofs.ContentsLaws.{sheet-noted, yields-filled, rates-filled}
+use Rattle.filing_decode.proofs.ContentsLaws.{sheet-noted, yields-filled, rates-filled, libor-filled}
 use Rattle.filing_decode.proofs.fill_sheets.Statement.{statement}
 use Rattle.filing_decode.proofs.fill_sheets.Tie as tie
 
@@ -38,6 +38,13 @@ fill-rates-requires c κs =
     let start = c .before .before .before .before .before .before .before in
     (sheet-is start flatRatesKind (lit< tt), sheet-is start ratePathKind (lit< tt), omega arith)
 
+element-copy-out-fill-sheet-2 : tie.Need-element-copy-out-fill-sheet-2
+element-copy-out-fill-sheet-2 c = search needs
+
+fill-sheet-requires-2 : tie.Need-fill-sheet-requires-2
+unfolding sheetOf sheetKinds sheetKind
+fill-sheet-requires-2 c κs = omega arith
+
 element-copy-out-tiers-at : tie.Need-element-copy-out-tiers-at
 element-copy-out-tiers-at c = search needs
 
@@ -49,15 +56,17 @@ tiers-at-requires c κs = search needs
 returns : tie.Need-returns
 unfolding contentsOf sheetOf sheetKinds sheetKind
 returns c =
-    let rates = c .before .before in
+    let libor = c .before .before in
+    let rates = libor .before .before .before in
     let yields = rates .before .before .before .before in
     let start = yields .before .before .before .before in
     let s = start .args .s .now in
-    let l = start .args .numbers .now in
-    let first = yields .fill-sheet .ensures ∙ ap (λ (at : ℕ). written l yieldsStart (tableFrom 1 sheetMonths (sheetNumber s at))) (sheet-is start yieldsKind (lit< tt)) in
+    let first = rw (sheet-is start yieldsKind (lit< tt)) at (yields .fill-sheet .ensures) in
+    let last = rw (sheet-is start liborKind (lit< tt)) at (libor .fill-sheet2 .ensures) in
     rw (
-      yields-filled s l _ _ (omega arith) first (rates .fill-rates .ensures),
-      rates-filled s l _ _ (omega arith) first (rates .fill-rates .ensures),
+      yields-filled s _ _ _ _ (omega arith) (omega arith) (omega arith) first (rates .fill-rates .ensures) last,
+      rates-filled s _ _ _ _ (omega arith) (omega arith) (omega arith) first (rates .fill-rates .ensures) last,
+      libor-filled s _ _ _ _ (omega arith) (omega arith) (omega arith) first (rates .fill-rates .ensures) last,
       c .tiers-at .ensures,
       sheet-is start tiersKind (lit< tt),
     )
@@ -71,6 +80,8 @@ fill-sheets-spec =
     element-copy-out-fill-rates
     element-copy-out-fill-rates-2
     fill-rates-requires
+    element-copy-out-fill-sheet-2
+    fill-sheet-requires-2
     element-copy-out-tiers-at
     tiers-at-requires
     returns)

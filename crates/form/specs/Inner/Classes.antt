@@ -3,7 +3,7 @@ use Prim.Native.Nat.{ℕ, _+_, _*_}
 use mathlib.Core.List.{List, [], _∷_}
 use Rattle.lists.specs.Tables.{tableFrom}
 use Rattle.form.specs.Cells.{firstCell}
-use Rattle.form.specs.Limits.{cellClass}
+use Rattle.form.specs.Classes.{cellClass}
 
 -- the number that hexadecimal digits make, the lowest first
 unfoldable pub hexadecimal : List ℕ → ℕ

@@ -39,8 +39,14 @@ sheet-of-requires-7 c κs = search needs
 sheet-of-requires-8 : tie.Need-sheet-of-requires-8
 sheet-of-requires-8 c κs = search needs
 
+cast-sheet-of-3 : tie.Need-cast-sheet-of-3
+cast-sheet-of-3 c = search needs
+
 sheet-of-requires-9 : tie.Need-sheet-of-requires-9
 sheet-of-requires-9 c κs = search needs
+
+sheet-of-requires-10 : tie.Need-sheet-of-requires-10
+sheet-of-requires-10 c κs = search needs
 
 returns : tie.Need-returns
 unfolding sheetOf sheetKinds sheetKind
@@ -76,10 +82,14 @@ returns-8 c = c .sheet-of8 .ensures ∙ ap sheetKind (sym (c .before .match .key
 
 returns-9 : tie.Need-returns-9
 unfolding sheetOf sheetKinds sheetKind
-returns-9 c =
+returns-9 c = c .sheet-of9 .ensures ∙ ap sheetKind (sym (c .before .match .keys9))
+
+returns-10 : tie.Need-returns-10
+unfolding sheetOf sheetKinds sheetKind
+returns-10 c =
     let none = c .before .match .rest in
-    let past : 8 ≤ c .before .before .args .kind = above 7 (above 6 (above 5 (above 4 (above 3 (above 2 (above 1 (above 0 (omega arith) (none .0 .0 .0 .0 .0 .0 .0 .1)) (none .0 .0 .0 .0 .0 .0 .1)) (none .0 .0 .0 .0 .0 .1)) (none .0 .0 .0 .0 .1)) (none .0 .0 .0 .1)) (none .0 .0 .1)) (none .0 .1)) (none .1) in
-    c .sheet-of9 .ensures ∙ sym (List·getD-eq-default sheetKinds (sheetOf 0 0 0) past)
+    let past : 9 ≤ c .before .before .args .kind = above 8 (above 7 (above 6 (above 5 (above 4 (above 3 (above 2 (above 1 (above 0 (omega arith) (none .0 .0 .0 .0 .0 .0 .0 .0 .1)) (none .0 .0 .0 .0 .0 .0 .0 .1)) (none .0 .0 .0 .0 .0 .0 .1)) (none .0 .0 .0 .0 .0 .1)) (none .0 .0 .0 .0 .1)) (none .0 .0 .0 .1)) (none .0 .0 .1)) (none .0 .1)) (none .1) in
+    c .sheet-of10 .ensures ∙ sym (List·getD-eq-default sheetKinds (sheetOf 0 0 0) past)
 
 pub sheet-kind-spec : {M : Type 1} → statement M
 sheet-kind-spec =
@@ -95,7 +105,9 @@ sheet-kind-spec =
     sheet-of-requires-6
     sheet-of-requires-7
     sheet-of-requires-8
+    cast-sheet-of-3
     sheet-of-requires-9
+    sheet-of-requires-10
     returns
     returns-2
     returns-3
@@ -104,4 +116,5 @@ sheet-kind-spec =
     returns-6
     returns-7
     returns-8
-    returns-9)
+    returns-9
+    returns-10)

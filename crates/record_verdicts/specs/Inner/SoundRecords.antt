@@ -3,7 +3,8 @@ use Prim.Native.Nat.{ℕ}
 use mathlib.Core.Bool.{Bool, cond, _&&_}
 use mathlib.Core.List.{List}
 use lib.Dec.{eqb}
-use Rattle.form.specs.Limits.{couponClass, couponLimit, cellClass, classLimit}
+use Rattle.form.specs.Limits.{couponClass, couponLimit, classLimit}
+use Rattle.form.specs.Classes.{cellClass}
 use Rattle.record_fields.specs.Records.{recordKind}
 use Rattle.record_kinds.specs.Kinds.{namesCell}
 use Rattle.record_verdicts.specs.Inner.PlainVerdicts.{plainVerdict}

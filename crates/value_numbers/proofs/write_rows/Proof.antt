@@ -9,7 +9,7 @@ use Rattle.lists.proofs.RunLaws.{Overwritten, overwritten-none, overwritten-row
 use Rattle.form.specs.PlaceOrder.{subBalanceCount}
 use Rattle.form.specs.Counts.{placeNumberCount, totalsStart}
 use Rattle.filing_contents.specs.declared.FiledTiers.{FiledTiers}
-use Rattle.filing_contents.specs.Contents.{Contents, yieldsIn, ratesIn, contentsIn}
+use Rattle.filing_contents.specs.Contents.{Contents, ratesIn, contentsIn}
 use Rattle.value_numbers.specs.Numbers.{placeNumbers}
 use Rattle.shares.specs.Places.{placesOf}
 use Rattle.value_places.specs.Inner.LongestTerm.{longestTerm}
@@ -50,17 +50,8 @@ longest-term-requires c κs = tt
 longest-is : (c : tie.After-longest-term Inv-loop μ-loop) → c .longest-term .result ≡ longestTerm (placesOf (contents (c .before .before .before .before) .cells))
 longest-is c = c .longest-term .ensures ∙ ap longestTerm (c .before .places-of .ensures)
 
-add-yields : tie.Need-add-yields Inv-loop μ-loop
-add-yields c = omega arith
-
-sub-yields : tie.Need-sub-yields Inv-loop μ-loop
-sub-yields c = omega arith
-
-part-yields-start : tie.Need-part-yields-start Inv-loop μ-loop
-part-yields-start c = omega arith
-
-part-yields-end : tie.Need-part-yields-end Inv-loop μ-loop
-part-yields-end c = omega arith
+row-used-requires : tie.Need-row-used-requires Inv-loop μ-loop
+row-used-requires c κs = tt
 
 add-rates : tie.Need-add-rates Inv-loop μ-loop
 add-rates c = omega arith
@@ -75,11 +66,11 @@ part-rates-end : tie.Need-part-rates-end Inv-loop μ-loop
 part-rates-end c = omega arith
 
 discount-tables-requires : tie.Need-discount-tables-requires Inv-loop μ-loop
-unfolding yieldsIn
 discount-tables-requires c κs =
-    let term = c .before .before .before .before .before in
+    let row = c .before .before .before .before in
+    let term = row .before in
     let start = term .before .before .before .before in
-    (yields-within (contents start) (start .pre .0), omega arith, rw (longest-is term) (longest-limit (contents start) (start .pre .0)), refl, refl)
+    (rw (row .row-used .ensures .0) (yields-within (contents start) (start .pre .0)), omega (arith, row .row-used .ensures .1), rw (longest-is term) (longest-limit (contents start) (start .pre .0)), refl, refl)
 
 -- the call's start, from the tables
 abbrev start : tie.After-discount-tables Inv-loop μ-loop → tie.Start Inv-loop μ-loop
@@ -90,17 +81,17 @@ start c = c .before .before .before .before .before .before .before .before .bef
 prepared : (c : tie.After-discount-tables Inv-loop μ-loop)
     → Prepared (contents (start c)) (c .before .before .before .before .before .before .before .before .tiers-of .result)
     (c .before .before .before .before .before .before .before .places-of .result) (c .discount-tables .last .1 .1 .0) (c .discount-tables .last .1 .1 .1 .0)
-unfolding yieldsIn
 prepared c =
-    let term = c .before .before .before .before .before .before in
+    let row = c .before .before .before .before .before in
+    let term = row .before in
     let tiers = term .before .before in
     record {
       valid = tiers .before .before .pre .0;
       tiers-are = tiers .tiers-of .ensures .0;
       usable = tiers .tiers-of .ensures .1;
       places-are = term .before .places-of .ensures;
-      lower-holds = rw (longest-is term) at (c .discount-tables .ensures .0);
-      upper-holds = rw (longest-is term) at (c .discount-tables .ensures .1);
+      lower-holds = rw (row .row-used .ensures .0, longest-is term) at (c .discount-tables .ensures .0);
+      upper-holds = rw (row .row-used .ensures .0, longest-is term) at (c .discount-tables .ensures .1);
     }
 
 loop-holds : tie.Need-loop-holds Inv-loop μ-loop
@@ -177,10 +168,7 @@ write-rows-spec =
     tiers-of-requires
     places-of-requires
     longest-term-requires
-    add-yields
-    sub-yields
-    part-yields-start
-    part-yields-end
+    row-used-requires
     add-rates
     sub-rates
     part-rates-start

@@ -7,6 +7,7 @@ use Rattle.lists.specs.Tables.{tableFrom, table, joined}
 use Rattle.lists.proofs.RunLaws.{Overwritten, overwritten-none, overwritten-row}
 use Rattle.form.specs.Borrowings.{borrowingCount}
 use Rattle.form.specs.Counts.{placeNumberCount}
+use Rattle.filing_contents.specs.Contents.{liborIn}
 use Rattle.pricing.specs.Rounding.{down, up}
 use Rattle.price_factors.specs.Inner.Factors.{sheetYield}
 use Rattle.price_factors.proofs.FactorLaws.{factors-at-most-par}
@@ -17,17 +18,24 @@ use Rattle.borrowing_numbers.proofs.rows.write_rows.Statement.{statemen
 use Rattle.borrowing_numbers.proofs.rows.write_rows.Tie as tie
 
 abbrev Inv-loop : tie.InvT-loop
-Inv-loop cells libor list₀ longest lower upper i₀ list i =
-    (i ≤ borrowingCount) × Overwritten (joined (table i (borrowingNumbers cells (sheetYield libor)))) (placeNumberCount * i) list₀ list
+Inv-loop cells sheets list₀ longest lower upper i₀ list i =
+    (i ≤ borrowingCount) × Overwritten (joined (table i (borrowingNumbers cells (sheetYield (liborIn sheets))))) (placeNumberCount * i) list₀ list
 
 abbrev μ-loop : tie.MeasureT-loop
-μ-loop cells libor list₀ longest lower upper i₀ list i = borrowingCount - i
+μ-loop cells sheets list₀ longest lower upper i₀ list i = borrowingCount - i
 
 longest-term-requires : tie.Need-longest-term-requires Inv-loop μ-loop
 longest-term-requires c κs = tt
 
+row-used-requires : tie.Need-row-used-requires Inv-loop μ-loop
+row-used-requires c κs = tt
+
 fill-factors-requires : tie.Need-fill-factors-requires Inv-loop μ-loop
-fill-factors-requires c κs = let p = c .before .before .before .before .before .pre in (p .1, p .2, refl, refl)
+unfolding liborIn
+fill-factors-requires c κs =
+    let row = c .before .before in
+    let start = row .before .before .before in
+    (rw (row .row-used .ensures .0) (start .pre .1), omega (arith, row .row-used .ensures .1), refl, refl)
 
 -- the call's start, from the tables
 abbrev start : tie.After-fill-factors Inv-loop μ-loop → tie.Start Inv-loop μ-loop
@@ -35,8 +43,10 @@ start c = c .before .before .before .before .before .before
 
 -- the tables hold the factors of the sheet
 prepared : (c : tie.After-fill-factors Inv-loop μ-loop)
-    → Tables (start c .args .cells .now) (start c .args .libor .now) (c .fill-factors .last .1 .1 .0) (c .fill-factors .last .1 .1 .1 .0)
-prepared c = tables-made _ _ _ _ _ (c .before .before .before .longest-term .ensures) (c .fill-factors .ensures .0) (c .fill-factors .ensures .1)
+    → Tables (start c .args .cells .now) (liborIn (start c .args .sheets .now)) (c .fill-factors .last .1 .1 .0) (c .fill-factors .last .1 .1 .1 .0)
+prepared c =
+    let row = c .before .before .before in
+    tables-made _ _ _ _ _ (row .before .longest-term .ensures) (rw (row .row-used .ensures .0) at (c .fill-factors .ensures .0)) (rw (row .row-used .ensures .0) at (c .fill-factors .ensures .1))
 
 loop-holds : tie.Need-loop-holds Inv-loop μ-loop
 unfolding tableFrom joined
@@ -77,7 +87,7 @@ loop-again c =
       omega (arith, more),
       rw (c .before .before .write .ensures) (overwritten-row [] (borrowingNumbers _ _) placeNumberCount (row-length _ _) (state .i) (placeNumberCount * state .i) (placeNumberCount * (state .i + 1))
           _ (state .list) (row .row-of .result) (state .inv .1)
-          (row .row-of .ensures ∙ table-row _ _ _ _ (prepared made) (start made .pre .0) (state .i) more) (omega (arith, more)) (omega (arith, more, start made .pre .3))),
+          (row .row-of .ensures ∙ table-row _ _ _ _ (prepared made) (start made .pre .0) (state .i) more) (omega (arith, more)) (omega (arith, more, start made .pre .2))),
     )
 
 same-length : tie.Need-same-length Inv-loop μ-loop
@@ -95,6 +105,7 @@ write-rows-spec =
     Inv-loop
     μ-loop
     longest-term-requires
+    row-used-requires
     fill-factors-requires
     loop-holds
     row-of-requires

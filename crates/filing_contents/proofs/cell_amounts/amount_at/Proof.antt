@@ -5,7 +5,8 @@ use native.Mathlib.Omega.{arith}
 use mathlib.Core.Path.{_≡_, sym}
 use borrow.Author.Needs.{needs}
 use borrow.Author.Tests.{eq-eqb, ne-eqb}
-use Rattle.form.specs.Limits.{couponClass, couponLimit, cellClass, heldLimit}
+use Rattle.form.specs.Limits.{couponClass, couponLimit, heldLimit}
+use Rattle.form.specs.Classes.{cellClass}
 use Rattle.record_fields.specs.Records.{recordCell}
 use Rattle.record_kinds.specs.Kinds.{fineCouponKind}
 use Rattle.filing_contents.specs.Amounts.{amountAt}

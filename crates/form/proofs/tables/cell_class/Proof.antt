@@ -9,7 +9,8 @@ use lib.Dec.{eqb, eqb→eq}
 use Rattle.lists.specs.Tables.{tableFrom, contains}
 use Rattle.lists.proofs.TestLaws.{allFrom, all-at}
 use Rattle.form.specs.Cells.{position, positions, brokeredCell, penaltyBalanceCell, penaltyMonthsCell, unusedCells, firstCell, cellCount}
-use Rattle.form.specs.Limits.{cellClass}
+use Rattle.form.specs.Borrowings.{borrowing, borrowingAt, couponCell, termCell}
+use Rattle.form.specs.Classes.{cellClass}
 use Rattle.form.specs.Inner.Classes.{hexadecimal, sixteenClasses}
 use Rattle.form.proofs.ClassLaws.{class-outside}
 use Rattle.form.proofs.tables.cell_class.Statement.{statement}
@@ -35,7 +36,7 @@ abbrev digit : ℕ → ℕ
 digit i = sixteenClasses (i / 16) / 2 ^ (4 * (i % 16)) % 16
 
 digits-are : (i : ℕ) → i < cellCount → digit i ≡ cellClass (firstCell + i)
-unfolding allFrom sixteenClasses hexadecimal tableFrom cellClass contains positions position brokeredCell penaltyBalanceCell penaltyMonthsCell unusedCells
+unfolding allFrom sixteenClasses hexadecimal tableFrom cellClass contains positions position brokeredCell penaltyBalanceCell penaltyMonthsCell unusedCells borrowing borrowingAt couponCell termCell
 digits-are i h = eqb→eq _ _ (all-at 0 cellCount (λ (j : ℕ). eqb (digit j) (cellClass (firstCell + j))) tt i zero-le h)
 
 returns-3 : tie.Need-returns-3

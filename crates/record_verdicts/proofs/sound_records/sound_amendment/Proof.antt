@@ -6,7 +6,8 @@ use native.Mathlib.Omega.{arith}
 use mathlib.Core.Path.{_≡_, sym, ap, _∙_}
 use mathlib.Core.Bool.{not}
 use borrow.Author.Tests.{not-true}
-use Rattle.form.specs.Limits.{cellClass, classLimit}
+use Rattle.form.specs.Limits.{classLimit}
+use Rattle.form.specs.Classes.{cellClass}
 use Rattle.record_fields.specs.Bytes.{numberAt}
 use Rattle.record_fields.specs.Records.{recordLength, recordCell}
 use Rattle.record_verdicts.proofs.LimitLaws.{limit-class, class-limit}

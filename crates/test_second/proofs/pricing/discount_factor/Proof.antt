@@ -5,10 +5,10 @@ use Rattle.test_second.proofs.pricing.discount_factor.Statement.{statem
 use Rattle.test_second.proofs.pricing.discount_factor.Tie as tie
 
 abbrev Inv-loop : tie.InvT-loop
-Inv-loop s month scenario up z factor₀ counter₀ factor counter = Unit {0}
+Inv-loop s kind month scenario up z factor₀ counter₀ factor counter = Unit {0}
 
 abbrev μ-loop : tie.MeasureT-loop
-μ-loop s month scenario up z factor₀ counter₀ factor counter = month - counter
+μ-loop s kind month scenario up z factor₀ counter₀ factor counter = month - counter
 
 pub discount-factor-spec : {M : Type 1} → statement M
 discount-factor-spec =

@@ -21,6 +21,7 @@ append-scenarios-requires c κs =
     let b = c .before .before .before .before in
     let n = b .before .before .before .before in
     let s = n .before .before .before in (
+      omega arith,
       omega (
         arith,
         n .append-number .ensures .end-is,

@@ -1,10 +1,11 @@
 -- `append_scenario` meets its contract. Assumes nothing.
-use mathlib.Core.Path.{ap}
+use Prim.Native.Nat.{ℕ, _+_, _-_, _*_, _≤_}
+use mathlib.Core.Path.{_≡_, ap}
 use native.Mathlib.Omega.{arith}
 use lib.ListN.{length, length-append}
 use Rattle.text_listing.specs.TotalLines.{totalsIn}
 use Rattle.text.proofs.AppendLaws.{appended-append}
-use Rattle.text_listing.proofs.TotalLineLaws.{line-is}
+use Rattle.text_listing.proofs.TotalLineLaws.{line-is, totals-inside}
 use borrow.Author.Needs.{needs}
 use Rattle.text_listing.proofs.total_lines.append_scenario.Statement.{statement}
 use Rattle.text_listing.proofs.total_lines.append_scenario.Tie as tie
@@ -12,59 +13,47 @@ use Rattle.text_listing.proofs.total_lines.append_scenario.Tie as tie
 mul-append-difference : tie.Need-mul-append-difference
 mul-append-difference c = search needs
 
+-- the totals of the scenario stand within the numbers
+inside : (c : tie.Start) → c .args .from + c .args .each * c .args .scenario + c .args .each ≤ length (c .args .numbers .now)
+inside c = totals-inside (c .args .from) (c .args .each) (c .args .scenario) _ (c .pre .3) (c .pre .2)
+
 append-difference-requires : tie.Need-append-difference-requires
 append-difference-requires c κs =
     let s = c .before .before .before .args in
-    omega (arith, simp length-append at (ap length (line-is (s .numbers .now) (s .from) (s .scenario))))
+    omega (arith, simp length-append at (ap length (line-is (s .numbers .now) (s .from) (s .each) (s .scenario))))
 
 mul-first : tie.Need-mul-first
-mul-first c = search needs
+mul-first c = omega (arith, inside (c .before .before .before .before .before .before))
 
 add-first : tie.Need-add-first
-add-first c = search needs
+add-first c = omega (arith, inside (c .before .before .before .before .before .before))
 
-mul-short-lower : tie.Need-mul-short-lower
-mul-short-lower c = search needs
+add-append-line : tie.Need-add-append-line
+add-append-line c = omega (arith, inside (c .before .before .before .before .before .before .before))
 
-shared-slice-read-short-lower : tie.Need-shared-slice-read-short-lower
-shared-slice-read-short-lower c = search needs
+mul-append-line : tie.Need-mul-append-line
+mul-append-line c = omega (arith, inside (c .before .before .before .before .before .before .before))
 
-add-short-upper : tie.Need-add-short-upper
-add-short-upper c = search needs
+sub-append-line : tie.Need-sub-append-line
+sub-append-line c = search needs
 
-mul-short-upper : tie.Need-mul-short-upper
-mul-short-upper c = search needs
+part-append-line-start : tie.Need-part-append-line-start
+part-append-line-start c = search needs
 
-shared-slice-read-short-upper : tie.Need-shared-slice-read-short-upper
-shared-slice-read-short-upper c = search needs
+part-append-line-end : tie.Need-part-append-line-end
+part-append-line-end c = omega (arith, inside (c .before .before .before .before .before .before .before))
 
-add-long-lower : tie.Need-add-long-lower
-add-long-lower c = search needs
-
-mul-long-lower : tie.Need-mul-long-lower
-mul-long-lower c = search needs
-
-shared-slice-read-long-lower : tie.Need-shared-slice-read-long-lower
-shared-slice-read-long-lower c = search needs
-
-add-long-upper : tie.Need-add-long-upper
-add-long-upper c = search needs
-
-mul-long-upper : tie.Need-mul-long-upper
-mul-long-upper c = search needs
-
-shared-slice-read-long-upper : tie.Need-shared-slice-read-long-upper
-shared-slice-read-long-upper c = search needs
-
-slice-aggregate-append-line : tie.Need-slice-aggregate-append-line
-slice-aggregate-append-line c = search needs
+-- the part has as many numbers as a scenario has totals
+end-less : (first each : ℕ) → first + each - first ≡ each
+end-less first each = omega arith
 
 append-line-requires : tie.Need-append-line-requires
 unfolding totalsIn
 append-line-requires c κs =
-    let d = c .before .before .before .before .before .before .before .before in
+    let d = c .before .before .before .before in
     let s = d .before .before .before .before .args in
-    omega (arith, d .append-difference .ensures .end-is, simp length-append at (ap length (line-is (s .numbers .now) (s .from) (s .scenario))))
+    let e = end-less (s .from + s .each * s .scenario) (s .each) in
+    rw e (omega (arith, d .append-difference .ensures .end-is, simp length-append at (ap length (line-is (s .numbers .now) (s .from) (s .each) (s .scenario)))))
 
 same-length : tie.Need-same-length
 same-length c = search needs
@@ -73,9 +62,10 @@ returns : tie.Need-returns
 unfolding totalsIn
 returns c =
     let line = c .before .before in
-    let d = line .before .before .before .before .before .before .before .before .before in
+    let d = line .before .before .before .before .before in
     let s = d .before .before .before .before .args in
-    rw (line-is (s .numbers .now) (s .from) (s .scenario)) (appended-append _ _ _ _ _ _ _ _ (d .append-difference .ensures) (line .append-line .ensures))
+    rw (line-is (s .numbers .now) (s .from) (s .each) (s .scenario)) (appended-append _ _ _ _ _ _ _ _ (d .append-difference .ensures)
+    (rw (end-less (s .from + s .each * s .scenario) (s .each)) at (line .append-line .ensures)))
 
 pub append-scenario-spec : {M : Type 1} → statement M
 append-scenario-spec =
@@ -85,18 +75,11 @@ append-scenario-spec =
     append-difference-requires
     mul-first
     add-first
-    mul-short-lower
-    shared-slice-read-short-lower
-    add-short-upper
-    mul-short-upper
-    shared-slice-read-short-upper
-    add-long-lower
-    mul-long-lower
-    shared-slice-read-long-lower
-    add-long-upper
-    mul-long-upper
-    shared-slice-read-long-upper
-    slice-aggregate-append-line
+    add-append-line
+    mul-append-line
+    sub-append-line
+    part-append-line-start
+    part-append-line-end
     append-line-requires
     same-length
     returns)

@@ -11,25 +11,26 @@ use Rattle.text_listing.proofs.total_lines.append_scenarios.Statement.{
 use Rattle.text_listing.proofs.total_lines.append_scenarios.Tie as tie
 
 abbrev Inv-loop : tie.InvT-loop
-Inv-loop out₀ at numbers from end₀ scenario₀ out end scenario = (scenario ≤ scenarioCount) × Remaining out₀ at (linesIn numbers from) out end (linesFrom numbers from scenario)
+Inv-loop out₀ at numbers from each end₀ scenario₀ out end scenario = (scenario ≤ scenarioCount) × Remaining out₀ at (linesIn numbers from each) out end (linesFrom numbers from each scenario)
 
 abbrev μ-loop : tie.MeasureT-loop
-μ-loop out₀ at numbers from end₀ scenario₀ out end scenario = scenarioCount - scenario
+μ-loop out₀ at numbers from each end₀ scenario₀ out end scenario = scenarioCount - scenario
 
 loop-holds : tie.Need-loop-holds Inv-loop μ-loop
 unfolding linesIn
 loop-holds c = (omega arith, remaining-all _ _ _)
 
 -- seven lines have 623 bytes at most
-short : (c : tie.After-shared-slice-known Inv-loop μ-loop) → length (linesIn (c .before .before .args .numbers .now) (c .before .before .args .from)) ≤ 623
-short c = lines-length _ _ (λ i. omega (arith, c .shared-slice-known .given i))
+short : (c : tie.After-shared-slice-known Inv-loop μ-loop) → length (linesIn (c .before .before .args .numbers .now) (c .before .before .args .from) (c .before .before .args .each)) ≤ 623
+short c = lines-length _ _ _ (c .before .before .pre .0) (λ i. omega (arith, c .shared-slice-known .given i))
 
 append-scenario-requires : tie.Need-append-scenario-requires Inv-loop μ-loop
 append-scenario-requires c κs =
     let l = c .before .before in
     let a = l .before .before .before .args in (
-      omega (arith, l .loop .inv .1 .reach, short (l .before), simp length-append at (ap length (lines-next (a .numbers .now) (a .from) (l .loop .scenario) (omega arith)))),
-      omega arith,
+      omega (arith, l .loop .inv .1 .reach, short (l .before), simp length-append at (ap length (lines-next (a .numbers .now) (a .from) (a .each) (l .loop .scenario) (omega arith)))),
+      l .before .before .before .pre .0,
+      l .before .before .before .pre .2,
       omega arith,
     )
 
@@ -42,7 +43,7 @@ loop-less c = omega arith
 loop-again : tie.Need-loop-again Inv-loop μ-loop
 loop-again c =
     let l = c .before .before .before .before .before in
-    let inv = rw (lines-next (l .before .before .before .args .numbers .now) (l .before .before .before .args .from) (l .loop .scenario) (omega arith)) at (l .loop .inv .1) in
+    let inv = rw (lines-next (l .before .before .before .args .numbers .now) (l .before .before .before .args .from) (l .before .before .before .args .each) (l .loop .scenario) (omega arith)) at (l .loop .inv .1) in
     (omega arith, remaining-less _ _ _ _ _ _ _ _ _ inv (c .before .before .append-scenario .ensures))
 
 same-length : tie.Need-same-length Inv-loop μ-loop
@@ -51,7 +52,7 @@ same-length c = c .before .loop .inv .1 .as-long
 returns : tie.Need-returns Inv-loop μ-loop
 returns c =
     let l = c .before in
-    let inv = rw (lines-end (l .before .before .before .args .numbers .now) (l .before .before .before .args .from) (l .loop .scenario) (omega arith)) at (l .loop .inv .1) in
+    let inv = rw (lines-end (l .before .before .before .args .numbers .now) (l .before .before .before .args .from) (l .before .before .before .args .each) (l .loop .scenario) (omega arith)) at (l .loop .inv .1) in
     (remaining-last _ _ _ _ _ _ _ _ inv (record { bytes-are = refl; end-is = omega arith }), omega (arith, inv .reach, short (l .before)))
 
 pub append-scenarios-spec : {M : Type 1} → statement M
