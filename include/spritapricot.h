@@ -1,6 +1,6 @@
 /*
- * Values a filing of certificate deposits and borrowings under seven rate scenarios, turns certificates into the cells of a filing, and keeps a book. Link
- * libexports.a, which `rt staticlib exports` makes.
+ * Values a filing of certificate deposits and borrowings under seven rate scenarios, turns certificates into the cells of a filing, keeps a book, and answers
+ * queries on printed price lines. Link libexports.a, which `rt staticlib exports` makes.
  */
 #ifndef SPRITAPRICOT_H
 #define SPRITAPRICOT_H
@@ -47,6 +47,19 @@ uint64_t spritapricot_cells(uint64_t year, uint64_t month, uint64_t day, const u
  */
 uint64_t spritapricot_book(const uint8_t *filing, size_t filing_length, const uint64_t *changes, size_t changes_length, uint64_t totals[29],
     uint64_t *place, uint64_t *changed);
+
+/*
+ * The price of a month and a scenario, 0 to 6, by printed price lines: the months of each line at `months`, and seven prices for each line at `prices`, one
+ * for each scenario. There are as many lines as both lists have: `months_length`, or `prices_length` divided by 7 and rounded down, whichever is less.
+ * Answers 0 for a listed month, with that line's price bit for bit in *price; 1 for a month between two lines, with the price between them in *price,
+ * p1 + (p2 - p1) * w, where w is m - m1 over m2 - m1, each operation rounded once; 2 for outside: a month before the first line or behind the last, a
+ * scenario above 6, no lines; *place is 0. Or answers 21 for a faulty line, with the index of the first, from 0, in *place: months that do not rise, a price
+ * that is not both above 0 and at most 1,000 (not a number, say), a 65th line. 2 and 21 leave *price as it was.
+ * The lists may be written in no other thread during the call; *price and *place may not overlap each other or the lists; no pointer is null, also where
+ * its length is 0. Needs no memory but the stack.
+ */
+uint64_t spritapricot_price(const uint16_t *months, size_t months_length, const double *prices, size_t prices_length, uint64_t month, uint64_t scenario,
+    double *price, uint64_t *place);
 
 #ifdef __cplusplus
 }

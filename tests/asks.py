@@ -6,9 +6,9 @@ import re
 import sys
 
 ROOT = pathlib.Path(__file__).resolve().parent.parent
-# What programs, C and other callers from outside call.
-ENTRIES = """read split value to_cells open set clear book_of tier_for write_listing write_cells write_read open_book open_read obey obey_read
-    spritapricot_value spritapricot_cells spritapricot_book""".split()
+# What programs, C and other callers from outside call; with its crate where another has a function of the same name.
+ENTRIES = """read split value to_cells open set clear book_of tier_for write_listing write_read text_listing::write_borrowings write_borrowings_read write_cells
+    open_book open_read obey obey_read quote write_quote spritapricot_value spritapricot_cells spritapricot_book spritapricot_price""".split()
 NAME = re.compile(r'^\s*pub (?:extern "C" )?fn (\w+)', re.M)
 # The brace that opens the body: alone on its line behind a contract, else at the end of the signature.
 BODY = re.compile(r"^\s*\{$|^(?!\s*(?:requires|ensures)\b).*\{$", re.M)
@@ -33,8 +33,9 @@ def callers(crate, name):
 def main():
     every = list(functions())
     asking = [(crate, name) for crate, name, head in every if re.search(r"^\s*requires\b", head, re.M)]
-    wrong = ["%s of %s asks something of its caller" % (name, crate) for crate, name in asking if name in ENTRIES]
-    wrong += ["no public function is called " + entry for entry in ENTRIES if entry not in {name for _, name, _ in every}]
+    wrong = ["%s of %s asks something of its caller" % (name, crate) for crate, name in asking if {name, crate + "::" + name} & set(ENTRIES)]
+    names = {known for crate, name, _ in every for known in (name, crate + "::" + name)}
+    wrong += ["no public function is called " + entry for entry in ENTRIES if entry not in names]
     if "--list" in sys.argv[1:]:
         for crate, name in asking:
             print("%s::%s, called by %s" % (crate, name, " ".join(callers(crate, name)) or "its own crate alone"))

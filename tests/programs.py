@@ -1,11 +1,13 @@
 #!/usr/bin/env python3
-"""Makes the stored inputs of the programs, each as long as it may be: what is read last counts, so a program that reads less prints something else."""
+"""Makes the stored inputs of the programs, each as long as it may be: what is read last counts, so a program that reads less prints something else. Price
+lines may be 64; `quote` is asked for a month before the last of them."""
 import pathlib
 import sys
 
 sys.dont_write_bytecode = True
 
 import records
+import run_lines
 
 ROOT = pathlib.Path(__file__).parent.parent
 FILING, INPUT, LINE = 65_536, 131_072, 1_024
@@ -62,6 +64,7 @@ def main():
     (crates / "book" / "data" / "filing").write_bytes(longest_filing())
     (crates / "cells" / "stdin").write_bytes(longest_certificates())
     (crates / "book" / "stdin").write_bytes(longest_lines())
+    (crates / "quote" / "stdin").write_bytes(run_lines.rising(64))
 
 
 if __name__ == "__main__":

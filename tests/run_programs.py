@@ -1,12 +1,13 @@
 #!/usr/bin/env python3
-"""Runs `listing`, `borrowings`, `cells` and `book`, as `rt check` or `rt ci` left them in target/bin, and compares what each prints, byte by byte.
+"""Runs `listing`, `borrowings`, `cells`, `book` and `quote`, as `rt check` or `rt ci` left them in target/bin, and compares what each prints, byte by byte.
 
 The runs of tests/runs/PROGRAM: NAME.in is standard input and NAME.out what is to be printed; NAME.args holds arguments, one a line, NAME.filing is a file whose
-name is the argument. A run starts in tests/runs/PROGRAM. run_filings.py makes the filings among them. Runs that are too long to be stored are made here.
+name is the argument. A run starts in tests/runs/PROGRAM. run_filings.py makes the filings among them, run_lines.py the price lines. Runs that are too long to
+be stored are made here.
 
 Where the .out files come from: refusals and replies from documents 01 and 02 and from README, the listing `sample` from document 01; every other figure worked
-apart from the programs with whole fractions, for which the filings have few months: one month is balance x (1 + coupon + servicing) x discount factor. To `book`
-a directory, none of whose bytes can be read, is a file without bytes.
+apart from the programs with whole fractions, for which the filings have few months: one month is balance x (1 + coupon + servicing) x discount factor; prices
+between lines with the 64-bit floats of another language. To `book` a directory, none of whose bytes can be read, is a file without bytes.
 
 The very last line is 'N passed, M failed'; the exit status is 0 where all passed."""
 import pathlib
@@ -16,6 +17,7 @@ import sys
 sys.dont_write_bytecode = True
 
 import programs
+import run_lines
 
 ROOT = pathlib.Path(__file__).parent.parent
 RUNS = ROOT / "tests" / "runs"
@@ -84,7 +86,21 @@ def long_books():
     yield "a thousand lines", small, b"clear 3\n" * 1_000, b"opened\n" + b"ok\n" * 1_000
 
 
-LONG = {"listing": long_filings, "borrowings": long_borrowings, "cells": long_lists, "book": long_books}
+def long_price_lines():
+    """1,129 lines are the most in 65,536 bytes."""
+    asked, most = ["0", "0"], 1_129
+    yield "as many lines as can be read", asked, run_lines.rising(most), b"refused 21 64\n"
+    yield "as many lines as can be read, the first faulty", asked, run_lines.line(0, 0.0) + run_lines.rising(most - 1), b"refused 21 0\n"
+    yield "as long as allowed", asked, bytes(65_536), b"unreadable\n"
+    yield "one byte too long", asked, bytes(65_537), TOO_LONG
+    yield "a line too long", asked, run_lines.rising(most + 1), TOO_LONG
+    yield "a million bytes", asked, bytes(1_000_000), TOO_LONG
+    yield "too long, without arguments", [], bytes(65_537), TOO_LONG
+    yield "argument of 4,096 digits", ["0".rjust(4_096, "0"), "0"], run_lines.rising(1), b"listed 4056800000000000\n"
+    yield "argument of 4,097 digits", ["0".rjust(4_097, "0"), "0"], run_lines.rising(1), b"unreadable\n"
+
+
+LONG = {"listing": long_filings, "borrowings": long_borrowings, "cells": long_lists, "book": long_books, "quote": long_price_lines}
 
 
 def printed(program, args, data):

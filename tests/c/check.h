@@ -35,5 +35,6 @@ void count_check(int held, const char *what, const char *test, const char *file,
 void try_value(void);
 void try_cells(void);
 void try_book(void);
+void try_price(void);
 
 #endif

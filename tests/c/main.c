@@ -94,6 +94,7 @@ int main(void)
     try_value();
     try_cells();
     try_book();
+    try_price();
     printf("%lu passed, %lu failed\n", passed, failed);
     return failed != 0;
 }

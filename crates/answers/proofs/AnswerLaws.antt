@@ -3,7 +3,7 @@
 use native.Mathlib.Omega.{arith}
 use mathlib.Core.Path.{_≡_, refl, ap}
 use Rattle.answers.specs.declared.Answer.{Answer}
-use Rattle.answers.specs.declared.Answer.the-variants.{Accepted, RecordIncomplete, RecordMisshapen, CellUnlisted, Repeated, PathBesideFlat, AmendmentRepeated, OverLimit, TiersUnsound, SheetMissing, LiborMissing, CouponOutsideClass, MonthsOutsideRow, AboveColumnSum, TotalDiffers, ListTooShort, NoSuchDay, NotOutstanding, TooManyMonths, OutsidePlaceLimits}
+use Rattle.answers.specs.declared.Answer.the-variants.{Accepted, RecordIncomplete, RecordMisshapen, CellUnlisted, Repeated, PathBesideFlat, AmendmentRepeated, OverLimit, TiersUnsound, SheetMissing, LiborMissing, CouponOutsideClass, MonthsOutsideRow, AboveColumnSum, TotalDiffers, ListTooShort, NoSuchDay, NotOutstanding, TooManyMonths, OutsidePlaceLimits, LineFaulty}
 use Rattle.answers.specs.Verdict.{accepted}
 use Rattle.answers.specs.Answers.{numberOf, verdictOf}
 
@@ -29,6 +29,7 @@ number-accepted (NoSuchDay at) h = absurd (omega arith)
 number-accepted (NotOutstanding at) h = absurd (omega arith)
 number-accepted (TooManyMonths at) h = absurd (omega arith)
 number-accepted (OutsidePlaceLimits at) h = absurd (omega arith)
+number-accepted (LineFaulty at) h = absurd (omega arith)
 
 pub accepted-answer : (a : Answer) → numberOf a ≡ 0 → verdictOf a ≡ accepted
 unfolding verdictOf accepted

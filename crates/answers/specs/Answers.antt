@@ -1,7 +1,7 @@
--- The answers of the code as verdicts of the paper's table (01:28-39; 02:CR 1, CR 3, CR 5, CR 6, CR 7, CR 8): each case's number and location. Definitions only.
+-- The answers of the code as verdicts of the paper's table (01:28-39; 02:CR 1, CR 3, CR 5, CR 6, CR 7, CR 8, CR 12): each case's number and location. Definitions only.
 use Prim.Native.Nat.{ℕ}
 use Rattle.answers.specs.declared.Answer.{Answer}
-use Rattle.answers.specs.declared.Answer.the-variants.{Accepted, RecordIncomplete, RecordMisshapen, CellUnlisted, Repeated, PathBesideFlat, AmendmentRepeated, OverLimit, TiersUnsound, SheetMissing, LiborMissing, CouponOutsideClass, MonthsOutsideRow, AboveColumnSum, TotalDiffers, ListTooShort, NoSuchDay, NotOutstanding, TooManyMonths, OutsidePlaceLimits}
+use Rattle.answers.specs.declared.Answer.the-variants.{Accepted, RecordIncomplete, RecordMisshapen, CellUnlisted, Repeated, PathBesideFlat, AmendmentRepeated, OverLimit, TiersUnsound, SheetMissing, LiborMissing, CouponOutsideClass, MonthsOutsideRow, AboveColumnSum, TotalDiffers, ListTooShort, NoSuchDay, NotOutstanding, TooManyMonths, OutsidePlaceLimits, LineFaulty}
 use Rattle.answers.specs.Verdict.{Verdict}
 
 -- the number of an answer
@@ -26,6 +26,7 @@ numberOf (NoSuchDay certificate) = 13
 numberOf (NotOutstanding certificate) = 14
 numberOf (TooManyMonths certificate) = 15
 numberOf (OutsidePlaceLimits place) = 17
+numberOf (LineFaulty line) = 21
 
 -- the location of an answer
 abbrev pub locationOf : Answer → ℕ
@@ -49,6 +50,7 @@ locationOf (NoSuchDay certificate) = certificate
 locationOf (NotOutstanding certificate) = certificate
 locationOf (TooManyMonths certificate) = certificate
 locationOf (OutsidePlaceLimits place) = place
+locationOf (LineFaulty line) = line
 
 -- the verdict that an answer stands for
 unfoldable pub verdictOf : Answer → Verdict

@@ -1,4 +1,4 @@
-// The answers on a filing, on a list of certificates and on a change of a book, and the paper's number of each.
+// The answers on a filing, on a list of certificates, on a change of a book and on price lines, and the paper's number of each.
 pub mod first_refusals;
 pub mod locations;
 
@@ -33,6 +33,8 @@ pub enum Answer {
     TooManyMonths(usize),
     // At the place of the thirty-six.
     OutsidePlaceLimits(usize),
+    // At the price line's index.
+    LineFaulty(usize),
 }
 
 // The number of a refusal, 0 for acceptance.
@@ -60,5 +62,6 @@ pub fn number(answer: Answer) -> u64
         Answer::NotOutstanding(_) => 14,
         Answer::TooManyMonths(_) => 15,
         Answer::OutsidePlaceLimits(_) => 17,
+        Answer::LineFaulty(_) => 21,
     }
 }

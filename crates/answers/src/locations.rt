@@ -1,4 +1,4 @@
-// The location of a refusal: the record's offset, the cell, the certificate, the place, or the length of what is too short.
+// The location of a refusal: the record's offset, the cell, the certificate, the place, the price line, or the length of what is too short.
 use crate::Answer;
 ghost use mathlib.Core.Path.{_≡_};
 ghost use Rattle.answers.specs.Answers.{locationOf};
@@ -28,5 +28,6 @@ pub fn location(answer: Answer) -> usize
         Answer::NotOutstanding(certificate) => certificate,
         Answer::TooManyMonths(certificate) => certificate,
         Answer::OutsidePlaceLimits(place) => place,
+        Answer::LineFaulty(line) => line,
     }
 }

@@ -3,3 +3,4 @@ pub mod ConvertedLaws
 pub mod ChangedLaws
 pub mod ShownCases
 pub mod NumberCases
+pub mod PricedLaws

@@ -1,1 +1,2 @@
 pub mod EnclosureLaws
+pub mod SignedLaws

@@ -11,14 +11,15 @@ use form::sub_balances::SCENARIOS;
 use form_scenarios::shifted_rates;
 use lists::write;
 ghost use mathlib.Core.Path.{_≡_};
-ghost use Prim.Native.Nat.{_*_, _≤_, _<_};
+ghost use Prim.Native.Nat.{suc, _+_, _*_, _≤_};
 ghost use lib.ListN.{length, replicate};
 ghost use Rattle.lists.specs.Runs.{written};
-ghost use Rattle.form.specs.Limits.{monthsLimit};
-ghost use Rattle.form.specs.Shift.{scenarioCount};
+ghost use Rattle.form.specs.Limits.{monthsLimit, rateLimit};
+ghost use Rattle.form.specs.Shift.{scenarioCount, shiftedRates};
 ghost use Rattle.form.specs.Counts.{factorCount};
 ghost use Rattle.pricing.specs.Rounding.{down, up};
-ghost use Rattle.price_factors.specs.Inner.Factors.{yieldFactors, factorsBy, WithinRates};
+ghost use Rattle.pricing.specs.Inner.Multipliers.{discountsBy};
+ghost use Rattle.price_factors.specs.Inner.Factors.{factorsBy, WithinRates};
 
 // A factor for each month and scenario.
 pub const FACTORS: usize = SCENARIOS * TERM_MONTHS;
@@ -36,19 +37,20 @@ pub fn fill_factors(yields: &[u16], longest: u64, lower: &mut FactorTable, upper
         if longest <= month as u64 {
             return;
         }
-        fill_month(yields, month, lower, upper);
+        fill_month(yields[month], month, lower, upper);
         month += 1;
     }
 }
 
-// The factors of a month, counted from 0, in the seven scenarios. The lower ones are written before the upper ones are made, so that both are made in registers.
-fn fill_month(yields: &[u16], month: usize, lower: &mut FactorTable, upper: &mut FactorTable)
-    requires { ⌜ WithinRates (now yields) × (monthsLimit ≤ length (now yields)) × (month < monthsLimit) ⌝ }
-    ensures { λ _. ⌜ (now (lower .exit) ≡ written (now (lower .entry)) (scenarioCount * month) (yieldFactors down (now (yields .entry)) month))
-        × (now (upper .exit) ≡ written (now (upper .entry)) (scenarioCount * month) (yieldFactors up (now (yields .entry)) month)) ⌝ }
+// The factors of a month, counted from 0, in the seven scenarios, by its yield. The lower ones are written before the upper ones are made, so that both are made
+// in registers.
+pub fn fill_month(rate: u16, month: usize, lower: &mut [u64], upper: &mut [u64])
+    requires { ⌜ (rate ≤ rateLimit) × (scenarioCount * month + scenarioCount ≤ length (now lower)) × (scenarioCount * month + scenarioCount ≤ length (now upper)) ⌝ }
+    ensures { λ _. ⌜ (now (lower .exit) ≡ written (now (lower .entry)) (scenarioCount * month) (discountsBy down (shiftedRates rate) (suc month)))
+        × (now (upper .exit) ≡ written (now (upper .entry)) (scenarioCount * month) (discountsBy up (shiftedRates rate) (suc month))) ⌝ }
 {
     let n = month as u64 + 1;
-    let rates = shifted_rates(yields[month]);
+    let rates = shifted_rates(rate);
     let above = upper_multipliers(&rates);
     let below = lower_factors(&rates, &above, n);
     write(lower, SCENARIOS * month, &below);

@@ -2,7 +2,7 @@
 use Prim.Native.Nat.{ℕ, zero, suc, _+_, _*_, _<_}
 use lib.Dec.{lit<}
 use native.Mathlib.Omega.{arith}
-use Rattle.fraction.specs.Fraction.{Fraction, whole, scaled, Encloses}
+use Rattle.fraction.specs.Fraction.{Fraction, whole, scaled, product, Encloses}
 use Rattle.fraction.proofs.EnclosureLaws.{whole-encloses, scaled-encloses, product-encloses, plus-encloses}
 use Rattle.pricing.specs.Scales.{par, rateScale, valueScale}
 use Rattle.pricing.specs.Exact.{exactDiscount, exactDiscountFactor, exactDiscounted, exactWorth}
@@ -32,22 +32,26 @@ discount-encloses z (suc n) =
     scale-first (exactDiscount z n) rateScale (rateScale + z) par
     (rounded-encloses rateScale (rateScale + z) (omega arith) (discount-encloses z n))
 
+-- an enclosed flow times the discount factor of n factors at a yield
+pub product-month : {l u : ℕ} {x : Fraction} (z n : ℕ) → Encloses l x u
+    → Encloses (quotient down (l * discountBy down z n) par) (product x (exactDiscount z n)) (quotient up (u * discountBy up z n) par)
+product-month {l} {u} z n e =
+    product-encloses (exactDiscount z n) par (quotient down lower par) (quotient up upper par) (lit< tt) (floor-le lower par) (ceiling-ge upper par (lit< tt)) e
+    (discount-encloses z n)
+  where
+    lower : ℕ
+    lower = l * discountBy down z n
+
+    upper : ℕ
+    upper = u * discountBy up z n
+
 -- flows that are enclosed month by month, discounted by any yields, for any number of months: the sum so far is enclosed, and the month adds
 -- flow × factor, both enclosed, rounded down below and up above
 pub discounted-encloses : (f g : ℕ → ℕ) (x : ℕ → Fraction) (z : ℕ → ℕ) (t : ℕ) → ((i : ℕ) → Encloses (f i) (x i) (g i))
     → Encloses (discountedSum down f (discountFactorBy down z) t) (exactDiscounted x z t) (discountedSum up g (discountFactorBy up z) t)
 unfolding discountedSum exactDiscounted discountFactorBy exactDiscountFactor
 discounted-encloses f g x z zero h = whole-encloses 0
-discounted-encloses f g x z (suc t) h =
-    plus-encloses (discounted-encloses f g x z t h)
-    (product-encloses (exactDiscount (z (suc t)) (suc t)) par (quotient down lower par) (quotient up upper par) (lit< tt)
-    (floor-le lower par) (ceiling-ge upper par (lit< tt)) (h t) (discount-encloses (z (suc t)) (suc t)))
-  where
-    lower : ℕ
-    lower = f t * discountBy down (z (suc t)) (suc t)
-
-    upper : ℕ
-    upper = g t * discountBy up (z (suc t)) (suc t)
+discounted-encloses f g x z (suc t) h = plus-encloses (discounted-encloses f g x z t h) (product-month (z (suc t)) (suc t) (h t))
 
 -- the worth of a balance at an enclosed price
 pub worth-encloses : (balance : ℕ) {l u : ℕ} {x : Fraction} → Encloses l x u → Encloses (worthBy down balance l) (exactWorth balance x) (worthBy up balance u)

@@ -46,7 +46,7 @@ product-width f g l u n m hu hw hn =
     (arith, ceiling-lt ((f + g) * u) par (lit< tt), floor-gt (f * l) par (lit< tt), mul-le-mul-left f hw, mul-le-mul-left f hn, mul-le-mul-left g hu)
 
 -- the same for flows f ≤ v of month n and its discount factors
-month-width : (f v y n m : ℕ) → f ≤ v → n ≤ m
+pub month-width : (f v y n m : ℕ) → f ≤ v → n ≤ m
     → quotient up (v * discountBy up y n) par * par + f * par
     ≤ quotient down (f * discountBy down y n) par * par + f * m + v * par + 2 * par
 month-width f v y n m hf hn =

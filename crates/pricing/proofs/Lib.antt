@@ -3,6 +3,7 @@ pub mod ProductLaws
 pub mod FlowLaws
 pub mod EnclosureLaws
 pub mod MonthLaws
+pub mod PaidLaws
 pub mod AmountLaws
 pub mod PaymentLaws
 pub mod DiscountLaws

@@ -61,15 +61,15 @@ module _ (k : Contents) (rest : List ℕ) where
   unfolding balanceIn
   balance-in place h = rw (numbers-split k rest) (balance-read k (totals k ++ rest) place h)
 
-  lower-in : (scenario place : ℕ) → scenario < scenarioCount → place < subBalanceCount → lowerIn (numbers k ++ rest) scenario place ≡ valueAt down k scenario place
+  pub lower-in : (scenario place : ℕ) → scenario < scenarioCount → place < subBalanceCount → lowerIn (numbers k ++ rest) scenario place ≡ valueAt down k scenario place
   unfolding lowerIn
   lower-in scenario place hs hp = rw (numbers-split k rest) (lower-read k (totals k ++ rest) _ scenario place (omega arith) hs hp)
 
-  upper-in : (scenario place : ℕ) → scenario < scenarioCount → place < subBalanceCount → upperIn (numbers k ++ rest) scenario place ≡ valueAt up k scenario place
+  pub upper-in : (scenario place : ℕ) → scenario < scenarioCount → place < subBalanceCount → upperIn (numbers k ++ rest) scenario place ≡ valueAt up k scenario place
   unfolding upperIn
   upper-in scenario place hs hp = rw (numbers-split k rest) (upper-read k (totals k ++ rest) _ scenario place (omega arith) hs hp)
 
-  total-in : (scenario r : ℕ) → scenario < scenarioCount → r < 4 → totalNumber (numbers k ++ rest) r scenario ≡ getD (scenarioTotals k scenario) r 0
+  pub total-in : (scenario r : ℕ) → scenario < scenarioCount → r < 4 → totalNumber (numbers k ++ rest) r scenario ≡ getD (scenarioTotals k scenario) r 0
   unfolding totalNumber
   total-in scenario r hs hr = rw (numbers-split k rest) (total-read k rest scenario r hs hr)
 

@@ -137,13 +137,13 @@ unfolding tierTable withSurvivals
 fit-usable count edges withdrawals otherwise fit e f = record { edges-fit = fit .edges-fit; held-is = e; falling = f }
 
 -- a function over a table is the table of what it makes
-map-table : {A B : Type 0} (f : A → B) (s n : ℕ) (g : ℕ → A) → map f (tableFrom s n g) ≡ tableFrom s n (λ (i : ℕ). f (g i))
+pub map-table : {A B : Type 0} (f : A → B) (s n : ℕ) (g : ℕ → A) → map f (tableFrom s n g) ≡ tableFrom s n (λ (i : ℕ). f (g i))
 unfolding tableFrom
 map-table f s zero g = refl
 map-table f s (suc n) g = rw (map-table f (suc s) n g)
 
 -- what the entries of a table hold
-padded-holds : (n : ℕ) (f : ℕ → ℕ) (i : ℕ) → i < n → getD (tierArray (table n f)) i 0 ≡ f i
+pub padded-holds : (n : ℕ) (f : ℕ → ℕ) (i : ℕ) → i < n → getD (tierArray (table n f)) i 0 ≡ f i
 unfolding padded
 padded-holds n f i h = List·getD-append (table n f) _ 0 i (rw (table-length 0 n f) h) ∙ table-getD n f i 0 h
 

@@ -1,16 +1,17 @@
 -- `price_factors::fill_factors` meets its contract: the months passed are written. Assumes nothing.
-use Prim.Native.Nat.{ℕ, _+_, _*_, _-_, _≤_, _<_}
+use Prim.Native.Nat.{ℕ, suc, _+_, _*_, _-_, _≤_, _<_}
 use mathlib.Core.List.{List, []}
 use mathlib.Core.Path.{_≡_, _∙_}
 use native.Mathlib.Omega.{arith}
-use lib.ListN.{replicate}
+use lib.ListN.{getD, replicate}
 use Rattle.lists.specs.Runs.{written}
 use Rattle.lists.specs.Tables.{tableFrom, table, joined}
 use Rattle.lists.proofs.RunLaws.{Overwritten, overwritten-none, overwritten-row, overwritten-all}
-use Rattle.form.specs.Shift.{scenarioCount}
+use Rattle.form.specs.Shift.{scenarioCount, shiftedRates}
 use Rattle.form.specs.Limits.{monthsLimit}
 use Rattle.form.specs.Counts.{factorCount}
 use Rattle.pricing.specs.Rounding.{Rounding, down, up}
+use Rattle.pricing.specs.Inner.Multipliers.{discountsBy}
 use Rattle.price_factors.specs.Inner.Factors.{yieldFactors, monthFactors, factorsBy}
 use Rattle.price_factors.proofs.FactorLaws.{month-length, month-within, factors-left}
 use Rattle.price_factors.proofs.fill_factors.Statement.{statement}
@@ -35,8 +36,17 @@ returns c =
     let inv = c .before .before .loop .inv in
     (inv .1 .is ∙ factors-left _ _ _ _ (c .if1 .taken) (inv .0), inv .2 .is ∙ factors-left _ _ _ _ (c .if1 .taken) (inv .0))
 
+mul-fill-month : tie.Need-mul-fill-month Inv-loop μ-loop
+mul-fill-month c = omega arith
+
+shared-slice-read-fill-month : tie.Need-shared-slice-read-fill-month Inv-loop μ-loop
+shared-slice-read-fill-month c = omega arith
+
 fill-month-requires : tie.Need-fill-month-requires Inv-loop μ-loop
-fill-month-requires c κs = let limits = c .before .before .before .before .before .before .pre in (limits .0, limits .1, omega arith)
+fill-month-requires c κs =
+    let at = c .before .before .before .before .before in
+    let p = at .before .before .pre in
+    (p .0 _, omega (arith, at .loop .inv .1 .as-long), omega (arith, at .loop .inv .2 .as-long))
 
 add-month : tie.Need-add-month Inv-loop μ-loop
 add-month c = omega arith
@@ -46,15 +56,17 @@ loop-less c = omega arith
 
 -- one month more
 month-written : (ρ : Rounding) (yields : List ℕ) (longest month : ℕ) (factors after : List ℕ) → month < monthsLimit → month < longest
-    → Written ρ yields longest month factors → after ≡ written factors (scenarioCount * month) (yieldFactors ρ yields month) → Written ρ yields longest (month + 1) after
+    → Written ρ yields longest month factors → after ≡ written factors (scenarioCount * month) (discountsBy ρ (shiftedRates (getD yields month 0)) (suc month))
+    → Written ρ yields longest (month + 1) after
+unfolding yieldFactors
 month-written ρ yields longest month factors after h l w e =
     rw e
     (overwritten-row [] (monthFactors ρ yields longest) scenarioCount (month-length ρ yields longest) month (scenarioCount * month) (scenarioCount * (month + 1)) (replicate factorCount 0) factors
-    (yieldFactors ρ yields month) w (month-within ρ yields longest month l) (omega arith) (omega arith))
+    (discountsBy ρ (shiftedRates (getD yields month 0)) (suc month)) w (month-within ρ yields longest month l) (omega arith) (omega arith))
 
 loop-again : tie.Need-loop-again Inv-loop μ-loop
 loop-again c =
-    let within = c .before .before .before in
+    let within = c .before .before .before .before in
     let at = within .before .before in (
       omega arith,
       month-written down _ _ (at .loop .month) (at .loop .lower) _ (omega arith) (omega (arith, within .if1 .left)) (at .loop .inv .1) (c .fill-month .ensures .0),
@@ -76,6 +88,8 @@ fill-factors-spec =
     μ-loop
     loop-holds
     returns
+    mul-fill-month
+    shared-slice-read-fill-month
     fill-month-requires
     add-month
     loop-less

@@ -9,27 +9,20 @@ use Rattle.lists.specs.Tables.{table}
 use Rattle.form.specs.Shift.{scenarioCount, shiftedLimit, shiftedRates}
 use Rattle.form.proofs.ShiftLaws.{shifted-rates-le}
 use Rattle.pricing.specs.Rounding.{up}
-use Rattle.pricing.specs.Inner.Multipliers.{multipliersBy, chainedBy, AtMost}
+use Rattle.pricing.specs.Inner.Multipliers.{multipliersBy, chainedBy, discountsBy, AtMost}
 use Rattle.pricing.proofs.MultiplierLaws.{chained-at-most, upper-chained}
-use Rattle.price_factors.specs.Inner.Factors.{yieldFactors}
 use Rattle.price_factors.proofs.fill_month.Statement.{statement}
 use Rattle.price_factors.proofs.fill_month.Tie as tie
 
 add-n : tie.Need-add-n
 add-n c = search needs
 
-mul-shifted-rates : tie.Need-mul-shifted-rates
-mul-shifted-rates c = search needs
-
-shared-slice-read-shifted-rates : tie.Need-shared-slice-read-shifted-rates
-shared-slice-read-shifted-rates c = search needs
-
 shifted-rates-requires : tie.Need-shifted-rates-requires
 shifted-rates-requires c κs = search needs
 
 -- the shifted rates, and their multipliers
 rates-le : (c : tie.After-shifted-rates) → AtMost shiftedLimit (c .shifted-rates .result)
-rates-le c = rw (c .shifted-rates .ensures) (shifted-rates-le _ (c .before .before .before .pre .0 _))
+rates-le c = rw (c .shifted-rates .ensures) (shifted-rates-le _ (c .before .before .before .pre .0))
 
 abbrev shifted : tie.After-upper-multipliers → tie.After-shifted-rates
 shifted c = c .before .before
@@ -57,7 +50,7 @@ multiplied c = c .before .before .before .before .before .before
 
 upper-factors-requires : tie.Need-upper-factors-requires
 upper-factors-requires c κs =
-    let above = multiplied (c .before) in
+    let above = multiplied (c .before .before .before) in
     rw (above .upper-multipliers .ensures) (chained-at-most up _ (rates-le (shifted above)))
 
 mul-write-2 : tie.Need-mul-write-2
@@ -70,24 +63,29 @@ write-requires-2 : tie.Need-write-requires-2
 write-requires-2 c κs = search needs
 
 -- the upper factors, from their chains
-upper-are : (yields rates multipliers factors : List ℕ) (month : ℕ) → rates ≡ shiftedRates (getD yields month 0) → AtMost shiftedLimit rates
-    → multipliers ≡ multipliersBy up rates → factors ≡ table scenarioCount (λ (i : ℕ). suc (getD (chainedBy up multipliers (month + 1)) i 0))
-    → factors ≡ yieldFactors up yields month
-unfolding yieldFactors
-upper-are yields rates multipliers factors month r h m f = f ∙ rw (m, upper-chained rates h (month + 1), r, add-one)
+upper-are : (rate month : ℕ) (rates multipliers factors : List ℕ) → rates ≡ shiftedRates rate → AtMost shiftedLimit rates → multipliers ≡ multipliersBy up rates
+    → factors ≡ table scenarioCount (λ (i : ℕ). suc (getD (chainedBy up multipliers (month + 1)) i 0))
+    → factors ≡ discountsBy up (shiftedRates rate) (suc month)
+upper-are rate month rates multipliers factors r h m f = f ∙ rw (m, upper-chained rates h (month + 1), r, add-one)
+
+same-length : tie.Need-same-length
+same-length c = search needs
+
+same-length-2 : tie.Need-same-length-2
+same-length-2 c = search needs
 
 -- the seven lower and the seven upper factors are those of the month's shifted yields
 returns : tie.Need-returns
-unfolding yieldFactors
 returns c =
-    let upper = c .before .before .before in
-    let lower = upper .before .before in
+    let second = c .before .before in
+    let upper = second .before .before .before in
+    let lower = upper .before .before .before .before in
     let above = multiplied lower in
     let below = lower .before .before .before in
     let start = shifted above .before .before .before in
     let rates = shifted above .shifted-rates .ensures in (
       lower .write .ensures ∙ rw (below .lower-factors .ensures, rates, add-one),
-      c .write2 .ensures ∙ rw (upper-are (start .args .yields .now) _ _ _ (start .args .month) rates (rates-le (shifted above)) (above .upper-multipliers .ensures) (upper .upper-factors .ensures)),
+      second .write2 .ensures ∙ rw (upper-are (start .args .rate) (start .args .month) _ _ _ rates (rates-le (shifted above)) (above .upper-multipliers .ensures) (upper .upper-factors .ensures)),
     )
 
 pub fill-month-spec : {M : Type 1} → statement M
@@ -95,8 +93,6 @@ fill-month-spec =
     tie.close
     (tie.spec
     add-n
-    mul-shifted-rates
-    shared-slice-read-shifted-rates
     shifted-rates-requires
     upper-multipliers-requires
     lower-factors-requires
@@ -107,4 +103,6 @@ fill-month-spec =
     mul-write-2
     slice-aggregate-write-2
     write-requires-2
+    same-length
+    same-length-2
     returns)

@@ -1,0 +1,2 @@
+pub mod Forwards
+pub mod Inner

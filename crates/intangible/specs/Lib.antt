@@ -1,0 +1,6 @@
+pub mod RollingTerms
+pub mod RolledMonths
+pub mod Exact
+pub mod Run
+pub mod Bounded
+pub mod Inner

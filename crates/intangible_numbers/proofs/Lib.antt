@@ -1,0 +1,4 @@
+pub mod FactorLaws
+pub mod CellLaws
+pub mod NumberLaws
+pub mod PromiseLaws

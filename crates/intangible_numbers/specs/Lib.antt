@@ -1,0 +1,4 @@
+pub mod Sheets
+pub mod Numbers
+pub mod Promise
+pub mod Inner

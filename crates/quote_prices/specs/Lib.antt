@@ -1,0 +1,3 @@
+pub mod PriceLines
+pub mod Interpolation
+pub mod Neighbours

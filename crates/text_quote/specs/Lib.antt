@@ -1,0 +1,4 @@
+pub mod LineBytes
+pub mod Arguments
+pub mod ReplyLines
+pub mod Printed

@@ -1,0 +1,3 @@
+pub mod MonotoneLaws
+pub mod ValueLaws
+pub mod NotUpLaws

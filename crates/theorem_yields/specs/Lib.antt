@@ -1,0 +1,2 @@
+pub mod YieldsUp
+pub mod ValuesNotUp
