@@ -1,4 +1,6 @@
 // The answers on a filing, on a list of certificates, on a change of a book and on price lines, and the paper's number of each.
+#![tactic(auto)]
+
 pub mod first_refusals;
 pub mod locations;
 
@@ -6,7 +8,7 @@ ghost use Rattle.std.specs.Prelude.{◌≡◌};
 ghost use Rattle.answers.specs.Answers.{number_of};
 
 // The answer: acceptance, or the first refusal and its location.
-#[derive(Drop)]
+#[derive(Clone, Copy)]
 pub enum Answer {
     Accepted,
     // At the record's offset; OverLimit of a certificate at its index.

@@ -1,5 +1,7 @@
 // A standing book on the command line. The one argument names the file with the filing; then each line of standard input is obeyed, and what is
 // answered to it is printed.
+#![tactic(auto)]
+
 use book_state::Book;
 use libc::STDOUT_FILENO;
 use text_book::{LineInput, obey_read, open_read};
@@ -47,7 +49,7 @@ fn obey_lines(opened: Book) {
 }
 
 // The book after a line, and whether there was none.
-#[derive(Drop)]
+#[derive(Clone, Copy)]
 struct Turn {
     book: Book,
     is_end: bool,

@@ -8,7 +8,7 @@ use answers::{Answer, number};
 use book_state::{Answered, Book, refusal};
 
 // The answer on a list of changes, the book after it, and how many changes were made before the answer.
-#[derive(Drop)]
+#[derive(Clone, Copy)]
 pub struct Changed {
     pub answer: Answer,
     pub book: Book,

@@ -1,4 +1,6 @@
 // A standing book (02:CR 7): thirty-six places under a filing's sheets and tiers, set or cleared one at a time, with kept totals.
+#![tactic(auto)]
+
 pub mod book_changes;
 
 ghost use Rattle.std.specs.Prelude.{◌≡◌, length};

@@ -1,4 +1,6 @@
 // What a place of the book takes.
+#![tactic(auto)]
+
 ghost use Rattle.std.specs.Prelude.{◌≡◌};
 ghost use Rattle.book_limits.specs.PlaceLimits.{fits_place, penalty_within};
 

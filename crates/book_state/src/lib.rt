@@ -1,4 +1,6 @@
 // A standing book (02:CR 7): its thirty-six places under a filing's sheets and tiers, empty, and with something else at one place.
+#![tactic(auto)]
+
 ghost use Rattle.std.specs.Prelude.{◌≡◌, ◌<◌};
 ghost use Rattle.answers.specs.declared.Answer.TheVariants.{OutsidePlaceLimits};
 ghost use Rattle.form.specs.PlaceOrder.{sub_balance_count};
@@ -14,7 +16,7 @@ use price_factors::FactorTable;
 // The thirty-six places, the sum of their balances in thousands of dollars, and the totals in dollars: short lower, short upper, long lower and long
 // upper by scenario. Then the filing that the book was opened from: its retail rates in hundredths of a percent a year, its tiers, and the lower and
 // the upper discount factors of its CD yields.
-#[derive(Drop)]
+#[derive(Clone, Copy)]
 pub struct Book {
     pub places: [SubBalance; SUB_BALANCES],
     pub balance: u64,
@@ -26,7 +28,7 @@ pub struct Book {
 }
 
 // The answer on a call, and the book after it.
-#[derive(Drop)]
+#[derive(Clone, Copy)]
 pub struct Answered {
     pub answer: Answer,
     pub book: Book,

@@ -1,4 +1,6 @@
 // The totals of a book, moved by the difference of a place's values.
+#![tactic(auto)]
+
 ghost use Rattle.std.specs.Prelude.{◌≡◌, ◌-◌, ◌<◌};
 ghost use Rattle.form.specs.Counts.{total_count};
 ghost use Rattle.book_totals.specs.KeptTotals as kept;

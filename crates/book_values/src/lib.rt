@@ -1,4 +1,6 @@
 // The values of a place under the sheets and tiers that a book holds.
+#![tactic(auto)]
+
 ghost use Rattle.std.specs.Prelude.{◌≡◌, ◌-◌, ◌≤◌, ◌<◌, length};
 ghost use Rattle.lists.specs.Tables.{any_below};
 ghost use Rattle.form.specs.Limits.{balance_limit, tier_limit};

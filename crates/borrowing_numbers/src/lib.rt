@@ -1,4 +1,6 @@
 // The 374 numbers of a filing's borrowings (02:CR 8).
+#![tactic(auto)]
+
 mod rows;
 mod totals;
 

@@ -1,4 +1,6 @@
 // One borrowing in each scenario: its lower and upper values (02:CR 8).
+#![tactic(auto)]
+
 ghost use Rattle.std.specs.Prelude.{◌≡◌, suc, ◌+◌, ◌*◌, ◌≤◌, ◌<◌};
 ghost use Rattle.form.specs.Limits.{balance_limit, filed_coupon_limit, months_limit};
 ghost use Rattle.form.specs.Shift.{scenario_count};

@@ -1,5 +1,7 @@
 // Reads a valuation date and certificates as text from standard input and prints the cells that they fill, the line of a refusal or of an unreadable
 // line, or `too long`. One byte more than the 131,072 of an input is read, so that a longer one shows.
+#![tactic(auto)]
+
 use libc::{STDIN_FILENO, STDOUT_FILENO};
 use text_certificates::write_read;
 

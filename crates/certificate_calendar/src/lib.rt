@@ -1,4 +1,6 @@
 // Days of the Gregorian years 1900 to 2199, their order, and the months between them.
+#![tactic(auto)]
+
 ghost use Rattle.std.specs.Prelude.{◌≡◌, true, cond};
 ghost use Rattle.certificate_calendar.specs.Dates.{is_leap, last_day, is_date, month_index, on_or_after, months_between};
 ghost use Rattle.certificate_calendar.specs.Inner.Days.{Day};
@@ -6,7 +8,7 @@ ghost use Rattle.certificate_calendar.specs.Inner.Days.{Day};
 use form::tables::{entry_at, within};
 
 // A date as it is written; not every one is a day of the calendar.
-#[derive(Drop)]
+#[derive(Clone, Copy)]
 pub struct Date {
     pub year: u64,
     pub month: u64,

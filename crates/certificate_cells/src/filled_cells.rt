@@ -3,7 +3,7 @@ use answers::Answer;
 
 // The answer on a list of certificates, the count of the cells that they fill, and these cells with their values by ascending number. A refusal
 // gives none.
-#[derive(Drop)]
+#[derive(Clone, Copy)]
 pub struct Cells {
     pub answer: Answer,
     pub count: usize,
@@ -11,14 +11,14 @@ pub struct Cells {
 }
 
 // A cell of Schedule CMR with its value.
-#[derive(Drop)]
+#[derive(Clone, Copy)]
 pub struct CellValue {
     pub cell: usize,
     pub value: u64,
 }
 
 // The sums of the nine positions: balances, and coupons and remaining months weighted by them.
-#[derive(Drop)]
+#[derive(Clone, Copy)]
 pub struct Totals {
     pub balance: [u64; 9],
     pub coupon: [u64; 9],
@@ -26,7 +26,7 @@ pub struct Totals {
 }
 
 // A cell that certificates can fill: its number, its class and the index of its position.
-#[derive(Drop)]
+#[derive(Clone, Copy)]
 pub struct FormCell {
     pub cell: usize,
     pub class: usize,

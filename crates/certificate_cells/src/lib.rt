@@ -1,4 +1,6 @@
 // The cells that sums of positions fill.
+#![tactic(auto)]
+
 pub mod cell_means;
 pub mod filled_cells;
 pub mod form_cells;

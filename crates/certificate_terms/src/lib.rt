@@ -1,4 +1,6 @@
 // One certificate: its numbers in the list, its position in Schedule CMR by its terms in months, and its own faults.
+#![tactic(auto)]
+
 pub mod faults;
 
 ghost use Rattle.std.specs.Prelude.{◌≡◌, ◌≤◌, ◌<◌, ◌+◌, ◌*◌, length};
@@ -9,7 +11,7 @@ use certificate_calendar::Date;
 use form::tables::entry_at;
 
 // A certificate: balance in thousands of dollars, coupon in hundredths of a percent a year.
-#[derive(Drop)]
+#[derive(Clone, Copy)]
 pub struct Certificate {
     pub issue: Date,
     pub maturity: Date,

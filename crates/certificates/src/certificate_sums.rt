@@ -15,7 +15,7 @@ use certificate_terms::{certificate_at, position_of};
 use form::limits::BALANCE_LIMIT;
 
 // The answer on the certificates in turn, and the sums of those before the one that is refused, of all where none is.
-#[derive(Drop)]
+#[derive(Clone, Copy)]
 pub struct Scanned {
     pub answer: Answer,
     pub totals: Totals,

@@ -1,4 +1,6 @@
 // Certificates to cells: from the dates, balances and coupons that branches keep to the cells of Schedule CMR.
+#![tactic(auto)]
+
 pub mod certificate_sums;
 
 ghost use Rattle.std.specs.Prelude.{◌≡◌};

@@ -1,4 +1,6 @@
 // The calls for programs in C and in languages that call C, as include/spritapricot.h declares them: the valuing call here, the book's call in `book`, the certificates' call in `cells`, the call on price lines in `price`.
+#![tactic(auto)]
+
 pub mod book;
 pub mod cells;
 pub mod plain_numbers;

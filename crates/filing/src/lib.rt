@@ -1,4 +1,6 @@
 // A filing of certificate deposits and borrowings, from its bytes to what it says.
+#![tactic(auto)]
+
 pub mod readings;
 mod required_sheets;
 

@@ -8,7 +8,7 @@ use filing_cells::column_sums::{ColumnSums, NO_SUMS};
 use filing_contents::{FiledTiers, NO_TIERS};
 
 // The answer on a filing, its tiers, and the sums of its columns: on a refusal all numbers are 0.
-#[derive(Drop)]
+#[derive(Clone, Copy)]
 pub struct Reading {
     pub answer: Answer,
     pub tiers: FiledTiers,

@@ -3,7 +3,7 @@ pub mod cells;
 pub mod sums;
 
 // The sums of columns 1 to 3, and of the rows above each of the nine positions in its column, in thousands of dollars.
-#[derive(Drop)]
+#[derive(Clone, Copy)]
 pub struct ColumnSums {
     pub totals: [u64; 3],
     pub above: [u64; 9],

@@ -1,4 +1,6 @@
 // What can be wrong with the cells of a filing whose records are sound: refusals 19 and 7 to 9, in the paper's order.
+#![tactic(auto)]
+
 pub mod borrowings;
 pub mod column_sums;
 
@@ -19,7 +21,7 @@ use form::positions::{position, within_row};
 use form::{CELLS, FIRST_COLUMN_CELL, Position, TOTAL_CELL};
 
 // The answer on the cells of a filing, and the sums of their columns.
-#[derive(Drop)]
+#[derive(Clone, Copy)]
 pub struct CheckedCells {
     pub answer: Answer,
     pub sums: ColumnSums,

@@ -2,6 +2,8 @@
 // the table of sheets says (`record_kinds`): the CD yields of months 1 to 120, the retail rates of months 1 to 120 column by column, the LIBOR yields of
 // months 1 to 120. Cells are in their own units, the certificates' coupons among them in thousandths of a percent a year, the borrowings' coupons, yields and
 // rates in hundredths. Its tiers of annual withdrawal go by value.
+#![tactic(auto)]
+
 pub mod cell_amounts;
 pub mod sheet_numbers;
 pub mod sheet_rows;
@@ -10,7 +12,7 @@ use form::limits::TIER_LIMIT;
 
 // The tiers that a filing carries, lowest edge first: edges in hundredths, annual withdrawals in thousandths. The entries past the count are 0, and a
 // filing without tiers has count 0.
-#[derive(Drop)]
+#[derive(Clone, Copy)]
 pub struct FiledTiers {
     pub count: usize,
     pub edges: [u16; TIER_LIMIT],

@@ -7,7 +7,7 @@ ghost use Rattle.filing_contents.specs.SheetRows.{sheet_row};
 use form::limits::{LIBOR_START, SHEET_MONTHS, SHEET_NUMBERS, YIELDS_START};
 
 // The two kinds of position.
-#[derive(Drop)]
+#[derive(Clone, Copy)]
 pub enum PositionKind {
     Certificate,
     Borrowing,

@@ -1,4 +1,6 @@
 // What a filing says, read from the noted offsets of its records: its cells, and its sheets.
+#![tactic(auto)]
+
 ghost use Rattle.std.specs.Prelude.{◌≡◌, ◌+◌, ◌≤◌, length};
 ghost use Rattle.lists.specs.Runs.{written};
 ghost use Rattle.lists.specs.Tables.{table_from};

@@ -24,7 +24,7 @@ pub const BORROWINGS_TOTAL_CELL: usize = 715;
 
 // One of the twenty-four borrowings: its coupon class (0 to 7), its term (remaining months, 0 to 2), and the cells of its balance, its coupon (WAC)
 // and its remaining months (WARM).
-#[derive(Drop)]
+#[derive(Clone, Copy)]
 pub struct Borrowing {
     pub class: usize,
     pub term: usize,

@@ -1,4 +1,6 @@
 // Schedule CMR: its cells, their classes and limits.
+#![tactic(auto)]
+
 pub mod borrowings;
 pub mod limits;
 pub mod positions;
@@ -27,7 +29,7 @@ pub const FIRST_COLUMN_CELL: usize = BROKERED_CELLS + 1;
 
 // One of the nine balances: its row (remaining months, 1 to 4), its column (original maturity, 1 to 3), and the cells of its balance, its coupon
 // (WAC) and its remaining months (WARM).
-#[derive(Drop)]
+#[derive(Clone, Copy)]
 pub struct Position {
     pub row: usize,
     pub column: usize,

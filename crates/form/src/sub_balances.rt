@@ -19,7 +19,7 @@ pub const NUMBERS: usize = TOTALS_START + TOTALS;
 
 // What a place of the thirty-six holds: the balance in thousands of dollars, its cell's WAC in thousandths of a percent a year and its cell's WARM
 // in months, the penalty in hundredths of a month (0 if not subject), and in each scenario the lower and the upper value in dollars.
-#[derive(Drop)]
+#[derive(Clone, Copy)]
 pub struct SubBalance {
     pub balance: u64,
     pub coupon: u64,

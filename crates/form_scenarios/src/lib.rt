@@ -1,11 +1,13 @@
 // The rate scenarios (01:48).
+#![tactic(auto)]
+
 ghost use Rattle.std.specs.Prelude.{◌≡◌};
 ghost use Rattle.form.specs.Shift.{shifted_rate, shifted_rates};
 
 use form::sub_balances::SCENARIOS;
 
 // A scenario by its number: its shift is that many steps above the lowest, and the middle one leaves rates as they are.
-#[derive(Drop)]
+#[derive(Clone, Copy)]
 pub struct Scenario {
     pub number: u8,
 }

@@ -1,4 +1,6 @@
 // Implied forwards: a pair of growths that encloses the true rate's, from the figures of two accumulated yields.
+#![tactic(auto)]
+
 pub mod figures;
 pub mod sides;
 pub mod terms;
@@ -12,7 +14,7 @@ use crate::sides::{Side, side_of};
 use crate::terms::{bracket, term_at};
 
 // A lower and an upper growth, what a rate makes of 120,000 in a month.
-#[derive(Drop)]
+#[derive(Clone, Copy)]
 pub struct Growths {
     pub lower: u64,
     pub upper: u64,

@@ -7,7 +7,7 @@ ghost use Rattle.forward_rates.specs.Inner.Searches.{Figured, Fit, Told, margin}
 
 use crate::figures::{UNIT, power};
 
-#[derive(Drop)]
+#[derive(Clone, Copy)]
 pub enum Side {
     // At most the true rate's.
     Below,

@@ -1,4 +1,6 @@
 // The forwards of a filing's CD sheet: from its bytes to 3,990 numbers.
+#![tactic(auto)]
+
 pub mod sheet;
 
 ghost use Rattle.forward_sheet.specs.Promise.{ForwardsOf};

@@ -1,1 +1,2 @@
 // Exact fractions. Definitions and laws only: nothing runs here.
+#![tactic(auto)]

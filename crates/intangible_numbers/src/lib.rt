@@ -1,4 +1,6 @@
 // The 126 numbers of the intangible (02:CR 9): nine cells ascending, scenario by scenario, lower then upper, in millionths of the opening balance.
+#![tactic(auto)]
+
 mod cells;
 mod factors;
 mod signed;

@@ -1,4 +1,6 @@
 // The walk of the intangible to month 360 (02:CR 9): a term ends in a rollover, and a rollover opens the next term, until what remains is paid.
+#![tactic(auto)]
+
 pub mod steps;
 
 ghost use Rattle.std.specs.Prelude.{◌≡◌, min};
@@ -18,7 +20,7 @@ pub const LONG_FACTORS: usize = SCENARIOS * 360;
 pub type LongFactors = [u64; LONG_FACTORS];
 
 // Where a walk stands after some months: the lower and the upper run.
-#[derive(Drop)]
+#[derive(Clone, Copy)]
 pub struct Walk {
     pub month: u64,
     pub lower: Rolled,
@@ -26,7 +28,7 @@ pub struct Walk {
 }
 
 // A lower and an upper figure in millionths of the opening balance.
-#[derive(Drop)]
+#[derive(Clone, Copy)]
 pub struct Bounds {
     pub lower: u64,
     pub upper: u64,

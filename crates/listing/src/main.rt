@@ -1,5 +1,7 @@
 // Reads a filing from standard input and prints its listing: a line for each scenario, the line of a refusal, or `too long`. One byte more than the
 // 65,536 of a filing is read, so that a longer input shows.
+#![tactic(auto)]
+
 use libc::{STDIN_FILENO, STDOUT_FILENO};
 use text_listing::write_read;
 

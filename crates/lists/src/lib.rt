@@ -1,4 +1,6 @@
 // Sums and tables of lists as definitions and laws; a run of numbers written into a list.
+#![tactic(auto)]
+
 ghost use Rattle.std.specs.Prelude.{◌≡◌, ◌+◌, ◌≤◌, length};
 ghost use Rattle.lists.specs.Runs.{written};
 

@@ -17,7 +17,7 @@ use withdrawal_months::Levels;
 const COUPON_GROWTH: u64 = 2_500;
 
 // A lower and an upper figure.
-#[derive(Drop)]
+#[derive(Clone, Copy)]
 pub struct Bounds {
     pub lower: u64,
     pub upper: u64,

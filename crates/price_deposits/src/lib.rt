@@ -1,4 +1,6 @@
 // One deposit in each scenario: its lower and upper values.
+#![tactic(auto)]
+
 pub mod deposit_prices;
 pub mod values;
 
@@ -6,7 +8,7 @@ use form::limits::RATES;
 use withdrawal_months::Levels;
 
 // A deposit as its cash flows see it: coupon in thousandths of a percent a year, penalty in hundredths of a month, remaining months.
-#[derive(Drop)]
+#[derive(Clone, Copy)]
 pub struct Deposit {
     pub brokered: bool,
     pub coupon: u64,

@@ -1,4 +1,6 @@
 // Discount factors of every month and scenario, written into two lists.
+#![tactic(auto)]
+
 pub mod factor_chains;
 pub mod month_factors;
 pub mod rate_multipliers;

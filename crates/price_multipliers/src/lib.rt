@@ -1,4 +1,6 @@
 // The multipliers of a month.
+#![tactic(auto)]
+
 pub mod discount_tables;
 
 ghost use Rattle.std.specs.Prelude.{◌≡◌, ◌+◌, ◌*◌, ◌-◌, ◌^◌, ◌<◌, ◌≤◌};
@@ -24,7 +26,7 @@ const GROWTH_REST: u64 = 709_551_616;
 
 // What a month makes of a balance, in units of 1 / 2^64: what is paid of twice the balance, and what is left of the balance, which stays whole beside that or
 // not. `carried` is 1, or 0 where `left` is.
-#[derive(Drop)]
+#[derive(Clone, Copy)]
 pub struct MonthMultipliers {
     pub paid: u64,
     pub left: u64,

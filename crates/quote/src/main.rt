@@ -1,6 +1,8 @@
 // Price lines on the command line: reads lines as bytes from standard input and prints what they reply to the month and the scenario that the two
 // arguments name. One byte more than the 65,536 of an input is read, so that a longer one shows. An argument that is missing or has more than 4,096
 // bytes is read as an empty one, which is no number.
+#![tactic(auto)]
+
 use libc::{STDIN_FILENO, STDOUT_FILENO};
 use text_quote::write_read;
 

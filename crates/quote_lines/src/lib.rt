@@ -1,4 +1,6 @@
 // Price lines on query: what a list of printed lines replies to a month and a scenario.
+#![tactic(auto)]
+
 mod line_faults;
 mod line_replies;
 
@@ -13,7 +15,7 @@ use form::sub_balances::SCENARIOS;
 use quote_prices::PriceLine;
 
 // The reply to a query.
-#[derive(Drop)]
+#[derive(Clone, Copy)]
 pub enum Reply {
     Listed(f64),
     Between(f64),
@@ -21,7 +23,7 @@ pub enum Reply {
 }
 
 // The answer on the lines, and the reply: outside where they are refused.
-#[derive(Drop)]
+#[derive(Clone, Copy)]
 pub struct Quoted {
     pub answer: Answer,
     pub reply: Reply,

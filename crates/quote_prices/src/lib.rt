@@ -1,4 +1,6 @@
 // Printed price lines: what is faulty in a line's prices, and the price between two lines.
+#![tactic(auto)]
+
 ghost use Rattle.std.specs.Prelude.{◌≡◌, ◌<◌};
 ghost use Rattle.form.specs.Shift.{scenario_count};
 ghost use Rattle.quote_prices.specs.PriceLines.{faulty_price, faulty_prices};
@@ -7,7 +9,7 @@ ghost use Rattle.quote_prices.specs.Interpolation.{price_between};
 use form::sub_balances::SCENARIOS;
 
 // A printed price line: months, and a price for each scenario.
-#[derive(Drop)]
+#[derive(Clone, Copy)]
 pub struct PriceLine {
     pub months: u16,
     pub prices: [f64; SCENARIOS],

@@ -1,5 +1,7 @@
 // The records of a filing by all tests: those that the scan makes of each record, and 16, that no amendment of a cell comes with a number that an earlier one
 // has.
+#![tactic(auto)]
+
 pub mod number_set;
 pub mod repetitions;
 pub mod scan;

@@ -14,7 +14,7 @@ use record_verdicts::check_record;
 use record_verdicts::sound_records::sound_record;
 
 // The answer on the records by all tests but 16, and the offset of the first faulty one: the input's length where none is.
-#[derive(Drop)]
+#[derive(Clone, Copy)]
 pub struct Scanned {
     pub answer: Answer,
     pub end: usize,

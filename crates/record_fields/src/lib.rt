@@ -1,4 +1,5 @@
 // What a record of a filing holds: its length and kind, its cell and value, the numbers of a sheet. A number past the end is 0.
+#![tactic(auto)]
 
 mod bytes;
 

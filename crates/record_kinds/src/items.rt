@@ -7,7 +7,7 @@ use form::tables::{COUPON_CLASS, cell_class};
 use record_fields::{amendment_number, record_cell, record_kind};
 
 // What a record is one of.
-#[derive(Drop)]
+#[derive(Clone, Copy)]
 pub enum Item {
     // A cell, by its number.
     Cell(u64),

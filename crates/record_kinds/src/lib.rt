@@ -1,4 +1,6 @@
 // The kinds of record: what a sheet of each kind holds, and the length that a record is to have.
+#![tactic(auto)]
+
 pub mod items;
 
 ghost use Rattle.std.specs.Prelude.{◌≡◌};
@@ -29,7 +31,7 @@ pub const LIBOR_KIND: usize = 8;
 
 // A kind of sheet: how many numbers it holds, 2 bytes each, the largest that each may be, and where the first stands in the array of the numbers of all
 // sheets. One that is no sheet holds none.
-#[derive(Drop)]
+#[derive(Clone, Copy)]
 pub struct SheetKind {
     pub numbers: u16,
     pub limit: u16,

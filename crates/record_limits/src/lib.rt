@@ -1,4 +1,6 @@
 // Refusal 5: the limits of a cell's value and of a sheet's numbers, in the body of a record.
+#![tactic(auto)]
+
 pub mod tier_faults;
 
 ghost use Rattle.std.specs.Prelude.{◌≡◌};

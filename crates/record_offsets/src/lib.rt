@@ -1,4 +1,6 @@
 // What is noted of the records of a filing.
+#![tactic(auto)]
+
 ghost use Rattle.std.specs.Prelude.{◌≡◌, true, false, cond, ◌||◌, List, ℕ, ◌+◌, ◌-◌, ◌≤◌, ltb, length, get_or, set};
 ghost use Rattle.form.specs.Cells.{first_cell};
 ghost use Rattle.record_fields.specs.Records.{record_kind};

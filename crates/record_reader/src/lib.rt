@@ -1,4 +1,5 @@
 // A reader of a filing: it holds the filing's bytes and moves record by record. Whoever walks over the records asks it where the next one stands (`next_of`).
+#![tactic(auto)]
 
 mod steps;
 
@@ -9,7 +10,7 @@ ghost use Rattle.record_reader.specs.Inner.Steps.{step_at};
 use crate::steps::record_at;
 
 // What stands at an offset of a filing.
-#[derive(Drop)]
+#[derive(Clone, Copy)]
 pub enum Step {
     // A record, with the offset of the record after it.
     Record(usize),
@@ -18,7 +19,7 @@ pub enum Step {
 }
 
 // The bytes of a filing, and the offset of the record that the reader stands at.
-#[derive(Drop)]
+#[derive(Clone, Copy)]
 pub struct Reader<'a> {
     pub bytes: &'a [u8],
     pub offset: usize,

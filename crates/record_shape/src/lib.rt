@@ -1,4 +1,6 @@
 // The tests of one record before its body: refusals 1 to 4 and 12. Those of its body stand in `record_limits`.
+#![tactic(auto)]
+
 ghost use Rattle.std.specs.Prelude.{◌≡◌, ◌≤◌, length};
 ghost use Rattle.record_offsets.specs.Inner.Notes.{noted_before};
 ghost use Rattle.record_shape.specs.Faults as faults;

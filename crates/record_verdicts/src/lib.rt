@@ -1,4 +1,6 @@
 // The verdict on one record but for 16: refusals 1 to 4, 12, 5 and 11, in the paper's order.
+#![tactic(auto)]
+
 pub mod sound_records;
 
 ghost use Rattle.std.specs.Prelude.{◌≡◌, ◌≤◌, length};

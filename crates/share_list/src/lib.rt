@@ -1,4 +1,6 @@
 // The split of a filing into a list of places that the caller lends.
+#![tactic(auto)]
+
 mod split_outcomes;
 
 ghost use Rattle.std.specs.Prelude.{◌≡◌, ◌++◌, ◌≤◌, length, take, drop};
@@ -10,7 +12,7 @@ use answers::Answer;
 use form::sub_balances::{SUB_BALANCES, SubBalance};
 
 // The answer on a filing and the first places of an array, and the array after the call.
-#[derive(Drop)]
+#[derive(Clone, Copy)]
 pub struct SplitPlaces {
     pub answer: Answer,
     pub places: [SubBalance; 40],

@@ -12,7 +12,7 @@ use form::sub_balances::{NO_PLACE, SUB_BALANCES, SubBalance};
 use shares::places::places_of;
 
 // What is made of a filing and a list: the answer, the places to be written, and how many of them are, 36 or none.
-#[derive(Drop)]
+#[derive(Clone, Copy)]
 pub struct Outcome {
     pub answer: Answer,
     pub places: [SubBalance; SUB_BALANCES],

@@ -6,7 +6,7 @@ ghost use Rattle.shares.specs.Inner.ShareRows.{RowWithin, row_shares};
 
 // A row of a column: the column's sum, the sum of the rows above it, its balance, the column's brokered balance and balance subject to penalty, all
 // in thousands of dollars, its cells' WAC in thousandths of a percent a year and WARM in months, and the column's penalty in hundredths of a month.
-#[derive(Drop)]
+#[derive(Clone, Copy)]
 pub struct Row {
     pub total: u64,
     pub above: u64,

@@ -1,3 +1,5 @@
 // The thirty-six sub-balances of a filing.
+#![tactic(auto)]
+
 pub mod apportion;
 pub mod places;

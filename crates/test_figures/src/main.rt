@@ -1,5 +1,7 @@
 // Runs the library on the entries of standard input and prints what comes out. An entry is the number of a call, the length of its first list, that of
 // its second list and that of its input, 4 bytes each, little-endian, and the input. The crate `test_second` prints the same.
+#![tactic(auto)]
+
 mod book;
 mod conversion;
 mod entries;

@@ -10,7 +10,7 @@ pub const BORROWED: u64 = 715;
 // The last months of the three terms; each begins in the month after the one before it.
 const LAST_MONTHS: [u64; 3] = [3, 36, 120];
 
-#[derive(Drop)]
+#[derive(Clone, Copy)]
 pub struct Borrowing {
     pub balance: u64,
     pub coupon: u64,

@@ -1,6 +1,7 @@
 // A second valuation, written on its own from the papers, to compare the library with: it reads the
 // entries that the test program reads, and prints the same bytes. It shares nothing with the library's
 // crates.
+#![tactic(auto)]
 
 // Numbers with no failing case, numbers in bytes, and the cells of the form.
 mod arith;

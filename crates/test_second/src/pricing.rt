@@ -32,7 +32,7 @@ pub fn bounds_of(s: &[u8], survivals: &[u64], part: SubBalance) -> [u64; 14] {
 }
 
 // The run after some months: the balance that is left, and the sum of flow × discount factor.
-#[derive(Drop)]
+#[derive(Clone, Copy)]
 struct Run {
     balance: u64,
     price: u64,

@@ -8,7 +8,7 @@ use crate::records::{
 };
 use crate::tiers::are_disordered;
 
-#[derive(Drop)]
+#[derive(Clone, Copy)]
 pub struct Refusal {
     pub number: u64,
     pub location: u64,

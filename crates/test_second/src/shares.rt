@@ -14,7 +14,7 @@ const PENALTY_MONTHS: u64 = 655;
 
 // Balance in thousands of dollars; coupon in thousandths of a percent a year; penalty in hundredths
 // of a month, 0 where the sub-balance is not subject to one.
-#[derive(Drop)]
+#[derive(Clone, Copy)]
 pub struct SubBalance {
     pub balance: u64,
     pub coupon: u64,

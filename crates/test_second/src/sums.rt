@@ -9,7 +9,7 @@ use crate::dates::{date, months_between};
 // The refusal's number and location, number 0 where there is none; and the sums of the certificates:
 // four numbers for each of the nine cells, of which three are used, the balance and the sums of
 // balance × coupon and of balance × remaining months, and at last the balance of all.
-#[derive(Drop)]
+#[derive(Clone, Copy)]
 pub struct Sums {
     pub number: u64,
     pub location: u64,

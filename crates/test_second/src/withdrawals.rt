@@ -27,7 +27,7 @@ pub(crate) fn month_survival(s: &[u8], survivals: &[u64], part: SubBalance, r: u
 }
 
 // The annual withdrawal of a tier, and the number of edges at or above the tier.
-#[derive(Drop)]
+#[derive(Clone, Copy)]
 pub struct Tier {
     pub withdrawal: u64,
     pub edges: u64,

@@ -1,4 +1,6 @@
 // Text in a list of bytes that the caller lends: each function puts its text at an index, where it must fit, and answers the index behind it.
+#![tactic(auto)]
+
 pub mod answer_lines;
 pub mod lines;
 

@@ -1,6 +1,6 @@
 // What a line asks of a book: a word, and numbers with single spaces between. Nothing runs here.
 
-#[derive(Drop)]
+#[derive(Clone, Copy)]
 pub enum Command {
     Set {
         place: u64,

@@ -1,4 +1,6 @@
 // The text of a standing book: what is printed at its opening, and to each line that it obeys.
+#![tactic(auto)]
+
 pub mod book_commands;
 pub mod book_lines;
 pub mod command_words;
@@ -76,7 +78,7 @@ pub fn obey(book: Book, line: &[u8], out: &mut [u8; 644]) -> Obeyed
 }
 
 // The book under a filing, whether it is open, and how many bytes are printed.
-#[derive(Drop)]
+#[derive(Clone, Copy)]
 pub struct Opened {
     pub is_open: bool,
     pub book: Book,
@@ -84,7 +86,7 @@ pub struct Opened {
 }
 
 // The book after a command, and how many bytes are printed.
-#[derive(Drop)]
+#[derive(Clone, Copy)]
 pub struct Obeyed {
     pub book: Book,
     pub size: usize,

@@ -10,7 +10,7 @@ use lists::write;
 
 // The first line that is not of its form, counted from 1, or 0 where there is none; the valuation date, all 0 where the first line is no date; and the
 // count of the certificates before that line.
-#[derive(Drop)]
+#[derive(Clone, Copy)]
 pub struct Text {
     pub unreadable: usize,
     pub valuation: Date,

@@ -1,4 +1,6 @@
 // The text that the program `cells` prints of its input: from a valuation date and certificates to the cells that they fill.
+#![tactic(auto)]
+
 pub mod cell_lines;
 pub mod certificates_input;
 

@@ -1,18 +1,20 @@
 // The lines of standard input. `step` says what the next byte makes of a line; `next_line` only reads the bytes and hands each on to it.
+#![tactic(auto)]
+
 ghost use Rattle.std.specs.Prelude.{◌≡◌, true, false};
 ghost use Rattle.text_input.specs.Lines.{with_byte, step_of, LineRead};
 
 use libc::STDIN_FILENO;
 
 // What comes next of the input: a byte, or its end.
-#[derive(Drop)]
+#[derive(Clone, Copy)]
 pub enum Input {
     Byte(u8),
     End,
 }
 
 // What is read of a line so far: how many of its bytes are kept, whether it is complete, and whether nothing was read, not even its line feed.
-#[derive(Drop)]
+#[derive(Clone, Copy)]
 pub struct Reading {
     pub size: usize,
     pub complete: bool,

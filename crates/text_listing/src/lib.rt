@@ -1,4 +1,6 @@
 // The text that the listing prints of a filing.
+#![tactic(auto)]
+
 pub mod borrowings;
 pub mod total_lines;
 

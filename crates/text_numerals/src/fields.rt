@@ -4,14 +4,14 @@ ghost use Rattle.text_numerals.specs.Numerals.{byte_at, is_digit, number_end};
 ghost use Rattle.text_numerals.specs.Inner.Fields.{whole_of, field_at};
 
 // A number with its separator.
-#[derive(Drop)]
+#[derive(Clone, Copy)]
 pub enum Field {
     Read { value: u64, next: usize },
     Malformed,
 }
 
 // The value of some digits.
-#[derive(Drop)]
+#[derive(Clone, Copy)]
 pub enum Whole {
     Value(u64),
     TooLarge,

@@ -5,7 +5,7 @@ ghost use Rattle.text_quote.specs.Arguments.{argument_of};
 use text_numerals::number_lines::read_line;
 
 // What an argument says.
-#[derive(Drop)]
+#[derive(Clone, Copy)]
 pub enum Argument {
     Number(u64),
     Unreadable,

@@ -1,4 +1,6 @@
 // The text that the program `quote` prints: what price lines in bytes reply to a month and a scenario in digits.
+#![tactic(auto)]
+
 pub mod arguments;
 pub mod line_bytes;
 pub mod reply_lines;

@@ -1,4 +1,6 @@
 // Certificate deposits and borrowings under seven rate scenarios: from a filing's bytes to its 568 numbers and its borrowings' 374.
+#![tactic(auto)]
+
 ghost use Rattle.valuation.specs.Promise.{Valued};
 
 use answers::{Answer, number};

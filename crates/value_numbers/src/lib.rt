@@ -1,5 +1,7 @@
 // The 568 numbers of what an accepted filing says, written into a list. Its cells and the numbers of its sheets are lent: in the contracts k is the filing's
 // contents, with these arrays and the tiers passed.
+#![tactic(auto)]
+
 ghost use Rattle.std.specs.Prelude.{◌≡◌, ◌++◌, ◌≤◌, length, drop};
 ghost use Rattle.lists.specs.Tables.{table, joined};
 ghost use Rattle.filing_cells.specs.Inner.Sums.{column_sums};

@@ -1,4 +1,5 @@
 // Early withdrawal of certificate deposits (01:49-53), with its definitions and their laws. Nothing runs here.
+#![tactic(auto)]
 
 use form::limits::TIER_LIMIT;
 
@@ -8,7 +9,7 @@ pub const FULL_SURVIVAL: u64 = 1_000_000_000;
 // Tiers of annual withdrawal, in the first `count` entries, highest edge first: edges in hundredths, withdrawals in thousandths, and the survival
 // of each withdrawal in billionths; the entries past these are 0. Where no edge is reached the withdrawal is `otherwise` and its survival
 // `retained`.
-#[derive(Drop)]
+#[derive(Clone, Copy)]
 pub struct WithdrawalTiers {
     pub count: usize,
     pub edges: [u64; TIER_LIMIT],
@@ -20,7 +21,7 @@ pub struct WithdrawalTiers {
 
 // What a coupon and a penalty make of an incentive, whatever the month: the gain's share that is earned at a rate of one in a month, what is forfeited, and
 // the cost of a month.
-#[derive(Drop)]
+#[derive(Clone, Copy)]
 pub struct CouponParts {
     pub share: u64,
     pub forfeited: u64,
@@ -28,7 +29,7 @@ pub struct CouponParts {
 }
 
 // The incentive to withdraw early: a gain of `earned` less `forfeited`, and the cost, on one scale.
-#[derive(Drop)]
+#[derive(Clone, Copy)]
 pub struct Incentive {
     pub earned: u64,
     pub forfeited: u64,
@@ -36,7 +37,7 @@ pub struct Incentive {
 }
 
 // The tier that an incentive reaches: its annual withdrawal in thousandths, the survival of that in billionths, and how many edges were tried.
-#[derive(Drop)]
+#[derive(Clone, Copy)]
 pub struct ReachedTier {
     pub withdrawal: u64,
     pub survival: u64,

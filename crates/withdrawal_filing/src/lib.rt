@@ -1,4 +1,6 @@
 // The withdrawal tiers of a filing.
+#![tactic(auto)]
+
 pub mod tier_search;
 
 ghost use Rattle.std.specs.Prelude.{◌≡◌, ℕ, ◌-◌, ◌≤◌, ◌<◌, get_or};

@@ -16,7 +16,7 @@ const GAIN_LIMIT: u64 = 10_000_000_000_000_000;
 const COST_LIMIT: u64 = 100_000_000_000_000;
 
 // The tier that is reached, or why there is none: the filing is refused, or the incentive is too large.
-#[derive(Drop)]
+#[derive(Clone, Copy)]
 pub enum TierAnswer {
     Reached(ReachedTier),
     Refused(Answer),

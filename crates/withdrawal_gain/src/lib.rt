@@ -1,4 +1,6 @@
 // What a depositor gains and foregoes by withdrawing early.
+#![tactic(auto)]
+
 ghost use Rattle.std.specs.Prelude.{◌≡◌, suc, ◌≤◌};
 ghost use Rattle.form.specs.Limits.{coupon_limit, penalty_limit, months_limit};
 ghost use Rattle.form.specs.Shift.{shifted_limit};

@@ -1,4 +1,6 @@
 // The months of a deposit before the last: the levels of the tiers that they reach, and what each level makes of a balance.
+#![tactic(auto)]
+
 pub mod month_levels;
 
 ghost use Rattle.std.specs.Prelude.{ℕ, ◌≤◌, ◌≡◌, false, length, get_or, replicate};

@@ -1,4 +1,6 @@
 // The search in the edges of tiers (02:CR 2): the highest edge is tried first, and the search ends at the first that is reached.
+#![tactic(auto)]
+
 ghost use Rattle.std.specs.Prelude.{◌≡◌, ◌≤◌};
 ghost use Rattle.form.specs.Limits.{edge_limit};
 ghost use Rattle.withdrawal.specs.Tiers.{reached};
@@ -11,7 +13,7 @@ use form::limits::TIER_LIMIT;
 use withdrawal::{Incentive, ReachedTier, WithdrawalTiers};
 
 // The level of the first tier that an incentive reaches, counted from 0, or the tiers' count where it reaches none, and how many edges were tried.
-#[derive(Drop)]
+#[derive(Clone, Copy)]
 pub struct ReachedLevel {
     pub level: usize,
     pub edges_tried: usize,

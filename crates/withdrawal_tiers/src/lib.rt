@@ -1,4 +1,6 @@
 // Tiers of annual withdrawal as they are held, with their survivals: the house's, and those of a filing.
+#![tactic(auto)]
+
 pub mod survivals;
 
 ghost use Rattle.std.specs.Prelude.{◌≡◌};

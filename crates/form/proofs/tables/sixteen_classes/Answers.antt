@@ -8,46 +8,39 @@ use Rattle.form.specs.Cells.{position, positions, brokered_cell, penalty_balance
 use Rattle.form.specs.Borrowings.{borrowing, borrowing_at, coupon_cell, term_cell}
 use Rattle.form.specs.Classes.{cell_class}
 use Rattle.form.specs.Inner.Classes.{hexadecimal, sixteen_classes}
-use Rattle.form.proofs.tables.sixteen_classes.Statement.{statement}
-use Rattle.form.proofs.tables.sixteen_classes.Tie as tie
+use Rattle.form.proofs.tables.sixteen_classes.Goals as goal
 
-returns : tie.Need-returns
+pub returns-in-0 : goal.returns-in-0
 unfolding sixteen_classes hexadecimal table_from cell_class contains positions position brokered_cell penalty_balance_cell penalty_months_cell unused_cells borrowing borrowing_at coupon_cell term_cell
-returns c = ap sixteen_classes (sym c.match.keys1)
+returns-in-0 c = ap sixteen_classes (sym c.in-0.is)
 
-returns-2 : tie.Need-returns-2
+pub returns-in-1 : goal.returns-in-1
 unfolding sixteen_classes hexadecimal table_from cell_class contains positions position brokered_cell penalty_balance_cell penalty_months_cell unused_cells borrowing borrowing_at coupon_cell term_cell
-returns-2 c = ap sixteen_classes (sym c.match.keys2)
+returns-in-1 c = ap sixteen_classes (sym c.in-1.is)
 
-returns-3 : tie.Need-returns-3
+pub returns-in-2 : goal.returns-in-2
 unfolding sixteen_classes hexadecimal table_from cell_class contains positions position brokered_cell penalty_balance_cell penalty_months_cell unused_cells borrowing borrowing_at coupon_cell term_cell
-returns-3 c = ap sixteen_classes (sym c.match.keys3)
+returns-in-2 c = ap sixteen_classes (sym c.in-2.is)
 
-returns-4 : tie.Need-returns-4
+pub returns-in-3 : goal.returns-in-3
 unfolding sixteen_classes hexadecimal table_from cell_class contains positions position brokered_cell penalty_balance_cell penalty_months_cell unused_cells borrowing borrowing_at coupon_cell term_cell
-returns-4 c = ap sixteen_classes (sym c.match.keys4)
+returns-in-3 c = ap sixteen_classes (sym c.in-3.is)
 
-returns-5 : tie.Need-returns-5
+pub returns-in-4 : goal.returns-in-4
 unfolding sixteen_classes hexadecimal table_from cell_class contains positions position brokered_cell penalty_balance_cell penalty_months_cell unused_cells borrowing borrowing_at coupon_cell term_cell
-returns-5 c = ap sixteen_classes (sym c.match.keys5)
+returns-in-4 c = ap sixteen_classes (sym c.in-4.is)
 
-returns-6 : tie.Need-returns-6
+pub returns-in-5 : goal.returns-in-5
 unfolding sixteen_classes hexadecimal table_from cell_class contains positions position brokered_cell penalty_balance_cell penalty_months_cell unused_cells borrowing borrowing_at coupon_cell term_cell
-returns-6 c = ap sixteen_classes (sym c.match.keys6)
+returns-in-5 c = ap sixteen_classes (sym c.in-5.is)
 
-returns-7 : tie.Need-returns-7
+pub returns-in-6 : goal.returns-in-6
 unfolding sixteen_classes hexadecimal table_from cell_class contains positions position brokered_cell penalty_balance_cell penalty_months_cell unused_cells borrowing borrowing_at coupon_cell term_cell
-returns-7 c = ap sixteen_classes (sym c.match.keys7)
+returns-in-6 c = ap sixteen_classes (sym c.in-6.is)
 
-last : (c : tie.At-match-rest) → 7 ≡ c.before.args.part
-last c =
-    let none = c.match.rest in
-    let past : 7 ≤ c.before.args.part = above 6 (above 5 (above 4 (above 3 (above 2 (above 1 (above 0 (omega arith) none.0.0.0.0.0.0.1) none.0.0.0.0.0.1) none.0.0.0.0.1) none.0.0.0.1) none.0.0.1) none.0.1) none.1 in
-    omega (arith, c.before.requires)
-
-returns-8 : tie.Need-returns-8
+pub returns-in_default : goal.returns-in_default
 unfolding sixteen_classes hexadecimal table_from cell_class contains positions position brokered_cell penalty_balance_cell penalty_months_cell unused_cells borrowing borrowing_at coupon_cell term_cell
-returns-8 c = ap sixteen_classes (last c)
-
-pub sixteen-classes-spec : {M : Type 1} → statement M
-sixteen-classes-spec = tie.close (tie.spec returns returns-2 returns-3 returns-4 returns-5 returns-6 returns-7 returns-8)
+returns-in_default c =
+    let last : 7 ≡ c.args.part = let past : 7 ≤ c.args.part = omega arith in
+    omega (arith, c.requires) in
+    ap sixteen_classes last
