@@ -2,12 +2,8 @@
 use mathlib.Core.Path.{refl}
 use Rattle.withdrawal.specs.Survival.{survives}
 use Rattle.withdrawal.proofs.SurvivalLaws.{is_survival, figures-are}
-use Rattle.withdrawal_tiers.proofs.survivals.all_survivals.Statement.{statement}
-use Rattle.withdrawal_tiers.proofs.survivals.all_survivals.Tie as tie
+use Rattle.withdrawal_tiers.proofs.survivals.all_survivals.Goals as goal
 
-returns : tie.Need-returns
+pub returns : goal.returns
 unfolding is_survival survives
 returns c = figures-are _ tt refl
-
-pub all-survivals-spec : {M : Type 1} → statement M
-all-survivals-spec = tie.close (tie.spec returns)

@@ -6,12 +6,8 @@ use Rattle.withdrawal.specs.Tiers.{tier, house_tiers}
 use Rattle.withdrawal.specs.Inner.TierArrays.{tier_table, tier_table_of, with_survivals, held}
 use Rattle.withdrawal.proofs.FallingLaws.{house-falling}
 use Rattle.withdrawal.proofs.HeldLaws.{tiers-fit-of-tests, fit-usable}
-use Rattle.withdrawal_tiers.proofs.house.Statement.{statement}
-use Rattle.withdrawal_tiers.proofs.house.Tie as tie
+use Rattle.withdrawal_tiers.proofs.house.Goals as goal
 
-returns : tie.Need-returns
+pub returns : goal.returns
 unfolding house_tiers tier tier_table tier_table_of with_survivals padded held table_from survival with_bits survives
 returns c = (refl, fit-usable _ _ _ _ (tiers-fit-of-tests _ _ _ _ tt tt tt tt) refl house-falling)
-
-pub house-spec : {M : Type 1} → statement M
-house-spec = tie.close (tie.spec returns)
