@@ -13,7 +13,7 @@ returns-then-s-at c = simp (le-leb _ _ c.if-s-at.true)
 
 pub overflow_add-result-2 : goal.overflow_add-result-2
 overflow_add-result-2 c =
-    omega (arith, number_lt c.args.s.now c.args.at 2 c.shared_slice_known-1.given, c.record_length.ensures)
+    omega (arith, number_lt c.args.s.now c.args.at 2 c.type_inv.s, c.record_length.ensures)
 
 pub returns : goal.returns
 unfolding next_record step_at
