@@ -30,28 +30,25 @@ side_of-told-requires c =
 pub loop-lower-preserved-in-Below : goal.loop-lower-preserved-in-Below
 loop-lower-preserved-in-Below c =
     search-below c.loop-lower.invariant _ (omega arith) (omega arith)
-    (λ k e known. rw c.enum_told-1.given.1 at (c.side_of-told.ensures k e known))
+    (λ k e known. rw c.in-Below.is at (c.side_of-told.ensures k e known))
 
 pub loop-lower-preserved : goal.loop-lower-preserved
 loop-lower-preserved c =
     search-above c.loop-lower.invariant _ (omega arith) (omega arith)
-    (λ k e known. rw c.enum_told-in-Above-1.given.1 at (c.side_of-told.ensures k e known))
+    (λ k e known. rw c.in-Above.is at (c.side_of-told.ensures k e known))
 
 pub overflow_add-result : goal.overflow_add-result
 overflow_add-result c = let s = c.loop-lower.invariant in omega (arith, s.most-ge, s.whole.upper-limit)
 
 pub returns-in-Close : goal.returns-in-Close
 returns-in-Close c =
-    let s = c.loop-lower.invariant in (
-      λ k e known. search-close s _ (omega arith) (omega arith)
-          (λ k e known. rw c.enum_told-in-Close-1.given.1 at (c.side_of-told.ensures k e known))
-          k (e ∙ sym c.term_at-term.ensures) known,
-      omega (arith, s.most-ge, s.whole.upper-limit),
-    )
+    let s = c.loop-lower.invariant in record {
+      encloses = λ k e known. search-close s _ (omega arith) (omega arith)
+          (λ k e known. rw c.in-Close.is at (c.side_of-told.ensures k e known))
+          k (e ∙ sym c.term_at-term.ensures) known;
+      limited = omega (arith, s.most-ge, s.whole.upper-limit);
+    }
 
 pub returns : goal.returns
 returns c =
-    let s = c.loop-lower.invariant in (
-      λ k e known. search-ends s (omega arith) k (e ∙ sym c.term_at-term.ensures) known,
-      omega (arith, s.rises, s.most-ge, s.whole.upper-limit),
-    )
+    let s = c.loop-lower.invariant in record { encloses = λ k e known. search-ends s (omega arith) k (e ∙ sym c.term_at-term.ensures) known; limited = omega (arith, s.rises, s.most-ge, s.whole.upper-limit) }
