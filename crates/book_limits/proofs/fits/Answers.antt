@@ -1,5 +1,5 @@
 -- `fits` meets its contract: the tests in their order. Assumes nothing.
-use borrow.Author.Tests.{lt-ltb, le-ltb, le-leb, lt-leb, not-true, not-false}
+use borrow.Author.Tests.{lt-ltb, le-ltb, le-leb, lt-leb}
 use Prim.Native.Nat.{ℕ}
 use mathlib.Core.Path.{ap, ◌∙◌}
 use Rattle.form.specs.declared.Position.{Position}
@@ -36,7 +36,7 @@ returns-then-not-within_row c =
       le-leb _ _ c.if-balance-gt-BALANCE_LIMIT.false,
       le-leb _ _ c.if-coupon-gt-COUPON_LIMIT.false,
       ← within,
-      not-true c.within_row.result c.if-not-within_row.true,
+      c.if-not-within_row.true,
     )
 
 -- all but the last test pass: the answer is that of the penalty
@@ -51,6 +51,6 @@ returns c =
       le-leb _ _ c.if-balance-gt-BALANCE_LIMIT.false,
       le-leb _ _ c.if-coupon-gt-COUPON_LIMIT.false,
       ← within,
-      not-false c.within_row.result c.if-not-within_row.false,
+      c.if-not-within_row.false,
       ← c.penalty_within.ensures,
     )

@@ -8,6 +8,7 @@ use Rattle.certificate_calendar.specs.Inner.Days.{Day}
 use Rattle.certificate_calendar.proofs.DateLaws.{date-day}
 use Rattle.certificate_calendar.proofs.MonthLaws.{Reach, months-are}
 use Rattle.certificate_calendar.proofs.months_between.Goals as goal
+use Rattle.certificate_calendar.proofs.months_between.Goals.{then-from-to, else-from-to}
 
 pub month_index-start-requires : goal.month_index-start-requires
 month_index-start-requires c = date-day _ c.requires.from_value
@@ -24,7 +25,7 @@ returns-then-start-end c =
     let begun : Day c.args.from = date-day _ c.requires.from_value in
     let ended : Day c.args.to = date-day _ c.requires.to_value in
     let reached : Reach c.args.from c.args.to begun ended c.if-from-to.end = let index = c.month_index-end.ensures in
-    ⊎_elim (λ w. inl (w.0.taken, rw index at w.1)) (λ w. inr (w.0.left, rw index at w.1)) c.if-from-to.branch in
+    elim c.if-from-to.branch [ then-from-to w ↦ inl (w.if-from-to.true, rw index at w.end-is) | else-from-to w ↦ inr (w.if-from-to.false, rw index at w.end-is) ] in
     let a = c.args in
     let e = months-are a.from a.to begun ended _ reached in
     let start = c.month_index-start.ensures in
@@ -35,7 +36,7 @@ returns-else-start-end c =
     let begun : Day c.args.from = date-day _ c.requires.from_value in
     let ended : Day c.args.to = date-day _ c.requires.to_value in
     let reached : Reach c.args.from c.args.to begun ended c.if-from-to.end = let index = c.month_index-end.ensures in
-    ⊎_elim (λ w. inl (w.0.taken, rw index at w.1)) (λ w. inr (w.0.left, rw index at w.1)) c.if-from-to.branch in
+    elim c.if-from-to.branch [ then-from-to w ↦ inl (w.if-from-to.true, rw index at w.end-is) | else-from-to w ↦ inr (w.if-from-to.false, rw index at w.end-is) ] in
     let a = c.args in
     let e = months-are a.from a.to begun ended _ reached in
     let start = c.month_index-start.ensures in

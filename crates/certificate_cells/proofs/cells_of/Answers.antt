@@ -8,6 +8,7 @@ use Rattle.certificate_cells.specs.Cells.{cell_value}
 use Rattle.certificate_cells.specs.Inner.Listing.{accepted_cells}
 use Rattle.certificate_cells.proofs.ListingLaws.{listed, listing_start, listing-room, listing-present, listing-absent, listing-done}
 use Rattle.certificate_cells.proofs.cells_of.Goals as goal
+use Rattle.certificate_cells.proofs.cells_of.Goals.{then-is_filled-is_present, else-is_filled-is_present}
 
 pub loop-cell-init : goal.loop-cell-init
 loop-cell-init c = listing_start _
@@ -54,12 +55,13 @@ loop-cell-preserved c =
     let t = c.args.totals in
     let at = c.loop-cell in
     let least = c.loop-cell-test.true in
-    ⊎_elim
-    (λ w. rw (w.2, w.3)
-    (listing-present t at.cells at.count at.cell at.invariant least _ (rw (w.1.ensures, c.form_cell-e.ensures))
-    (tested ∙ w.0.taken)))
-    (λ w. rw (w.1, w.2) (listing-absent t at.cells at.count at.cell at.invariant least (tested ∙ w.0.left)))
-    c.if-is_filled-is_present.branch
+    elim c.if-is_filled-is_present.branch [
+      then-is_filled-is_present w ↦ rw (w.cells-is, w.count-is)
+      (listing-present t at.cells at.count at.cell at.invariant least _ (rw (w.value_of.ensures, c.form_cell-e.ensures))
+      (tested ∙ w.if-is_filled-is_present.true))
+      | else-is_filled-is_present w ↦ rw (w.cells-is, w.count-is)
+      (listing-absent t at.cells at.count at.cell at.invariant least (tested ∙ w.if-is_filled-is_present.false))
+    ]
 
 pub returns : goal.returns
 unfolding accepted_cells
