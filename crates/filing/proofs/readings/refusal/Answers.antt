@@ -13,12 +13,8 @@ use Rattle.filing_cells.specs.Inner.Sums.{column_sum, column_sums}
 use Rattle.filing_contents.specs.Sheets.{tier_number, tiers_at}
 use Rattle.filing_decode.specs.Contents.{cell_offset, cell_value, sheet_offset, rate_number, contents_of}
 use Rattle.filing.specs.EmptyContents.{empty_contents}
-use Rattle.filing.proofs.readings.refusal.Statement.{statement}
-use Rattle.filing.proofs.readings.refusal.Tie as tie
+use Rattle.filing.proofs.readings.refusal.Goals as goal
 
-returns : tie.Need-returns
+pub returns : goal.returns
 unfolding column_sums column_sum sum_where cell_in position_at positions empty_contents contents_of cell_value cell_offset counting_before counts_from sheet_offset rate_number tiers_at tier_number table_from number_at search_records first_record first_with
 returns c = (refl, refl, refl)
-
-pub refusal-spec : {M : Type 1} → statement M
-refusal-spec = tie.close (tie.spec returns)
