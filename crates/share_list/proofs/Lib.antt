@@ -1,4 +1,3 @@
 pub mod OverwriteLaws
-pub mod PlaceRows
 pub mod SplitLaws
 pub mod OutcomeLaws

@@ -12,28 +12,7 @@ use Rattle.filing_contents.specs.declared.FiledTiers.{FiledTiers}
 use Rattle.withdrawal_filing.specs.FilingTiers.{own_tiers, tiers_of}
 use Rattle.withdrawal_filing.specs.Inner.FiledLimits.{FiledLimits}
 use Rattle.withdrawal_filing.proofs.FilingTierLaws.{own-falling}
-use borrow.Author.Rules.{rules}
-use Rattle.withdrawal_filing.proofs.tiers_of.Statement.{statement}
-use Rattle.withdrawal_filing.proofs.tiers_of.Tie as tie
-
-house-requires : tie.Need-house-requires
-house-requires c κs = search rules
-
-returns : tie.Need-returns
-unfolding tiers_of
-returns c = (c.house.ensures.0 ∙ sym (simp (eq-eqb _ 0 c.before.if1.true)), c.house.ensures.1)
-
-from-the-top-requires : tie.Need-from-the-top-requires
-from-the-top-requires c κs = search rules
-
-from-the-top-requires-2 : tie.Need-from-the-top-requires-2
-from-the-top-requires-2 c κs = search rules
-
-element-copy-out-wide : tie.Need-element-copy-out-wide
-element-copy-out-wide c = search rules
-
-wide-requires : tie.Need-wide-requires
-wide-requires c κs = search rules
+use Rattle.withdrawal_filing.proofs.tiers_of.Goals as goal
 
 -- the tiers of an accepted filing fit
 fit : (filed : FiledTiers) → FiledLimits filed → (edges withdrawals : List ℕ) (lowest : ℕ)
@@ -48,39 +27,24 @@ fit filed limits edges withdrawals lowest e w l =
       otherwise-le = rw l (limits.withdrawal-le 0);
     }
 
-with-survivals-requires : tie.Need-with-survivals-requires
-with-survivals-requires c κs =
-    let withdrawals = c.before.before in
-    let edges = withdrawals.before.before.before in
-    let start = edges.before.before.before.before in
-    fit start.args.t1 start.requires _ _ _ edges.from-the-top.ensures.1 withdrawals.from-the-top2.ensures.0 c.wide.ensures.0
+pub returns-then-count-eq0 : goal.returns-then-count-eq0
+unfolding tiers_of
+returns-then-count-eq0 c = (c.house.ensures.0 ∙ sym (simp (eq-eqb _ 0 c.if-count-eq0.true)), c.house.ensures.1)
+
+pub with_survivals-requires : goal.with_survivals-requires
+with_survivals-requires c =
+    fit c.args.filed c.requires _ _ _ c.from_the_top-edges.ensures.1 c.from_the_top-withdrawals.ensures.0 c.wide-lowest.ensures.0
 
 -- the filing has tiers: edges and withdrawals are turned round, highest first, and padded with 0s, which as a table are its own tiers;
 -- within their limits, and falling from the top as they rose, they are usable
-returns-2 : tie.Need-returns-2
+pub returns : goal.returns
 unfolding tiers_of own_tiers
-returns-2 c =
-    let withdrawals = c.before.before.before in
-    let edges = withdrawals.before.before.before in
-    let start = edges.before.before.before.before in
-    let filed = start.args.t1 in
+returns c =
+    let filed = c.args.filed in
     let count = filed.count in
-    rw (c.with-survivals.ensures, edges.from-the-top.ensures.0, withdrawals.from-the-top2.ensures.0, c.before.wide.ensures.0, ne_eqb _ 0 edges.before.before.before.if1.false) (
+    rw (c.with_survivals.ensures, c.from_the_top-edges.ensures.0, c.from_the_top-withdrawals.ensures.0, c.wide-lowest.ensures.0, ne_eqb _ 0 c.if-count-eq0.false) (
       padded-table count (get_or filed.withdrawals 0 0) (λ (i : ℕ). get_or filed.edges (count - 1 - i) 0) (λ (i : ℕ). get_or filed.withdrawals (count - 1 - i) 0),
       padded-usable count (get_or filed.withdrawals 0 0) (λ (i : ℕ). get_or filed.edges (count - 1 - i) 0) (λ (i : ℕ). get_or filed.withdrawals (count - 1 - i) 0)
-          (fit filed start.requires _ _ _ (rw edges.from-the-top.ensures.0 at edges.from-the-top.ensures.1) refl refl)
-          (own-falling filed start.requires),
+          (fit filed c.requires _ _ _ (rw c.from_the_top-edges.ensures.0 at c.from_the_top-edges.ensures.1) refl refl)
+          (own-falling filed c.requires),
     )
-
-pub tiers-of-spec : {M : Type 1} → statement M
-tiers-of-spec =
-    tie.close
-    (tie.spec
-    house-requires
-    returns
-    from-the-top-requires
-    from-the-top-requires-2
-    element-copy-out-wide
-    wide-requires
-    with-survivals-requires
-    returns-2)
