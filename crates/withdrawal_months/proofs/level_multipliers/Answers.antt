@@ -15,9 +15,6 @@ use Rattle.withdrawal_months.proofs.level_multipliers.Goals as goal
 abbrev nothing : MonthMultipliers
 nothing = record { paid = 0; left = 0; carried = 0; whole = false }
 
-    none : (level : ℕ) → held_at (replicate 17 0) (replicate 17 0) (replicate 17 0) (replicate 17 false) level ≡ nothing
-    none level = rw (zeros-get_or 17 level, false-at 17 level)
-
 -- four lists of zeros hold nothing at any level
 pub loop-i-init : goal.loop-i-init
 loop-i-init c =
@@ -28,6 +25,9 @@ loop-i-init c =
     false-at zero level = refl
     false-at (suc n) zero = refl
     false-at (suc n) (suc level) = false-at n level
+
+    none : (level : ℕ) → held_at (replicate 17 0) (replicate 17 0) (replicate 17 0) (replicate 17 false) level ≡ nothing
+    none level = rw (zeros-get_or 17 level, false-at 17 level)
 
 pub multipliers_of-m-requires : goal.multipliers_of-m-requires
 multipliers_of-m-requires c =
@@ -101,9 +101,8 @@ loop-i-preserved c =
     )
 
 pub returns : goal.returns
-returns c =
-    (
-      λ level h. let within : level < c.loop-i.i = omega (arith, c.loop-i-test.false, h, c.last_level-last.ensures) in
-          rw (c.loop-i.invariant.1.holds level within, c.loop-i.invariant.2.holds level within, c.loop-i.invariant.3.holds level within, c.loop-i.invariant.4.holds level within),
-      λ level h. c.loop-i.invariant.5 level (omega (arith, c.loop-i.invariant.0, h, c.last_level-last.ensures)),
-    )
+returns c = (
+  λ level h. let within : level < c.loop-i.i = omega (arith, c.loop-i-test.false, h, c.last_level-last.ensures) in
+      rw (c.loop-i.invariant.1.holds level within, c.loop-i.invariant.2.holds level within, c.loop-i.invariant.3.holds level within, c.loop-i.invariant.4.holds level within),
+  λ level h. c.loop-i.invariant.5 level (omega (arith, c.loop-i.invariant.0, h, c.last_level-last.ensures)),
+)

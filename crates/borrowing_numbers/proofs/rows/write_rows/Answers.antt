@@ -26,7 +26,7 @@ loop-i-init c = (omega arith, overwritten-none _)
 
 pub row_of-row-requires : goal.row_of-row-requires
 row_of-row-requires c =
-    let prepared : Tables c.args.cells.now (libor_in c.args.sheets.now) c.fill_factors.new.1.1.0 c.fill_factors.new.1.1.1.0 = tables-made _ _ _ _ _ c.longest_term-longest.ensures (rw c.row_used-libor.ensures.0 at c.fill_factors.ensures.0) (rw c.row_used-libor.ensures.0 at c.fill_factors.ensures.1) in
+    let prepared : Tables c.args.cells.now (libor_in c.args.sheets.now) c.fill_factors.new.lower c.fill_factors.new.upper = tables-made _ _ _ _ _ c.longest_term-longest.ensures (rw c.row_used-libor.ensures.0 at c.fill_factors.ensures.0) (rw c.row_used-libor.ensures.0 at c.fill_factors.ensures.1) in
     let p = c.requires in
     let tables = prepared in
     (p.0, c.loop-i-test.true, rw tables.lower-is (factors-at-most-par down _ _), rw tables.upper_is (factors-at-most-par up _ _))
@@ -35,7 +35,7 @@ row_of-row-requires c =
 -- up to 15 (i + 1), which is within the list
 pub loop-i-preserved : goal.loop-i-preserved
 loop-i-preserved c =
-    let prepared : Tables c.args.cells.now (libor_in c.args.sheets.now) c.fill_factors.new.1.1.0 c.fill_factors.new.1.1.1.0 = tables-made _ _ _ _ _ c.longest_term-longest.ensures (rw c.row_used-libor.ensures.0 at c.fill_factors.ensures.0) (rw c.row_used-libor.ensures.0 at c.fill_factors.ensures.1) in
+    let prepared : Tables c.args.cells.now (libor_in c.args.sheets.now) c.fill_factors.new.lower c.fill_factors.new.upper = tables-made _ _ _ _ _ c.longest_term-longest.ensures (rw c.row_used-libor.ensures.0 at c.fill_factors.ensures.0) (rw c.row_used-libor.ensures.0 at c.fill_factors.ensures.1) in
     let state = c.loop-i in
     let more : state.i < borrowing_count = omega arith in (
       omega (arith, more),

@@ -15,7 +15,7 @@ loop-i-init c = refl
 pub returns-then-not-is_digit : goal.returns-then-not-is_digit
 returns-then-not-is_digit c =
     let tested : not (is_digit (byte_at c.args.text.now c.loop-i.i)) ≡ not c.is_digit.result = sym (ap not (c.is_digit.ensures ∙ ap is_digit (byte_inside _ _ c.loop-i-test.true))) in
-    sym (c.loop-i.invariant ∙ search-here _ _ _ c.loop-i-test.true (tested ∙ c.if-not-is_digit.true))
+    sym (c.loop-i.invariant ∙ search-here _ _ _ c.loop-i-test.true (tested ∙ ap not c.if-not-is_digit.true))
 
 pub loop-i-smaller : goal.loop-i-smaller
 loop-i-smaller c = omega (arith, c.loop-i-test.true)
@@ -23,7 +23,7 @@ loop-i-smaller c = omega (arith, c.loop-i-test.true)
 pub loop-i-preserved : goal.loop-i-preserved
 loop-i-preserved c =
     let tested : not (is_digit (byte_at c.args.text.now c.loop-i.i)) ≡ not c.is_digit.result = sym (ap not (c.is_digit.ensures ∙ ap is_digit (byte_inside _ _ c.loop-i-test.true))) in
-    c.loop-i.invariant ∙ search-next _ _ _ c.loop-i-test.true (tested ∙ c.if-not-is_digit.false)
+    c.loop-i.invariant ∙ search-next _ _ _ c.loop-i-test.true (tested ∙ ap not c.if-not-is_digit.false)
 
 pub returns : goal.returns
 returns c = sym (c.loop-i.invariant ∙ search-end _ _ _ c.loop-i-test.false)

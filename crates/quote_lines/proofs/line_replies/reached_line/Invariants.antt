@@ -1,0 +1,13 @@
+-- `reached_line` meets its contract: none of the lines before i reaches the month. Assumes nothing.
+use Prim.Native.Nat.{◌-◌, ◌≤◌}
+use mathlib.Core.Path.{◌≡◌}
+use lib.ListN.{length}
+use Rattle.quote_lines.specs.Lines.{lines_of}
+use Rattle.quote_lines.proofs.ReachLaws.{Reaching}
+use Rattle.quote_lines.proofs.line_replies.reached_line.Given as goal
+
+abbrev pub invariant-loop-i : goal.invariant-loop-i
+invariant-loop-i l = (l.count ≡ length (lines_of l.months l.prices)) × (l.i ≤ l.count) × Reaching (lines_of l.months l.prices) l.month l.i
+
+abbrev pub decreases-loop-i : goal.decreases-loop-i
+decreases-loop-i l = l.count - l.i
