@@ -75,4 +75,4 @@ pub returns : goal.returns
 unfolding line_in
 returns c =
     let e : c.loop-k.k ≡ scenario_count = omega arith in
-    rw (fill-all _ nan scenario_count c.loop-k.own_val (rw e at c.loop-k.invariant.1))
+    rw (fill-all _ nan scenario_count c.loop-k.own (rw e at c.loop-k.invariant.1))

@@ -1,12 +1,8 @@
 -- `scan` meets its contract. The loop's invariant: the certificates before k pass, and the sums are theirs. Assumes nothing.
 use Prim.Native.Nat.{◌-◌}
 use lib.ListN.{length}
-use Rattle.certificate_calendar.specs.declared.Date.{Date}
 use Rattle.certificates.proofs.ScanLaws.{Scanning}
 use Rattle.certificates.proofs.certificate_sums.scan.Given as goal
-
-abbrev valuation : tie.After-number invariant-loop decreases-loop → Date
-valuation n = (entry (turn n)).args.valuation
 
 abbrev pub invariant-loop-k : goal.invariant-loop-k
 invariant-loop-k l = Scanning l.valuation l.certificates l.k l.totals
