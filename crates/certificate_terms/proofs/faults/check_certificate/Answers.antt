@@ -20,16 +20,16 @@ returns-then-no_such_day c =
 
 pub not_outstanding-requires : goal.not_outstanding-requires
 not_outstanding-requires c =
-    let all-days : no_such_day c.args.valuation c.args.c ≡ false = sym c.no_such_day.ensures ∙ c.if-no_such_day.false in
-    let all = days-are _ _ all-days in
+    let tested : no_such_day c.args.valuation c.args.c ≡ false = sym c.no_such_day.ensures ∙ c.if-no_such_day.false in
+    let all = days-are _ _ tested in
     record { valuation_value = all.0; issue_value = all.1.0; maturity_value = all.1.1 }
 
 pub returns-then-not_outstanding : goal.returns-then-not_outstanding
 unfolding verdict_of refused
 returns-then-not_outstanding c =
     let within-limits : over_limit c.args.c ≡ false = sym c.over_limit.ensures ∙ c.if-over_limit.false in
-    let all-days : no_such_day c.args.valuation c.args.c ≡ false = sym c.no_such_day.ensures ∙ c.if-no_such_day.false in
-    own-outstanding _ _ _ within-limits all-days (sym c.not_outstanding.ensures ∙ c.if-not_outstanding.true)
+    let all : no_such_day c.args.valuation c.args.c ≡ false = sym c.no_such_day.ensures ∙ c.if-no_such_day.false in
+    own-outstanding _ _ _ within-limits all (sym c.not_outstanding.ensures ∙ c.if-not_outstanding.true)
 
 pub months_between-requires : goal.months_between-requires
 months_between-requires c =
