@@ -67,17 +67,15 @@ value_bounds-two-requires c =
     let a = c.args in
     let limits = c.requires.balance_le_balance_limit in
     let known = last-known in
-    let lt : c.loop-scenario.scenario < scenario_count = omega (arith, c.loop-scenario-test.true) in (
-      (limits.0, limits.1.months-le, lt),
-      (
-        priceable (lent_tiers limits.3) a.d a.rates.now a.column _ _ _ _ _ a.lower.now a.upper.now _ limits.1 limits.3.usable c.early_levels.ensures.0
-            (rw (← c.coupon_growth-growth.ensures, ← c.servicing_cost-servicing.ensures) c.level_multipliers.ensures.0) lt
-            known.1 known.2 known.0,
-        prices-le (lent_tiers limits.3) a.d a.rates.now a.column _ _ _ _ _ a.lower.now a.upper.now _ limits.1 limits.3.usable c.early_levels.ensures.0
-            (rw (← c.coupon_growth-growth.ensures, ← c.servicing_cost-servicing.ensures) c.level_multipliers.ensures.0) lt
-            known.1 known.2 known.0,
-      ),
-    )
+    let lt : c.loop-scenario.scenario < scenario_count = omega (arith, c.loop-scenario-test.true) in record {
+      balance_le_balance_limit = (limits.0, limits.1.months-le, lt);
+      priceable = priceable (lent_tiers limits.3) a.d a.rates.now a.column _ _ _ _ _ a.lower.now a.upper.now _ limits.1 limits.3.usable c.early_levels.ensures.0
+          (rw (← c.coupon_growth-growth.ensures, ← c.servicing_cost-servicing.ensures) c.level_multipliers.ensures.0) lt
+          known.1 known.2 known.0;
+      months_bound = prices-le (lent_tiers limits.3) a.d a.rates.now a.column _ _ _ _ _ a.lower.now a.upper.now _ limits.1 limits.3.usable c.early_levels.ensures.0
+          (rw (← c.coupon_growth-growth.ensures, ← c.servicing_cost-servicing.ensures) c.level_multipliers.ensures.0) lt
+          known.1 known.2 known.0;
+    }
 
 -- lower and upper value of one scenario more are written
 pub loop-scenario-preserved : goal.loop-scenario-preserved
@@ -102,12 +100,12 @@ returns c =
     let a = c.args in
     let limits = c.requires.balance_le_balance_limit in
     let known = last-known in
-    let e : c.loop-scenario.scenario ≡ scenario_count = omega arith in (
-      λ t. overwritten-all _ _ _ _ c.loop-scenario.invariant.1 (omega arith)
+    let e : c.loop-scenario.scenario ≡ scenario_count = omega arith in record {
+      value = λ t. overwritten-all _ _ _ _ c.loop-scenario.invariant.1 (omega arith)
           ∙ rw e
           (ap joined (table-ext scenario_count _ _
           (λ s h. bounds-are (lent_tiers t) a.d a.rates.now a.column _ _ _ _ _ a.lower.now a.upper.now s limits.1 t.usable c.early_levels.ensures.0
           (rw (← c.coupon_growth-growth.ensures, ← c.servicing_cost-servicing.ensures) c.level_multipliers.ensures.0) h
-          known.1 known.2 known.0 a.balance))),
-      ((λ none. absurd (c.if-balance-eq0.false none)), λ some. c.early_levels.ensures),
-    )
+          known.1 known.2 known.0 a.balance)));
+      levels_left = ((λ none. absurd (c.if-balance-eq0.false none)), λ some. c.early_levels.ensures);
+    }
