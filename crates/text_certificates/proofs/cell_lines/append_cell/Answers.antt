@@ -14,7 +14,7 @@ append_line-requires c =
     omega (
       arith,
       c.append_number-behind.ensures.end_is,
-      c.append_number-behind.auto.0,
+      c.append_number-behind.auto.out,
       decimal-length c.args.cell (omega (arith, c.ranges.cell)),
       rest-short c.args.value (omega (arith, c.ranges.value)),
     )

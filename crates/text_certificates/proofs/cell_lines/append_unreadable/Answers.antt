@@ -8,7 +8,7 @@ use Rattle.text_certificates.proofs.cell_lines.append_unreadable.Goals as goal
 
 pub append_line-requires : goal.append_line-requires
 append_line-requires c =
-    omega (arith, c.append-word.ensures.end_is, c.append-word.auto.0, rest-short c.args.line (omega (arith, c.ranges.line)))
+    omega (arith, c.append-word.ensures.end_is, c.append-word.auto.out, rest-short c.args.line (omega (arith, c.ranges.line)))
 
 pub returns : goal.returns
 unfolding unreadable_text unreadable_word

@@ -4,7 +4,7 @@ use native.Mathlib.Omega.{arith}
 use mathlib.Core.Path.{◌≡◌, sym, ap, ◌∙◌}
 use mathlib.Core.Bool.{true}
 use mathlib.Core.List.{List}
-use borrow.Author.Tests.{not-false}
+use borrow.Author.Tests.{not-true, not-false}
 use lib.ListN.{length}
 use Rattle.lists.specs.Tables.{table_from, joined}
 use Rattle.lists.proofs.RunLaws.{overwritten-none}
@@ -35,7 +35,7 @@ pub loop-at-init : goal.loop-at-init
 unfolding joined table_from
 loop-at-init c =
     let dated : has_form c.args.text.now 0 date_form ≡ true = let line = c.date_line-first in
-    sym (line-readable _ 0 date_form line.result line.ensures) ∙ not-false _ c.if-not-first.false in
+    sym (line-readable _ 0 date_form line.result line.ensures) ∙ c.if-not-first.false in
     let s = c.args.text.now in
     let line = c.date_line-first in
     let next = ap (λ (r : Line). r.next) (line-is s 0 date_form line.result line.ensures dated) in
@@ -52,17 +52,17 @@ returns-then-not-line c =
     let text : List ℕ = c.args.text.now in
     let s = text in
     let at = c.loop-at in
-    let form = sym (line-readable s at.at certificate_form c.certificate_line-line.result c.certificate_line-line.ensures) ∙ c.if-not-line.true in
+    let form = sym (line-readable s at.at certificate_form c.certificate_line-line.result c.certificate_line-line.ensures) ∙ not-true _ c.if-not-line.true in
     let more = c.loop-at-test.true in
-    let first = line_first s (at.count + 1) at.at at.inv.0 more form in
+    let first = line_first s (at.count + 1) at.at at.invariant.0 more form in
     let count : read_count s ≡ at.count = omega (arith, first) in
     let day = c.date_line-first in
     record {
-      unreadable-is = omega (arith, line-fails s (at.count + 1) at.at at.inv.0 more form);
+      unreadable-is = omega (arith, line-fails s (at.count + 1) at.at at.invariant.0 more form);
       valuation-is = date-read s day.result day.ensures;
       count-is = sym count;
-      numbers-are = rw count at.inv.1.is;
-      fits = omega (arith, at.inv.1.as_long, at.inv.0.room, at.inv.0.bound, c.requires);
+      numbers-are = rw count at.invariant.1.is;
+      fits = omega (arith, at.invariant.1.as_long, at.invariant.0.room, at.invariant.0.bound, c.requires);
     }
 
 pub overflow_mul-count : goal.overflow_mul-count
@@ -76,8 +76,8 @@ write-requires c =
     let values-are : c.certificate_line-line.result.numbers ≡ form_numbers text c.loop-at.at certificate_form = (certificate-read _ _ _ c.certificate_line-line.ensures formed).0 in
     let stored-long : length c.certificate_line-line.result.numbers ≡ 8 = rw values-are (certificate-length _ _) in
     let stored-room : 8 * c.loop-at.count + 8 ≤ length c.loop-at.numbers = let at = c.loop-at in
-    let next = next-read text (at.count + 1) at.at at.inv.0 c.loop-at-test.true formed in
-    omega (arith, at.inv.1.as_long, next.room, next.bound, c.requires) in
+    let next = next-read text (at.count + 1) at.at at.invariant.0 c.loop-at-test.true formed in
+    omega (arith, at.invariant.1.as_long, next.room, next.bound, c.requires) in
     omega (arith, stored-room, stored-long)
 
 pub overflow_add-count : goal.overflow_add-count
@@ -91,7 +91,7 @@ loop-at-smaller c =
     let next-is : c.certificate_line-line.result.next ≡ form_end text c.loop-at.at certificate_form = (certificate-read _ _ _ c.certificate_line-line.ensures formed).1 in
     let at = c.loop-at in
     let more = c.loop-at-test.true in
-    omega (arith, next-is, form-takes text _ at.at at.inv.0 more formed, more)
+    omega (arith, next-is, form-takes text _ at.at at.invariant.0 more formed, more)
 
 -- the line has its form: its eight numbers are stored behind those so far, where there is room, and reading goes on behind the line
 pub loop-at-preserved : goal.loop-at-preserved
@@ -102,15 +102,15 @@ loop-at-preserved c =
     let values-are : c.certificate_line-line.result.numbers ≡ form_numbers text c.loop-at.at certificate_form = (certificate-read _ _ _ c.certificate_line-line.ensures formed).0 in
     let next-is : c.certificate_line-line.result.next ≡ form_end text c.loop-at.at certificate_form = (certificate-read _ _ _ c.certificate_line-line.ensures formed).1 in
     let stored-room : 8 * c.loop-at.count + 8 ≤ length c.loop-at.numbers = let at = c.loop-at in
-    let next = next-read text (at.count + 1) at.at at.inv.0 c.loop-at-test.true formed in
-    omega (arith, at.inv.1.as_long, next.room, next.bound, c.requires) in
+    let next = next-read text (at.count + 1) at.at at.invariant.0 c.loop-at-test.true formed in
+    omega (arith, at.invariant.1.as_long, next.room, next.bound, c.requires) in
     let s = text in
     let at = c.loop-at in
     let values = c.certificate_line-line.result.numbers in
-    let are = values-are ∙ numbers-are s at.count at.at at.inv.0 in
+    let are = values-are ∙ numbers-are s at.count at.at at.invariant.0 in
     let room = stored-room in (
-      rw next-is (next-read s (at.count + 1) at.at at.inv.0 c.loop-at-test.true formed),
-      rw c.write.ensures (stored_next s _ at.numbers at.count values are (omega (arith, room, at.inv.1.as_long)) at.inv.1),
+      rw next-is (next-read s (at.count + 1) at.at at.invariant.0 c.loop-at-test.true formed),
+      rw c.write.ensures (stored_next s _ at.numbers at.count values are (omega (arith, room, at.invariant.1.as_long)) at.invariant.1),
     )
 
 -- the text ends behind the last line read: every line has its form, and the stored numbers are those of all certificates
