@@ -65,4 +65,4 @@ module _ (k : RollingTerms) (scenario : ℕ) (lower upper : List ℕ) where
 
 -- a difference comes back as it is
 pub signed_back : {r : ℤ} (a b : ℕ) → r ≡ pos a -ℤ pos b → a < 2 ^ 63 → b < 2 ^ 63 → to_z w64 (of_z w64 r) ≡ r
-signed_back a b e ha hb = to_z-of_z (record { sfits = rw e (difference-small a b (2 ^ 63) ha hb) })
+signed_back a b e ha hb = to_z-of_z {w = w64} (record { sfits = rw e (difference-small a b (2 ^ 63) ha hb) })

@@ -29,10 +29,8 @@ pub(crate) fn rolled_balances<'a>(
     survivals: &'a [u64; TIER_LIMIT],
     retained: u64,
 ) -> Bounds
-    ghost k: { RollingTerms }
-    requires k_value { k ≡ lent_terms cell scenario rates.now count edges.now survivals.now retained }
-    requires rolling_bounded { RollingBounded rolled_coupon_limit k × ColumnRates rates.now cell.column × (scenario < scenario_count) × EdgesFit count edges.now }
-    ensures { (result ≡ rolled_bounds k) × (result.lower ≤ figure_limit) × (result.upper ≤ figure_limit) }
+    requires { let k : RollingTerms = lent_terms cell scenario rates.now count edges.now survivals.now retained in RollingBounded rolled_coupon_limit k × ColumnRates rates.now cell.column × (scenario < scenario_count) × EdgesFit count edges.now }
+    ensures { let k : RollingTerms = lent_terms cell scenario rates.now count edges.now survivals.now retained in (result ≡ rolled_bounds k) × (result.lower ≤ figure_limit) × (result.upper ≤ figure_limit) }
 {
     let filed = filed_balances(cell, scenario, rates, count, edges, survivals, retained);
     Bounds {
@@ -51,10 +49,8 @@ fn filed_balances<'a>(
     survivals: &'a [u64; TIER_LIMIT],
     retained: u64,
 ) -> Bounds
-    ghost k: { RollingTerms }
-    requires k_value { k ≡ lent_terms cell scenario rates.now count edges.now survivals.now retained }
-    requires rolling_bounded { RollingBounded rolled_coupon_limit k × ColumnRates rates.now cell.column × (scenario < scenario_count) × EdgesFit count edges.now }
-    ensures { (result ≡ balances_at k k.months) × (result.lower ≤ figure_limit) × (result.upper ≤ figure_limit) }
+    requires { let k : RollingTerms = lent_terms cell scenario rates.now count edges.now survivals.now retained in RollingBounded rolled_coupon_limit k × ColumnRates rates.now cell.column × (scenario < scenario_count) × EdgesFit count edges.now }
+    ensures { let k : RollingTerms = lent_terms cell scenario rates.now count edges.now survivals.now retained in (result ≡ balances_at k k.months) × (result.lower ≤ figure_limit) × (result.upper ≤ figure_limit) }
 {
     let growth = COUPON_GROWTH * cell.coupon;
     let mut lower = FIRST_BALANCE;

@@ -30,10 +30,8 @@ pub fn intangible_in<'a>(
     lower: &LongFactors,
     upper: &LongFactors,
 ) -> [i64; 2]
-    ghost k: { RollingTerms }
-    requires k_value { k ≡ lent_terms cell scenario rates.now count edges.now survivals.now retained }
-    requires walkable { Walkable k cell.column scenario rates.now count edges.now lower.now upper.now }
-    ensures { result ≡ intangible_by k scenario lower.now upper.now }
+    requires { let k : RollingTerms = lent_terms cell scenario rates.now count edges.now survivals.now retained in Walkable k cell.column scenario rates.now count edges.now lower.now upper.now }
+    ensures { let k : RollingTerms = lent_terms cell scenario rates.now count edges.now survivals.now retained in result ≡ intangible_by k scenario lower.now upper.now }
 {
     let rolled = rolled_balances(cell, scenario, rates, count, edges, survivals, retained);
     let first = first_products(rolled, cell.months, scenario, lower, upper);

@@ -34,10 +34,8 @@ pub fn write_numbers<'a>(
     tiers: FiledTiers,
     list: &mut [u64],
 )
-    ghost k: { Contents }
-    requires k_value { k ≡ contents_in cells.now sheets.now tiers }
-    requires valid { Valid k × (sums ≡ column_sums k.cells) × (number_count ≤ length list.old) }
-    ensures { list.new ≡ numbers k ++ drop number_count list.old }
+    requires { let k : Contents = contents_in cells.now sheets.now tiers in Valid k × (sums ≡ column_sums k.cells) × (number_count ≤ length list.old) }
+    ensures { let k : Contents = contents_in cells.now sheets.now tiers in list.new ≡ numbers k ++ drop number_count list.old }
 {
     write_rows(cells, sums, sheets, tiers, list);
     let totals = totals_of(list);
@@ -52,10 +50,8 @@ fn write_rows(
     filed: FiledTiers,
     list: &mut [u64],
 )
-    ghost k: { Contents }
-    requires k_value { k ≡ contents_in cells.now sheets.now filed }
-    requires valid { Valid k × (sums ≡ column_sums k.cells) × (totals_start ≤ length list.old) }
-    ensures { list.new ≡ joined (table sub_balance_count (place_numbers k)) ++ drop totals_start list.old }
+    requires { let k : Contents = contents_in cells.now sheets.now filed in Valid k × (sums ≡ column_sums k.cells) × (totals_start ≤ length list.old) }
+    ensures { let k : Contents = contents_in cells.now sheets.now filed in list.new ≡ joined (table sub_balance_count (place_numbers k)) ++ drop totals_start list.old }
 {
     let tiers = tiers_of(filed);
     let places = places_of(cells, sums);

@@ -19,26 +19,26 @@ returns-then-not-usable c = rw (← c.usable.ensures, c.if-not-usable.true)
 
 pub tiers_of-own-requires : goal.tiers_of-own-requires
 tiers_of-own-requires c =
-    let limits : Limits c.args.rates.now c.args.tiers c.args.lower.now c.args.upper.now = usable-limits _ _ _ _ (sym c.usable.ensures ∙ not-false c.usable.result c.if-not-usable.false) in
+    let limits : Limits c.args.rates.now c.args.tiers c.args.lower.now c.args.upper.now = usable-limits _ _ _ _ (sym c.usable.ensures ∙ c.if-not-usable.false) in
     limits.tiers-within
 
 pub to_multipliers-requires : goal.to_multipliers-requires
 unfolding deposit_at
 to_multipliers-requires c =
-    let limits : Limits c.args.rates.now c.args.tiers c.args.lower.now c.args.upper.now = usable-limits _ _ _ _ (sym c.usable.ensures ∙ not-false c.usable.result c.if-not-usable.false) in
+    let limits : Limits c.args.rates.now c.args.tiers c.args.lower.now c.args.upper.now = usable-limits _ _ _ _ (sym c.usable.ensures ∙ c.if-not-usable.false) in
     (limits.lower-le, c.requires.2.months-le)
 
 pub to_multipliers-requires-2 : goal.to_multipliers-requires-2
 unfolding deposit_at
 to_multipliers-requires-2 c =
-    let limits : Limits c.args.rates.now c.args.tiers c.args.lower.now c.args.upper.now = usable-limits _ _ _ _ (sym c.usable.ensures ∙ not-false c.usable.result c.if-not-usable.false) in
+    let limits : Limits c.args.rates.now c.args.tiers c.args.lower.now c.args.upper.now = usable-limits _ _ _ _ (sym c.usable.ensures ∙ c.if-not-usable.false) in
     (limits.upper-le, c.requires.2.months-le)
 
 -- both tables are of multipliers: the lower factors are at most par, the upper ones too and above 0 within the term
 pub held_values-requires : goal.held_values-requires
 unfolding deposit_at rounding_of
 held_values-requires c =
-    let limits : Limits c.args.rates.now c.args.tiers c.args.lower.now c.args.upper.now = usable-limits _ _ _ _ (sym c.usable.ensures ∙ not-false c.usable.result c.if-not-usable.false) in
+    let limits : Limits c.args.rates.now c.args.tiers c.args.lower.now c.args.upper.now = usable-limits _ _ _ _ (sym c.usable.ensures ∙ c.if-not-usable.false) in
     let a = c.args in
     let l = limits in
     let months : a.held.remaining_months ≤ months_limit = c.requires.2.months-le in record {

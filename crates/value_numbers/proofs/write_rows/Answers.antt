@@ -79,10 +79,10 @@ loop-place-preserved c =
     let state = c.loop-place in
     let more : state.place < sub_balance_count = omega arith in (
       omega (arith, more),
-      state.inv.1,
+      state.invariant.1,
       λ filed p. rw c.write.ensures (overwritten-row [] (place_numbers _) place_number_count (row-length _) state.place (place_number_count * state.place) (place_number_count * (state.place + 1))
-          _ state.list c.row_of-row.result (state.inv.2 filed p)
-          (c.row_of-row.ensures.value (lent _ p.usable) ∙ row_is _ _ _ _ _ p state.place more) (omega (arith, more)) (omega (arith, more, state.inv.1))),
+          _ state.list c.row_of-row.result (state.invariant.2 filed p)
+          (c.row_of-row.ensures.value (lent _ p.usable) ∙ row_is _ _ _ _ _ p state.place more) (omega (arith, more)) (omega (arith, more, state.invariant.1))),
     )
 
 pub shape_of-list : goal.shape_of-list
