@@ -43,7 +43,7 @@ held_values-requires c =
     let l = limits in
     let months : a.held.remaining_months ≤ months_limit = c.requires.2.months-le in record {
       place_lt_sub_balance_count = c.requires;
-      within_rates = (l.rates-le, omega (arith, c.held_values-arg-1.given.0), lent _ c.tiers_of-own.ensures.1);
+      within_rates = (l.rates-le, omega arith, lent _ c.tiers_of-own.ensures.1);
       discounting = λ pos. (
         lower-discounting a.lower.now _ a.held.remaining_months c.to_multipliers.ensures.0 l.lower-le,
         upper-discounting a.upper.now _ a.held.remaining_months c.to_multipliers-2.ensures.0 l.upper-le (λ i h. l.upper_pos i (omega (arith, h, months))),
