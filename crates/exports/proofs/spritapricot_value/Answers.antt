@@ -5,4 +5,4 @@ use Rattle.exports.proofs.spritapricot_value.Goals as goal
 pub returns : goal.returns
 returns c =
     let numbers = c.answer_numbers.ensures in
-    valued-for-c _ _ _ _ _ _ _ _ c.value.ensures numbers.0 numbers.1
+    record { valued = valued-for-c _ _ _ _ _ _ _ _ c.value.ensures.valued numbers.0 numbers.1 }

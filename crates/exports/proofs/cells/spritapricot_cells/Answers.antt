@@ -5,5 +5,5 @@ use Rattle.exports.proofs.cells.spritapricot_cells.Goals as goal
 
 pub returns : goal.returns
 returns c =
-    let r = c.to_cells in
-    converted-for-c _ _ _ _ r.result _ _ _ r.ensures c.answer_numbers.ensures.0 c.answer_numbers.ensures.1 refl c.write_cells.ensures
+    let r = c.to_cells-filled in
+    record { converted = converted-for-c _ _ _ _ r.result _ _ _ r.ensures.converted c.answer_numbers.ensures.0 c.answer_numbers.ensures.1 refl c.write_cells.ensures }
