@@ -1,6 +1,6 @@
 /*
  * Values a filing of certificate deposits and borrowings under seven rate scenarios, turns certificates into the cells of a filing, keeps a book, and answers
- * queries on printed price lines. Link libexports.a, which `rt staticlib exports` makes.
+ * queries on printed price lines. Link libexports.a, which `rt lib` makes in crates/exports.
  */
 #ifndef SPRITAPRICOT_H
 #define SPRITAPRICOT_H

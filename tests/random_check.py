@@ -2,7 +2,7 @@
 """Random filings, sound, faulty and damaged, some with borrowings, through the two test programs and the plain C versions, and random calls on the book of every fourth:
 random_check.py [COUNT [SEED]].
 
-Needs target/bin/test_second and target/bin/test_figures (`rt check`) and target/bench/check (`bench/run check`); what is missing is left out. Not run by
+Needs target/bin/test_second and target/bin/test_figures (`tests/built`) and target/bench/check (`bench/run check`); what is missing is left out. Not run by
 the gate."""
 import random
 import struct

@@ -1,5 +1,5 @@
 #!/usr/bin/env python3
-"""Runs `listing`, `borrowings`, `cells`, `book` and `quote`, as `rt check` or `rt ci` left them in target/bin, and compares what each prints, byte by byte.
+"""Runs `listing`, `borrowings`, `cells`, `book` and `quote`, as `tests/built` put them into target/bin, and compares what each prints, byte by byte.
 
 The runs of tests/runs/PROGRAM: NAME.in is standard input and NAME.out what is to be printed; NAME.args holds arguments, one a line, NAME.filing is a file whose
 name is the argument. A run starts in tests/runs/PROGRAM. run_filings.py makes the filings among them, run_lines.py the price lines. Runs that are too long to

@@ -42,7 +42,7 @@ def functions(text):
         ensures = False
         while True:
             brace = text.index("{", at)
-            clause = re.search(r"(ghost|requires|ensures)\s*$", text[at:brace])
+            clause = re.search(r"\b(ghost|requires|ensures)\b\*?(?:\s+\w+)?:?\s*$", text[at:brace])
             end = closed(text, brace, "{", "}")
             if not clause:
                 break
@@ -75,7 +75,7 @@ def answers(crate, repository, edits):
             edit.write("file: src/%s\nold: %s\nnew: %s\n" % (file, old, new))
     said = subprocess.run(["rt", "must-fail", crate], cwd=repository, capture_output=True, text=True).stdout
     shutil.rmtree(folder)
-    return dict(re.findall(r"must-fail %s/(\w+): (refused|NOT REFUSED|BAD EDIT)" % crate, said))
+    return dict(re.findall(r"must-fail %s/(\w+)\.edit: (refused|NOT REFUSED|BAD EDIT)" % crate, said))
 
 
 def try_crate(crate, repository, choice):
@@ -112,13 +112,11 @@ def try_crate(crate, repository, choice):
 
 
 def main():
-    listed = [line.split(":")[0] for line in open(os.path.join(ROOT, "crates.txt")) if ":" in line and not line.startswith("#")]
+    listed = [line.split(":")[0].split()[0] for line in open(os.path.join(ROOT, "crates.txt")) if ":" in line and not line.startswith("#")]
     refused, others = 0, 0
     with tempfile.TemporaryDirectory() as folder:
         repository = os.path.join(folder, "copy")
         subprocess.run(["git", "clone", "-q", ROOT, repository], check=True)
-        if os.path.isdir(os.path.join(ROOT, "target")):
-            shutil.copytree(os.path.join(ROOT, "target"), os.path.join(repository, "target"), symlinks=True)
         for crate in listed:
             shutil.rmtree(os.path.join(repository, "crates", crate, "must-fail"), ignore_errors=True)
         for crate in sys.argv[1:] or listed:
