@@ -191,7 +191,7 @@ module _ (s : List ℕ) (none : first_faulty s ≡ length s) where
       (number-copied s made (offset_of s at.index) (place s at.index) of.copy i
       (by (offset_of s at.index) at.is is.kind-is
       (tiers-length s made (offset_of s at.index) (place s at.index) of.copy shaped four)
-      (sheet-length s made (offset_of s at.index) (place s at.index) of.copy shaped four of.plain (rw is.kind-is is.no_cell) (i - 1))
+      (sheet-length s made (offset_of s at.index) (place s at.index) of.copy shaped four of.plain (rw is.kind-is is.gives_no_cell) (i - 1))
       (eqb kind tiers_kind) refl u))
     where
       by : (at : ℕ) → at ≡ sheet_offset s kind → record_kind s at ≡ kind
