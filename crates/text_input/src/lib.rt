@@ -42,7 +42,7 @@ pub fn read_full<R: Read>(input: &mut R, bytes: &mut [u8]) -> usize
 }
 
 // Reads the next line without its line feed; of a longer one than the lent bytes only those are kept. Nothing is read of it where the input is at its end.
-// What is left in the lent bytes and answered is the line of some bytes: no contract can say which were read.
+// What is left in the lent bytes and answered is the line of some bytes: the contract does not say which were read.
 pub fn next_line<R: Read>(input: &mut R, line: &mut [u8]) -> Reading
     ensures { LineRead line.old result line.new }
 {
