@@ -63,7 +63,7 @@ pub fn next_line<R: Read>(input: &mut R, line: &mut [u8]) -> Reading
 
 // A line after what comes next of the input. One that is complete stays as it is.
 fn step(line: &mut [u8], reading: Reading, next: Input) -> Reading
-    ensures { record { line = line.exit.now; reading = result } ≡ step_of (record { line = line.entry.now; reading = reading }) next }
+    ensures { record { line = line.new; reading = result } ≡ step_of (record { line = line.old; reading = reading }) next }
 {
     if reading.complete {
         return reading;
@@ -76,7 +76,7 @@ fn step(line: &mut [u8], reading: Reading, next: Input) -> Reading
 
 // A line after a byte: a line feed completes it, another byte is kept behind the others, where there is room.
 fn with_byte(line: &mut [u8], size: usize, byte: u8) -> Reading
-    ensures { record { line = line.exit.now; reading = result } ≡ with_byte line.entry.now size byte }
+    ensures { record { line = line.new; reading = result } ≡ with_byte line.old size byte }
 {
     if byte == 10 {
         return complete(size, false);
