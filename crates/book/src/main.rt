@@ -3,49 +3,54 @@
 #![tactic(auto)]
 
 use book_state::Book;
-use libc::STDOUT_FILENO;
+use std::env::Env;
+use std::fs::File;
+use std::io;
+use std::io::Read;
+use std::rt::Files;
 use text_book::{LineInput, obey_read, open_read};
-use text_input::next_line;
+use text_input::{next_line, read_full};
 
 // One byte more than the 65,536 of a filing is read, so that a longer one shows.
-fn main() {
-    let mut path = io::buffer();
-    let length = os::arg(1, &mut path);
-    if os::errno() != 0 {
-        no_filing();
-        return;
-    }
-    let file = os::open_read(&path[..length]);
-    if file < 0 {
-        no_filing();
-        return;
-    }
+fn main(rt: HostRuntime) -> io::Result<()> {
+    let mut path = [0u8; 4096];
+    let Ok(length) = rt.arg(1, &mut path) else {
+        return no_filing(&rt);
+    };
+    let Ok(name) = str::from_utf8(&path[..length]) else {
+        return no_filing(&rt);
+    };
+    let Ok(mut file) = File::open(&rt, name) else {
+        return no_filing(&rt);
+    };
     let mut input = [0u8; 65537];
-    let n = io::read_full(file, &mut input);
-    libc::close(file);
+    let n = read_full(&mut file, &mut input);
+    drop(file);
     let mut text = [0u8; 644];
     let opened = open_read(&input, n, &mut text);
     let size = opened.size;
-    io::write_all(STDOUT_FILENO, &text[..size]);
+    rt.write_all(&text[..size])?;
     if opened.is_open {
-        obey_lines(opened.book);
+        obey_lines(&rt, &mut rt.stdin(), opened.book)?;
     }
+    Ok(())
 }
 
-fn no_filing() {
-    io::write_all(STDOUT_FILENO, b"no filing\n");
+fn no_filing(rt: &impl Print) -> io::Result<()> {
+    rt.write_all(b"no filing\n")
 }
 
 // Obeys each line of standard input, to its end.
-fn obey_lines(opened: Book) {
+fn obey_lines<R: Print, I: Read>(rt: &R, input: &mut I, opened: Book) -> io::Result<()> {
     let mut book = opened;
     for _ in 0..18446744073709551615u64 {
-        let turn = obey_next(book);
+        let turn = obey_next(rt, input, book)?;
         if turn.is_end {
-            return;
+            return Ok(());
         }
         book = turn.book;
     }
+    Ok(())
 }
 
 // The book after a line, and whether there was none.
@@ -56,23 +61,23 @@ struct Turn {
 }
 
 // Obeys the next line. One byte more than the 1,024 of a line is read, so that a longer one shows.
-fn obey_next(book: Book) -> Turn {
+fn obey_next<R: Print, I: Read>(rt: &R, input: &mut I, book: Book) -> io::Result<Turn> {
     let mut line = [0u8; 1025];
-    let read = next_line(&mut line);
+    let read = next_line(input, &mut line);
     if read.unread {
-        return Turn { book, is_end: true };
+        return Ok(Turn { book, is_end: true });
     }
-    Turn {
-        book: obey_line(book, &line, read.size),
+    Ok(Turn {
+        book: obey_line(rt, book, &line, read.size)?,
         is_end: false,
-    }
+    })
 }
 
 // Obeys a line and prints what is answered to it.
-fn obey_line(book: Book, line: &LineInput, n: usize) -> Book {
+fn obey_line(rt: &impl Print, book: Book, line: &LineInput, n: usize) -> io::Result<Book> {
     let mut text = [0u8; 644];
     let obeyed = obey_read(book, line, n, &mut text);
     let size = obeyed.size;
-    io::write_all(STDOUT_FILENO, &text[..size]);
-    obeyed.book
+    rt.write_all(&text[..size])?;
+    Ok(obeyed.book)
 }

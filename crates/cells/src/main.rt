@@ -2,13 +2,14 @@
 // line, or `too long`. One byte more than the 131,072 of an input is read, so that a longer one shows.
 #![tactic(auto)]
 
-use libc::{STDIN_FILENO, STDOUT_FILENO};
+use std::io;
 use text_certificates::write_read;
+use text_input::read_full;
 
-fn main() {
+fn main(rt: HostRuntime) -> io::Result<()> {
     let mut input = [0u8; 131073];
-    let n = io::read_full(STDIN_FILENO, &mut input);
+    let n = read_full(&mut rt.stdin(), &mut input);
     let mut text = [0u8; 1176];
     let size = write_read(&input, n, &mut text);
-    io::write_all(STDOUT_FILENO, &text[..size]);
+    rt.write_all(&text[..size])
 }

@@ -3,16 +3,20 @@
 // bytes is read as an empty one, which is no number.
 #![tactic(auto)]
 
-use libc::{STDIN_FILENO, STDOUT_FILENO};
+ghost use Rattle.std.specs.Prelude.{◌≤◌, length};
+
+use std::env::Env;
+use std::io;
+use text_input::read_full;
 use text_quote::write_read;
 
-fn main() {
-    let mut month = io::buffer();
-    let month_size = os::arg(1, &mut month);
-    let mut scenario = io::buffer();
-    let scenario_size = os::arg(2, &mut scenario);
+fn main(rt: HostRuntime) -> io::Result<()> {
+    let mut month = [0u8; 4096];
+    let month_size = read_argument(&rt, 1, &mut month);
+    let mut scenario = [0u8; 4096];
+    let scenario_size = read_argument(&rt, 2, &mut scenario);
     let mut input = [0u8; 65537];
-    let n = io::read_full(STDIN_FILENO, &mut input);
+    let n = read_full(&mut rt.stdin(), &mut input);
     let mut text = [0u8; 50];
     let size = write_read(
         &input,
@@ -21,5 +25,15 @@ fn main() {
         &scenario[..scenario_size],
         &mut text,
     );
-    io::write_all(STDOUT_FILENO, &text[..size]);
+    rt.write_all(&text[..size])
+}
+
+// Puts an argument at the front of the bytes and answers how many it has, 0 where it is missing or there is no room for it.
+fn read_argument(rt: &impl Env, i: usize, bytes: &mut [u8]) -> usize
+    ensures { result ≤ length bytes.new }
+{
+    match rt.arg(i, bytes) {
+        Ok(size) => size,
+        Err(_) => 0,
+    }
 }

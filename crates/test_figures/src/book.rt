@@ -2,6 +2,7 @@
 use book_calls::{clear, open, set};
 use book_state::{Answered, Book};
 use form::sub_balances::SUB_BALANCES;
+use std::io;
 use test_lines::input::number_at;
 use test_lines::output::{end_line, next_number, text, total_lines};
 use test_lines::places::print_held;
@@ -11,73 +12,80 @@ use test_lines::verdicts::print_answer;
 const CALL: usize = 48;
 
 // An input has the length of a filing, 8 bytes, the filing, and the calls.
-pub(crate) fn print_book(input: &[u8]) {
+pub(crate) fn print_book(rt: &impl Print, input: &[u8]) -> io::Result<()> {
     let n = number_at(input, 0) as usize;
     if 8 <= input.len() {
-        print_parts(&input[8..], n);
+        print_parts(rt, &input[8..], n)?;
     }
+    Ok(())
 }
 
-fn print_parts(s: &[u8], n: usize) {
+fn print_parts(rt: &impl Print, s: &[u8], n: usize) -> io::Result<()> {
     if n <= s.len() {
-        print_opened(&s[..n], &s[n..]);
+        print_opened(rt, &s[..n], &s[n..])?;
     }
+    Ok(())
 }
 
-fn print_opened(filing: &[u8], calls: &[u8]) {
+fn print_opened(rt: &impl Print, filing: &[u8], calls: &[u8]) -> io::Result<()> {
     let opened = open(filing);
     let answer = opened.answer;
-    print_answer(answer);
+    print_answer(rt, answer)?;
     if answers::number(answer) == 0 {
-        print_calls(calls, opened.book);
+        print_calls(rt, calls, opened.book)?;
     }
+    Ok(())
 }
 
-fn print_calls(calls: &[u8], opened: Book) {
+fn print_calls(rt: &impl Print, calls: &[u8], opened: Book) -> io::Result<()> {
     let mut book = opened;
     for k in 0..calls.len() / CALL {
-        book = obey(&calls[CALL * k..], book);
+        book = obey(rt, &calls[CALL * k..], book)?;
     }
+    Ok(())
 }
 
 // The book after the call that stands first: 0 sets a place, 1 clears it, 2 shows it, others show the totals.
-fn obey(call: &[u8], book: Book) -> Book {
+fn obey(rt: &impl Print, call: &[u8], book: Book) -> io::Result<Book> {
     let place = number_at(call, 8) as usize;
     match number_at(call, 0) {
         0 => {
-            change(set(
-                book,
-                place,
-                number_at(call, 16),
-                number_at(call, 24),
-                number_at(call, 32),
-                number_at(call, 40),
-            ))
+            change(
+                rt,
+                set(
+                    book,
+                    place,
+                    number_at(call, 16),
+                    number_at(call, 24),
+                    number_at(call, 32),
+                    number_at(call, 40),
+                ),
+            )
         }
-        1 => change(clear(book, place)),
-        2 => print_place(book, place),
-        _ => print_totals(book),
+        1 => change(rt, clear(book, place)),
+        2 => print_place(rt, book, place),
+        _ => print_totals(rt, book),
     }
 }
 
-fn change(changed: Answered) -> Book {
+fn change(rt: &impl Print, changed: Answered) -> io::Result<Book> {
     let answer = changed.answer;
-    print_answer(answer);
-    changed.book
+    print_answer(rt, answer)?;
+    Ok(changed.book)
 }
 
-fn print_place(book: Book, place: usize) -> Book {
+fn print_place(rt: &impl Print, book: Book, place: usize) -> io::Result<Book> {
     if place < SUB_BALANCES {
-        print_held(book.places[place], place as u64);
+        print_held(rt, book.places[place], place as u64)?;
     }
-    book
+    Ok(book)
 }
 
-fn print_totals(book: Book) -> Book {
-    text(b"balance");
-    next_number(book.balance);
-    end_line();
+fn print_totals(rt: &impl Print, book: Book) -> io::Result<Book> {
+    text(rt, b"balance")?;
+    next_number(rt, book.balance)?;
+    end_line(rt)?;
     let totals = book.totals;
-    total_lines(b"total ", &totals);
-    book
+    total_lines(rt, b"total ", &totals)?;
+    Ok(book)
 }

@@ -3,6 +3,7 @@ ghost use Rattle.std.specs.Prelude.{◌≤◌};
 
 use certificate_calendar::Date;
 use certificates::to_cells;
+use std::io;
 use test_lines::cells::print_cells;
 use test_lines::input::number_at;
 
@@ -10,16 +11,16 @@ use test_lines::input::number_at;
 const NUMBERS: usize = 8192;
 
 // An input has numbers of 8 bytes: year, month and day of the valuation date, and eight for each certificate.
-pub(crate) fn print_certificates(input: &[u8]) {
+pub(crate) fn print_certificates(rt: &impl Print, input: &[u8]) -> io::Result<()> {
     let mut numbers = [0u64; NUMBERS];
     for i in 0..NUMBERS {
         numbers[i] = number_at(input, 24 + 8 * i);
     }
-    print_made(input, &numbers);
+    print_made(rt, input, &numbers)
 }
 
 // The first numbers of the room are those behind the date.
-fn print_made(input: &[u8], room: &[u64]) {
+fn print_made(rt: &impl Print, input: &[u8], room: &[u64]) -> io::Result<()> {
     let valuation = Date {
         year: number_at(input, 0),
         month: number_at(input, 8),
@@ -27,8 +28,9 @@ fn print_made(input: &[u8], room: &[u64]) {
     };
     let count = number_count(input);
     if count <= room.len() {
-        print_cells(to_cells(valuation, &room[..count]));
+        print_cells(rt, to_cells(valuation, &room[..count]))?;
     }
+    Ok(())
 }
 
 // How many whole numbers stand behind the date.

@@ -7,8 +7,10 @@ use crate::listing::print_listing;
 use crate::search::print_search;
 use crate::split::print_splitting;
 use crate::values::{print_both, print_valuing};
-use libc::STDIN_FILENO;
+use std::io;
+use std::io::Read;
 use test_lines::output::{end_line, next_number, text};
+use text_input::read_full;
 
 // The longest input, a byte more than the listing takes.
 const ROOM: usize = 65537;
@@ -16,35 +18,36 @@ const ROOM: usize = 65537;
 const MISSING: usize = 18446744073709551615;
 
 // Prints each entry, counted from 0.
-pub(crate) fn print_entries() {
+pub(crate) fn print_entries<R: Print, I: Read>(rt: &R, input: &mut I) -> io::Result<()> {
     for i in 0..18446744073709551615 {
-        if !print_entry(i) {
+        if !print_entry(rt, input, i)? {
             break;
         }
     }
+    Ok(())
 }
 
 // Prints entry i; false where there is none.
-fn print_entry(i: u64) -> bool {
-    let call = next_size();
-    let first = next_size();
-    let second = next_size();
-    let size = next_size();
+fn print_entry<R: Print, I: Read>(rt: &R, input: &mut I, i: u64) -> io::Result<bool> {
+    let call = next_size(input);
+    let first = next_size(input);
+    let second = next_size(input);
+    let size = next_size(input);
     if size == MISSING {
-        return false;
+        return Ok(false);
     }
-    text(b"entry");
-    next_number(i);
-    end_line();
+    text(rt, b"entry")?;
+    next_number(rt, i)?;
+    end_line(rt)?;
     let mut room = [0u8; ROOM];
-    print_first(&mut room, size, call, first, second);
-    true
+    print_first(rt, input, &mut room, size, call, first, second)?;
+    Ok(true)
 }
 
 // The number that the next 4 bytes spell, MISSING where there are fewer.
-fn next_size() -> usize {
+fn next_size<I: Read>(input: &mut I) -> usize {
     let mut bytes = [0u8; 4];
-    let n = io::read_full(STDIN_FILENO, &mut bytes);
+    let n = read_full(input, &mut bytes);
     if n < 4 {
         return MISSING;
     }
@@ -58,34 +61,56 @@ fn wide(b: u8) -> usize
 }
 
 // Reads an input of `size` bytes into the room and prints what the call answers on it. A larger one is left.
-fn print_first(room: &mut [u8], size: usize, call: usize, first: usize, second: usize) {
+fn print_first<R: Print, I: Read>(
+    rt: &R,
+    input: &mut I,
+    room: &mut [u8],
+    size: usize,
+    call: usize,
+    first: usize,
+    second: usize,
+) -> io::Result<()> {
     if size <= room.len() {
-        print_input(&mut room[..size], call, first, second);
+        print_input(rt, input, &mut room[..size], call, first, second)?;
     }
+    Ok(())
 }
 
-fn print_input(input: &mut [u8], call: usize, first: usize, second: usize) {
-    let n = io::read_full(STDIN_FILENO, input);
-    print_call(&input[..n], call, first, second);
+fn print_input<R: Print, I: Read>(
+    rt: &R,
+    input: &mut I,
+    room: &mut [u8],
+    call: usize,
+    first: usize,
+    second: usize,
+) -> io::Result<()> {
+    let n = read_full(input, room);
+    print_call(rt, &room[..n], call, first, second)
 }
 
 // Call 0 values the input with a list of `first` numbers and splits it into a list of `second` places; call 1 lists it; call 2 searches a tier; call 3
 // makes cells of certificates; call 4 keeps a book; call 5 values certificates and borrowings with lists of `first` and of `second` numbers.
-fn print_call(input: &[u8], call: usize, first: usize, second: usize) {
+fn print_call(
+    rt: &impl Print,
+    input: &[u8],
+    call: usize,
+    first: usize,
+    second: usize,
+) -> io::Result<()> {
     match call {
         0 => {
-            print_valuing(input, first);
-            print_splitting(input, second);
+            print_valuing(rt, input, first)?;
+            print_splitting(rt, input, second)
         }
-        1 => print_listing(input),
-        2 => print_search(input),
-        3 => print_certificates(input),
-        4 => print_book(input),
-        5 => print_both(input, first, second),
+        1 => print_listing(rt, input),
+        2 => print_search(rt, input),
+        3 => print_certificates(rt, input),
+        4 => print_book(rt, input),
+        5 => print_both(rt, input, first, second),
         _ => {
-            text(b"no call");
-            next_number(call as u64);
-            end_line();
+            text(rt, b"no call")?;
+            next_number(rt, call as u64)?;
+            end_line(rt)
         }
     }
 }

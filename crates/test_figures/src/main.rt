@@ -10,6 +10,8 @@ mod search;
 mod split;
 mod values;
 
-fn main() {
-    entries::print_entries();
+use std::io;
+
+fn main(rt: HostRuntime) -> io::Result<()> {
+    entries::print_entries(&rt, &mut rt.stdin())
 }

@@ -3,6 +3,7 @@ use crate::output::scenario_line;
 use crate::values::{print_rest, print_rows};
 use form::borrowings::BORROWINGS;
 use form::sub_balances::{PLACE_NUMBERS, PLACE_VALUES, SCENARIOS};
+use std::io;
 
 // The totals begin behind the numbers of all borrowings, and are two in each scenario; and the numbers of all.
 const TOTALS_START: usize = PLACE_NUMBERS * BORROWINGS;
@@ -10,23 +11,24 @@ const TOTALS_START: usize = PLACE_NUMBERS * BORROWINGS;
 const NUMBERS: usize = TOTALS_START + PLACE_VALUES;
 
 // On acceptance the 374 numbers; and how many of those past them, or on a refusal of all, are still 7.
-pub fn print_left(list: &[u64], is_accepted: bool) {
+pub fn print_left(rt: &impl Print, list: &[u64], is_accepted: bool) -> io::Result<()> {
     if is_accepted {
-        print_rows(b"borrowing", list, BORROWINGS);
-        print_totals(list);
-        print_rest(list, NUMBERS);
+        print_rows(rt, b"borrowing", list, BORROWINGS)?;
+        print_totals(rt, list)?;
+        print_rest(rt, list, NUMBERS)
     } else {
-        print_rest(list, 0);
+        print_rest(rt, list, 0)
     }
 }
 
 // The lower and the upper total of each scenario, behind its shift.
-fn print_totals(list: &[u64]) {
+fn print_totals(rt: &impl Print, list: &[u64]) -> io::Result<()> {
     for scenario in 0..SCENARIOS {
         let from = TOTALS_START + 2 * scenario;
         let end = from + 2;
         if end <= list.len() {
-            scenario_line(b"borrowings ", scenario as u64, &list[from..end]);
+            scenario_line(rt, b"borrowings ", scenario as u64, &list[from..end])?;
         }
     }
+    Ok(())
 }

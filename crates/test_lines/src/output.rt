@@ -1,69 +1,77 @@
 // Lines of text and numbers on standard output.
 use form::sub_balances::{SCENARIOS, TOTALS_START};
 use form_scenarios::Scenario;
-use libc::STDOUT_FILENO;
+use std::io;
 
 // A piece of text as it stands.
-pub fn text(s: &[u8]) {
-    io::write_all(STDOUT_FILENO, s);
+pub fn text(rt: &impl Print, s: &[u8]) -> io::Result<()> {
+    rt.write_all(s)
 }
 
 // A number in decimal.
-fn number(n: u64) {
-    io::print_decimal(STDOUT_FILENO, n);
+fn number(rt: &impl Print, n: u64) -> io::Result<()> {
+    rt.print(n)
 }
 
 // A space and a number.
-pub fn next_number(n: u64) {
-    text(b" ");
-    number(n);
+pub fn next_number(rt: &impl Print, n: u64) -> io::Result<()> {
+    text(rt, b" ")?;
+    number(rt, n)
 }
 
 // The shift of a scenario, 0 to 6, in hundredths of a percent.
-fn shift(scenario: u64) {
+fn shift(rt: &impl Print, scenario: u64) -> io::Result<()> {
     if scenario < 3 {
-        text(b"-");
-        number(100 * (3 - scenario));
+        text(rt, b"-")?;
+        number(rt, 100 * (3 - scenario))?;
     } else if scenario < Scenario::COUNT {
-        number(100 * (scenario - 3));
+        number(rt, 100 * (scenario - 3))?;
     }
+    Ok(())
 }
 
 // The four totals of each scenario, behind its shift, from the 568 numbers of a valued filing.
-pub(crate) fn scenario_lines(name: &[u8], numbers: &[u64]) {
+pub(crate) fn scenario_lines(rt: &impl Print, name: &[u8], numbers: &[u64]) -> io::Result<()> {
     if TOTALS_START <= numbers.len() {
-        total_lines(name, &numbers[TOTALS_START..]);
+        total_lines(rt, name, &numbers[TOTALS_START..])?;
     }
+    Ok(())
 }
 
 // The same from a list of totals, four for each scenario.
-pub fn total_lines(name: &[u8], totals: &[u64]) {
+pub fn total_lines(rt: &impl Print, name: &[u8], totals: &[u64]) -> io::Result<()> {
     for scenario in 0..SCENARIOS {
         let from = 4 * scenario;
         let end = from + 4;
         if end <= totals.len() {
-            scenario_line(name, scenario as u64, &totals[from..end]);
+            scenario_line(rt, name, scenario as u64, &totals[from..end])?;
         }
     }
+    Ok(())
 }
 
 // A line of a name, the shift of a scenario and numbers.
-pub(crate) fn scenario_line(name: &[u8], scenario: u64, numbers: &[u64]) {
-    text(name);
-    shift(scenario);
-    rest_of_line(numbers);
+pub(crate) fn scenario_line(
+    rt: &impl Print,
+    name: &[u8],
+    scenario: u64,
+    numbers: &[u64],
+) -> io::Result<()> {
+    text(rt, name)?;
+    shift(rt, scenario)?;
+    rest_of_line(rt, numbers)
 }
 
 // The numbers of a list, each behind a space, and the line's end.
-pub(crate) fn rest_of_line(list: &[u64]) {
+pub(crate) fn rest_of_line(rt: &impl Print, list: &[u64]) -> io::Result<()> {
     let mut i: usize = 0;
     while i < list.len() {
-        next_number(list[i]);
+        next_number(rt, list[i])?;
         i += 1;
     }
-    end_line();
+    end_line(rt)
 }
 
-pub fn end_line() {
-    text(b"\n");
+pub fn end_line(rt: &impl Print) -> io::Result<()> {
+    text(rt, b"\n")
 }

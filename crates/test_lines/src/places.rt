@@ -2,6 +2,7 @@
 use crate::output::{end_line, next_number, rest_of_line, text};
 use crate::verdicts::{count_if, print_counts};
 use form::sub_balances::{PLACE_VALUES, SUB_BALANCES, SubBalance};
+use std::io;
 
 pub const SEVENS: SubBalance = SubBalance {
     balance: 7,
@@ -12,17 +13,27 @@ pub const SEVENS: SubBalance = SubBalance {
 };
 
 // On acceptance the 36 places; and how many of those that were lent past them, or on a refusal of all that were lent, still hold 7s.
-pub fn print_left(list: [SubBalance; 40], lent: usize, is_accepted: bool) {
+pub fn print_left(
+    rt: &impl Print,
+    list: [SubBalance; 40],
+    lent: usize,
+    is_accepted: bool,
+) -> io::Result<()> {
     if is_accepted {
-        print_places(list);
-        print_rest(list, SUB_BALANCES, lent);
+        print_places(rt, list)?;
+        print_rest(rt, list, SUB_BALANCES, lent)
     } else {
-        print_rest(list, 0, lent);
+        print_rest(rt, list, 0, lent)
     }
 }
 
 // How many of the lent places are past the first `written`, and how many of them still hold 7s.
-fn print_rest(list: [SubBalance; 40], written: usize, lent: usize) {
+fn print_rest(
+    rt: &impl Print,
+    list: [SubBalance; 40],
+    written: usize,
+    lent: usize,
+) -> io::Result<()> {
     let mut rest = 0;
     let mut kept = 0;
     for i in 0..40usize {
@@ -30,7 +41,7 @@ fn print_rest(list: [SubBalance; 40], written: usize, lent: usize) {
         rest = count_if(rest, is_left);
         kept = count_if(kept, is_left & holds_sevens(list[i]));
     }
-    print_counts(rest, kept);
+    print_counts(rt, rest, kept)
 }
 
 fn holds_sevens(place: SubBalance) -> bool {
@@ -51,35 +62,37 @@ fn count_of(values: [u64; PLACE_VALUES], n: u64) -> u64 {
     count
 }
 
-fn print_places(list: [SubBalance; 40]) {
+fn print_places(rt: &impl Print, list: [SubBalance; 40]) -> io::Result<()> {
     for i in 0..36usize {
-        print_share(i as u64, list[i]);
+        print_share(rt, i as u64, list[i])?;
     }
+    Ok(())
 }
 
 // A place's balance, coupon, months and penalty, and how many of its values are 0, where one of the four is not.
-fn print_share(i: u64, place: SubBalance) {
+fn print_share(rt: &impl Print, i: u64, place: SubBalance) -> io::Result<()> {
     if place.balance | place.coupon | place.remaining_months | place.penalty != 0 {
-        print_numbers(b"share", i, place);
+        print_numbers(rt, b"share", i, place)?;
         let values = place.values;
-        next_number(count_of(values, 0));
-        end_line();
+        next_number(rt, count_of(values, 0))?;
+        end_line(rt)?;
     }
+    Ok(())
 }
 
 // A place of a book: its balance, coupon, months, penalty and values.
-pub fn print_held(place: SubBalance, i: u64) {
-    print_numbers(b"place", i, place);
+pub fn print_held(rt: &impl Print, place: SubBalance, i: u64) -> io::Result<()> {
+    print_numbers(rt, b"place", i, place)?;
     let values = place.values;
-    rest_of_line(&values);
+    rest_of_line(rt, &values)
 }
 
 // A word, a place's number, and its balance, coupon, months and penalty.
-fn print_numbers(word: &[u8], i: u64, place: SubBalance) {
-    text(word);
-    next_number(i);
-    next_number(place.balance);
-    next_number(place.coupon);
-    next_number(place.remaining_months);
-    next_number(place.penalty);
+fn print_numbers(rt: &impl Print, word: &[u8], i: u64, place: SubBalance) -> io::Result<()> {
+    text(rt, word)?;
+    next_number(rt, i)?;
+    next_number(rt, place.balance)?;
+    next_number(rt, place.coupon)?;
+    next_number(rt, place.remaining_months)?;
+    next_number(rt, place.penalty)
 }

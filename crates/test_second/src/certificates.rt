@@ -2,26 +2,28 @@
 use crate::arith::LARGEST;
 use crate::lines::{print_answer, print_line};
 use crate::sums::{cell_count, cell_value, sums_of};
+use std::io;
 
 // The answer, and the cells with their values; none on a refusal.
-pub fn print_certificates(s: &[u8]) {
+pub fn print_certificates(rt: &impl Print, s: &[u8]) -> io::Result<()> {
     let sums = sums_of(s);
-    print_answer(sums.number, sums.location);
+    print_answer(rt, sums.number, sums.location)?;
     if sums.number == 0 {
         let list = sums.list;
-        print_cells(&list);
+        print_cells(rt, &list)
     } else {
-        print_line(b"cells", &[0]);
+        print_line(rt, b"cells", &[0])
     }
 }
 
 // How many cells there are, and each.
-fn print_cells(sums: &[u64]) {
-    print_line(b"cells", &[cell_count(sums)]);
+fn print_cells(rt: &impl Print, sums: &[u64]) -> io::Result<()> {
+    print_line(rt, b"cells", &[cell_count(sums)])?;
     for cell in 601..646 {
         let value = cell_value(sums, cell);
         if value != LARGEST {
-            print_line(b"cell", &[cell, value]);
+            print_line(rt, b"cell", &[cell, value])?;
         }
     }
+    Ok(())
 }

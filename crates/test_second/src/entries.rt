@@ -1,27 +1,60 @@
 // The entries of standard input. An entry is the number of a call, the length of its first list, that
 // of its second list and that of its input, 4 bytes each, and the input.
+ghost use Rattle.std.specs.Prelude.{◌≤◌, length};
+
 use crate::bytes::number;
 use crate::calls::print_call;
 use crate::lines::print_line;
-use libc::STDIN_FILENO;
+use std::io;
+use std::io::Read;
 
 // Prints entry i; false where there is none.
-pub fn print_entry(survivals: &[u64], i: u64) -> bool {
+pub fn print_entry<R: Print, I: Read>(
+    rt: &R,
+    input: &mut I,
+    survivals: &[u64],
+    i: u64,
+) -> io::Result<bool> {
     let mut head = [0u8; 16];
-    if io::read_full(STDIN_FILENO, &mut head) < 16 {
-        return false;
+    if read_full(input, &mut head) < 16 {
+        return Ok(false);
     }
-    print_line(b"entry", &[i]);
+    print_line(rt, b"entry", &[i])?;
     let mut room = [0u8; 65537];
-    print_input(&mut room, survivals, &head);
-    true
+    print_input(rt, input, &mut room, survivals, &head)?;
+    Ok(true)
 }
 
 // Reads an input into the first bytes of the room, and prints what the call answers.
-fn print_input(room: &mut [u8], survivals: &[u64], head: &[u8]) {
+fn print_input<R: Print, I: Read>(
+    rt: &R,
+    input: &mut I,
+    room: &mut [u8],
+    survivals: &[u64],
+    head: &[u8],
+) -> io::Result<()> {
     let length = number(head, 0, 12, 4) as usize;
     if length <= room.len() {
-        let n = io::read_full(STDIN_FILENO, &mut room[..length]);
-        print_call(&room[..n], survivals, head);
+        let n = read_full(input, &mut room[..length]);
+        print_call(rt, &room[..n], survivals, head)?;
     }
+    Ok(())
+}
+
+// Reads until the buffer is full, the input ends or a read fails, and answers how many bytes are at
+// the buffer's front.
+fn read_full<I: Read>(input: &mut I, buf: &mut [u8]) -> usize
+    ensures { result ≤ length buf.new }
+{
+    let mut done = 0;
+    for _ in 0..u64::MAX {
+        if buf.len() <= done {
+            break;
+        }
+        match input.read(&mut buf[done..]) {
+            Ok(0) | Err(_) => break,
+            Ok(n) => done += n,
+        }
+    }
+    done
 }

@@ -1,28 +1,29 @@
 // Lines of text and numbers on standard output.
 use crate::cells::entry;
-use libc::STDOUT_FILENO;
+use std::io;
 
 // An answer: a refusal's number and its location, both 0 on acceptance.
-pub fn print_answer(number: u64, location: u64) {
-    print_line(b"answer", &[number, location]);
+pub fn print_answer(rt: &impl Print, number: u64, location: u64) -> io::Result<()> {
+    print_line(rt, b"answer", &[number, location])
 }
 
 // A line of a name and numbers.
-pub fn print_line(name: &[u8], numbers: &[u64]) {
-    print_numbers(name, numbers);
-    print(b"\n");
+pub fn print_line(rt: &impl Print, name: &[u8], numbers: &[u64]) -> io::Result<()> {
+    print_numbers(rt, name, numbers)?;
+    print(rt, b"\n")
 }
 
 // A name and numbers, each behind a space.
-pub fn print_numbers(name: &[u8], numbers: &[u64]) {
-    print(name);
+pub fn print_numbers(rt: &impl Print, name: &[u8], numbers: &[u64]) -> io::Result<()> {
+    print(rt, name)?;
     for k in 0..numbers.len() as u64 {
-        print(b" ");
-        io::print_decimal(STDOUT_FILENO, entry(numbers, k));
+        print(rt, b" ")?;
+        rt.print(entry(numbers, k))?;
     }
+    Ok(())
 }
 
 // A text as it is.
-pub fn print(text: &[u8]) {
-    io::write_all(STDOUT_FILENO, text);
+pub fn print(rt: &impl Print, text: &[u8]) -> io::Result<()> {
+    rt.write_all(text)
 }

@@ -31,13 +31,16 @@ mod lines;
 mod searches;
 
 use crate::arith::LARGEST;
+use std::io;
 
 // Prints what each entry's call answers.
-fn main() {
+fn main(rt: HostRuntime) -> io::Result<()> {
+    let mut input = rt.stdin();
     let survivals = survival::survivals();
     for i in 0..LARGEST {
-        if !entries::print_entry(&survivals, i) {
+        if !entries::print_entry(&rt, &mut input, &survivals, i)? {
             break;
         }
     }
+    Ok(())
 }

@@ -1,10 +1,12 @@
-// The lines of standard input. `step` says what the next byte makes of a line; `next_line` only reads the bytes and hands each on to it.
+// What a program reads, as of standard input: as many bytes as there is room for, or a line. `step` says what the next byte makes of a line; `next_line` only
+// reads the bytes and hands each on to it. A read that fails is the end of the input.
 #![tactic(auto)]
 
-ghost use Rattle.std.specs.Prelude.{◌≡◌, true, false};
+ghost use Rattle.std.specs.Prelude.{◌≡◌, ◌≤◌, true, false, length, take};
+ghost use Rattle.std.specs.Io.KnownBytes.{Consumes};
 ghost use Rattle.text_input.specs.Lines.{with_byte, step_of, LineRead};
 
-use libc::STDIN_FILENO;
+use std::io::Read;
 
 // What comes next of the input: a byte, or its end.
 #[derive(Clone, Copy)]
@@ -21,9 +23,27 @@ pub struct Reading {
     pub unread: bool,
 }
 
+// Reads until the lent bytes are full or the input ends, and answers how many were read to their front. Of an input whose bytes are known these are its next.
+pub fn read_full<R: Read>(input: &mut R, bytes: &mut [u8]) -> usize
+    ensures within { result ≤ length bytes.new }
+    ensures read { Consumes (R.remaining input.old) (R.remaining input.new) (take result bytes.new) }
+{
+    let mut done = 0;
+    for _ in 0..18446744073709551615u64 {
+        if bytes.len() <= done {
+            break;
+        }
+        match input.read(&mut bytes[done..]) {
+            Ok(0) | Err(_) => break,
+            Ok(n) => done += n,
+        }
+    }
+    done
+}
+
 // Reads the next line without its line feed; of a longer one than the lent bytes only those are kept. Nothing is read of it where the input is at its end.
-// What is left in the lent bytes and answered is the line of some bytes: no contract can say which were read.
-pub fn next_line(line: &mut [u8]) -> Reading
+// What is left in the lent bytes and answered is the line of some bytes: the contract does not say which were read.
+pub fn next_line<R: Read>(input: &mut R, line: &mut [u8]) -> Reading
     ensures { LineRead line.old result line.new }
 {
     let mut reading = Reading {
@@ -35,7 +55,7 @@ pub fn next_line(line: &mut [u8]) -> Reading
         if reading.complete {
             break;
         }
-        let next = next_input();
+        let next = next_input(input);
         reading = step(line, reading, next);
     }
     reading
@@ -43,7 +63,7 @@ pub fn next_line(line: &mut [u8]) -> Reading
 
 // A line after what comes next of the input. One that is complete stays as it is.
 fn step(line: &mut [u8], reading: Reading, next: Input) -> Reading
-    ensures { record { line = line.exit.now; reading = result } ≡ step_of (record { line = line.entry.now; reading = reading }) next }
+    ensures { record { line = line.new; reading = result } ≡ step_of (record { line = line.old; reading = reading }) next }
 {
     if reading.complete {
         return reading;
@@ -56,7 +76,7 @@ fn step(line: &mut [u8], reading: Reading, next: Input) -> Reading
 
 // A line after a byte: a line feed completes it, another byte is kept behind the others, where there is room.
 fn with_byte(line: &mut [u8], size: usize, byte: u8) -> Reading
-    ensures { record { line = line.exit.now; reading = result } ≡ with_byte line.entry.now size byte }
+    ensures { record { line = line.new; reading = result } ≡ with_byte line.old size byte }
 {
     if byte == 10 {
         return complete(size, false);
@@ -90,10 +110,10 @@ fn incomplete(size: usize) -> Reading
     }
 }
 
-// What comes next of standard input.
-fn next_input() -> Input {
+// What comes next of an input.
+fn next_input<R: Read>(input: &mut R) -> Input {
     let mut byte = [0u8; 1];
-    let n = io::read_full(STDIN_FILENO, &mut byte);
+    let n = read_full(input, &mut byte);
     if n == 0 {
         return Input::End;
     }
