@@ -1,8 +1,8 @@
 -- Powers of whole numbers: what one more in the base makes, moderate powers, the limit of accumulated yields. Assumes nothing.
 use Prim.Native.Nat.{ℕ, zero, suc, ◌+◌, ◌*◌, ◌-◌, ◌^◌, ◌≤◌, ◌<◌}
-use native.Mathlib.Nat.{le_refl, le_trans, le_of_lt, one-mul, pow-zero, pow-suc, one-le-pow, pow-le-pow_left, mul-le-mul, mul-le-mul_left, mul-le-mul_right, le_of_mul-le-mul_right}
+use native.Mathlib.Nat.{le_trans, le_of_lt, one-mul, pow-zero, pow-suc, one-le-pow, pow-le-pow_left, mul-le-mul_left, mul-le-mul_right, le_of_mul-le-mul_right}
 use native.Mathlib.Omega.{arith}
-use mathlib.Core.Path.{◌≡◌, ap, sym, ◌∙◌}
+use mathlib.Core.Path.{◌≡◌, ap, ◌∙◌}
 use mathlib.Core.Logic.{⊎_elim}
 use lib.Dec.{lit<, lit≤}
 use lib.Pow.{pow-add}

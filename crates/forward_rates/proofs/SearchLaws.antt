@@ -1,11 +1,10 @@
 -- The search between two growths: what it keeps, how each comparison narrows it, and how it ends. Assumes nothing.
-use Prim.Native.Nat.{ℕ, ◌+◌, ◌-◌, ◌/◌, ◌≤◌, ◌<◌}
+use Prim.Native.Nat.{ℕ, ◌+◌, ◌-◌, ◌≤◌, ◌<◌}
 use native.Mathlib.Nat.{le_refl}
 use native.Mathlib.Omega.{arith}
-use mathlib.Core.Path.{◌≡◌, refl, ◌∙◌}
-use Rattle.forward_rates.specs.declared.sides.Side.{Side}
+use mathlib.Core.Path.{◌≡◌}
 use Rattle.forward_rates.specs.declared.sides.Side.TheVariants.{Below, Above, Close}
-use Rattle.forward_rates.specs.Forwards.{Forward, AtMost, AtLeast, Enclosing, term_at}
+use Rattle.forward_rates.specs.Forwards.{Forward, AtMost, AtLeast, Enclosing}
 use Rattle.forward_rates.specs.Inner.Searches.{Bracket, Fit, Figured, Told}
 use Rattle.forward_rates.proofs.TermLaws.{between-fit, lower-at-most, upper-at-least}
 

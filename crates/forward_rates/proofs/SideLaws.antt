@@ -1,15 +1,15 @@
 -- What a comparison of figures tells: a growth below the true rate's, above it, or less than one from it. Assumes nothing.
-use Prim.Native.Nat.{ℕ, suc, ◌+◌, ◌*◌, ◌-◌, ◌^◌, ◌≤◌, ◌<◌}
-use native.Mathlib.Nat.{le_trans, le_of_lt, add_comm, mul-le-mul, mul-le-mul_left, mul-le-mul_right, le_of_mul-le-mul_right}
+use Prim.Native.Nat.{ℕ, ◌+◌, ◌*◌, ◌-◌, ◌^◌, ◌≤◌, ◌<◌}
+use native.Mathlib.Nat.{le_trans, mul-le-mul, mul-le-mul_left, mul-le-mul_right, le_of_mul-le-mul_right}
 use native.Mathlib.Omega.{arith}
-use mathlib.Core.Path.{◌≡◌, ap, sym, ◌∙◌}
-use lib.Dec.{lit<, lit≤}
+use mathlib.Core.Path.{◌≡◌, ap}
+use lib.Dec.{lit<}
 use lib.Pow.{pow-add}
 use Rattle.form.specs.Limits.{sheet_months}
 use Rattle.pricing.specs.Scales.{rate_scale}
 use Rattle.forward_rates.specs.Forwards.{Forward, AtMost, AtLeast, growth_limit}
-use Rattle.forward_rates.specs.Inner.Figures.{unit, span, Figure}
-use Rattle.forward_rates.specs.Inner.Searches.{Figured, yield_loss, term_loss, margin}
+use Rattle.forward_rates.specs.Inner.Figures.{unit, Figure}
+use Rattle.forward_rates.specs.Inner.Searches.{Figured, term_loss, margin}
 use Rattle.forward_rates.proofs.PowerLaws.{one_more}
 use Rattle.forward_rates.proofs.MarginLaws.{kept, Kept, left_le, more-ge, above-ge, below-ge}
 

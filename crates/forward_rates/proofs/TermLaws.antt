@@ -1,14 +1,14 @@
 -- The three terms, and growths between which every forward over a term lies. Assumes nothing.
 use Prim.Native.Nat.{ℕ, zero, suc, ◌+◌, ◌*◌, ◌^◌, ◌≤◌, ◌<◌}
-use native.Mathlib.Nat.{pow-le-pow_left, mul-le-mul, mul-le-mul_left, le_trans, le_of_lt}
+use native.Mathlib.Nat.{pow-le-pow_left, mul-le-mul, mul-le-mul_left, le_trans}
 use native.Mathlib.Omega.{arith}
-use mathlib.Core.Path.{◌≡◌, refl, sym, ap}
+use mathlib.Core.Path.{◌≡◌, refl}
 use lib.Dec.{lit<, lit≤, T, leb, ltb, leb→le, ltb→lt}
 use lib.Pow.{pow-add}
 use Rattle.form.specs.Limits.{sheet_months}
 use Rattle.pricing.specs.Scales.{rate_scale}
 use Rattle.forward_rates.specs.Forwards.{Forward, AtMost, AtLeast, term_at, growth_limit}
-use Rattle.forward_rates.specs.Inner.Figures.{span, Moderate}
+use Rattle.forward_rates.specs.Inner.Figures.{span}
 use Rattle.forward_rates.specs.Inner.Searches.{Bracket, Fit, Figured, yield_limit}
 use Rattle.forward_rates.proofs.PowerLaws.{yield-limit}
 

@@ -1,16 +1,15 @@
 -- The three ways out of the forwards' call keep the promise. Assumes nothing.
 use Prim.Native.Nat.{ℕ, suc, ◌-◌, ◌≤◌, ◌<◌}
-use mathlib.Core.Path.{◌≡◌, refl, sym, ap, subst, ◌∙◌}
+use mathlib.Core.Path.{◌≡◌, refl, ap, subst, ◌∙◌}
 use mathlib.Core.List.{List}
 use native.Mathlib.Omega.{arith}
 use lib.IntN.{ℤ}
 use lib.ListN.{length}
-use Rattle.form.specs.Limits.{rate_limit}
 use Rattle.form.specs.Shift.{scenario_count}
 use Rattle.answers.specs.declared.Answer.{Answer}
 use Rattle.answers.specs.declared.Answer.TheVariants.{ListTooShort}
 use Rattle.answers.specs.Answers.{number_of, verdict_of}
-use Rattle.answers.specs.Verdict.{Verdict, accepted, refused}
+use Rattle.answers.specs.Verdict.{accepted, refused}
 use Rattle.answers.proofs.VerdictLaws.{number-of, list-short, list-long}
 use Rattle.answers.proofs.AnswerLaws.{accepted-answer}
 use Rattle.filing_contents.specs.Contents.{Contents, cd_yield}
@@ -18,7 +17,7 @@ use Rattle.filing_contents.specs.Valid.{Valid}
 use Rattle.filing_decode.specs.Contents.{contents_of}
 use Rattle.filing.specs.Verdict.{filing_verdict}
 use Rattle.price_factors.specs.Inner.Factors.{WithinRates, sheet_yield}
-use Rattle.forward_sheet.specs.Sheet.{yield_growth, scenario_pairs, forward_count, HoldsScenario, HoldsForwards}
+use Rattle.forward_sheet.specs.Sheet.{yield_growth, forward_count, HoldsForwards}
 use Rattle.forward_sheet.specs.Promise.{verdict_on, ForwardsOf}
 use Rattle.forward_sheet.specs.Inner.Runs.{Changed, sheet_growth}
 use Rattle.forward_sheet.proofs.ChangeLaws.{changed-rest}

@@ -1,15 +1,14 @@
 -- The figures of a scenario's accumulated yields, month by month, and of the two of a forward. Assumes nothing.
 use Prim.Native.Nat.{ℕ, suc, ◌+◌, ◌-◌, ◌≤◌, ◌<◌}
 use native.Mathlib.Omega.{arith}
-use mathlib.Core.Path.{◌≡◌, refl, sym, ap, ◌∙◌}
+use mathlib.Core.Path.{◌≡◌, refl}
 use mathlib.Core.List.{List}
 use lib.Dec.{lit≤}
-use lib.ListN.{length, get_or, replicate}
+use lib.ListN.{get_or, replicate}
 use Rattle.lists.proofs.FillLaws.{FilledBy}
 use Rattle.form.specs.Limits.{sheet_months}
-use Rattle.form.specs.Shift.{shifted_rate, shifted_limit, scenario_count}
+use Rattle.form.specs.Shift.{scenario_count}
 use Rattle.form.proofs.ShiftLaws.{shifted-rate-le}
-use Rattle.pricing.specs.Scales.{rate_scale}
 use Rattle.price_factors.specs.Inner.Factors.{WithinRates, sheet_yield}
 use Rattle.forward_rates.specs.Forwards.{term_at}
 use Rattle.forward_rates.specs.Inner.Figures.{Figure, unit, figure_limit}

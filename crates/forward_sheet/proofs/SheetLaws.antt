@@ -3,12 +3,11 @@ use Prim.Native.Nat.{ℕ, zero, suc, ◌+◌, ◌*◌, ◌≤◌, ◌<◌}
 use native.Mathlib.Nat.{not-suc-le-zero, le_refl}
 use native.Mathlib.Numerals.{add-one}
 use native.Mathlib.Omega.{arith}
-use mathlib.Core.Path.{◌≡◌, refl, sym, ap, ◌∙◌}
+use mathlib.Core.Path.{◌≡◌, refl}
 use mathlib.Core.Logic.{⊎_elim}
 use mathlib.Core.List.{List}
 use lib.IntN.{ℤ}
 use Rattle.lists.proofs.OrderLaws.{lt-or-le}
-use Rattle.form.specs.Shift.{scenario_count}
 use Rattle.forward_rates.specs.Forwards.{term_at}
 use Rattle.forward_sheet.specs.Sheet.{term_count, pairs_over, pairs_before, scenario_pairs, HoldsTerm, HoldsScenario}
 use Rattle.forward_sheet.specs.Inner.Runs.{Changed}

@@ -2,7 +2,7 @@
 use Prim.Native.Nat.{ℕ, suc, ◌-◌, ◌≤◌, ◌<◌}
 use native.Mathlib.Nat.{le_refl, le_of_lt, lt_irrefl, not-suc-le-zero, eq-or-lt_of_le, le_of_suc-le-suc}
 use native.Mathlib.Omega.{arith}
-use mathlib.Core.Path.{◌≡◌, refl, sym, ap, ◌∙◌}
+use mathlib.Core.Path.{◌≡◌, refl, sym}
 use mathlib.Core.Logic.{⊎_elim}
 use mathlib.Core.List.{List}
 use lib.ListN.{length}
@@ -13,7 +13,7 @@ use Rattle.quote_prices.specs.PriceLines.{price_in}
 use Rattle.quote_prices.specs.Interpolation.{price_between}
 use Rattle.quote_prices.specs.Neighbours.{BetweenPrices}
 use Rattle.quote_prices.proofs.BetweenLaws.{price-between}
-use Rattle.quote_lines.specs.declared.Reply.TheVariants.{Listed, Between, Outside}
+use Rattle.quote_lines.specs.declared.Reply.TheVariants.{Outside}
 use Rattle.quote_lines.specs.Lines.{line_at, months_at}
 use Rattle.quote_lines.specs.Faults.{lines_verdict}
 use Rattle.quote_lines.specs.Replies.{reply_of}

@@ -1,18 +1,15 @@
 -- Closed cases of the definitions (02:CR 12), so that a wrong clause breaks one: the lines of two lists, 21 in its order, and the replies. Assumes nothing.
-use Prim.Native.Nat.{ℕ, ◌+◌, ◌*◌}
+use Prim.Native.Nat.{ℕ}
 use mathlib.Core.Path.{◌≡◌, refl}
-use mathlib.Core.Bool.{Bool, true, false, cond}
 use mathlib.Core.List.{List, [], ◌∷◌, ◌++◌, map}
-use lib.Dec.{eqb}
-use lib.Ieee.{Float, nan, binary64, add, sub, mul, div, lt, le, of_int, of_bits, to_bits}
+use lib.Ieee.{nan, binary64, add, sub, mul, div, lt, le, of_int, of_bits}
 use lib.ListN.{length, replicate}
 use Rattle.lists.specs.Ranges.{first_from}
 use Rattle.lists.specs.Tables.{table, table_from, any_below}
-use Rattle.answers.specs.Verdict.{Verdict, accepted, refused, refused_if, first_refusal, first_of}
+use Rattle.answers.specs.Verdict.{accepted, refused, refused_if, first_refusal, first_of}
 use Rattle.quote_prices.specs.declared.PriceLine.{PriceLine}
 use Rattle.quote_prices.specs.PriceLines.{whole, faulty_price, faulty_prices}
 use Rattle.quote_prices.specs.Interpolation.{weight, along, price_between}
-use Rattle.quote_lines.specs.declared.Reply.{Reply}
 use Rattle.quote_lines.specs.declared.Reply.TheVariants.{Listed, Between, Outside}
 use Rattle.quote_lines.specs.Lines.{line_at, line_count, line_in, lines_of}
 use Rattle.quote_lines.specs.Faults.{not_rising, faulty_line, line_verdict, lines_verdict}

@@ -1,9 +1,9 @@
 -- The promise of a query: every price that accepted lines reply is sound, and the record of the promise. Assumes nothing.
-use Prim.Native.Nat.{ℕ, zero, suc, ◌+◌, ◌-◌, ◌*◌, ◌^◌, ◌≤◌, ◌<◌}
+use Prim.Native.Nat.{ℕ, zero, suc, ◌+◌, ◌-◌, ◌*◌, ◌^◌, ◌<◌}
 use native.Mathlib.Omega.{arith}
 use mathlib.Core.Path.{◌≡◌, refl, sym, ap, ◌∙◌, subst}
 use mathlib.Core.Logic.{⊎_elim}
-use mathlib.Core.Bool.{Bool, true, false, not}
+use mathlib.Core.Bool.{Bool, true, false}
 use mathlib.Core.List.{List}
 use borrow.Author.Tests.{eq-eqb, ne_eqb, eqb-true, eqb-false}
 use lib.Dec.{T, eqb}
@@ -20,12 +20,12 @@ use Rattle.quote_prices.specs.declared.PriceLine.{PriceLine}
 use Rattle.quote_prices.specs.PriceLines.{price_in, faulty_price}
 use Rattle.quote_lines.specs.declared.Reply.{Reply}
 use Rattle.quote_lines.specs.declared.Reply.TheVariants.{Listed, Between, Outside}
-use Rattle.quote_lines.specs.Lines.{line_at, months_at, line_count, line_in, lines_of}
+use Rattle.quote_lines.specs.Lines.{line_at, months_at, line_in, lines_of}
 use Rattle.quote_lines.specs.Faults.{lines_verdict}
 use Rattle.quote_lines.specs.Replies.{reached_line, reply_of}
 use Rattle.quote_lines.specs.Accepted.{InFormat}
 use Rattle.quote_lines.specs.Promise.{sound_reply, QuotedAs}
-use Rattle.quote_lines.proofs.LineLaws.{lines-length, line-is, month-within}
+use Rattle.quote_lines.proofs.LineLaws.{lines-length, line-is}
 use Rattle.quote_lines.proofs.FaultLaws.{accepted-prices}
 use Rattle.quote_lines.proofs.ReplyLaws.{Found, reply-no-scenario, reply-past, reply-listed, month-until, reply-before, month-since, reply-between}
 use Rattle.quote_lines.proofs.AcceptedLaws.{neighbour-prices}

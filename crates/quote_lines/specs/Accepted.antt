@@ -1,5 +1,5 @@
 -- What accepted lines reply (02:CR 12), case by case: each listed month, each month between two lines, and every other month. Definitions only.
-use Rattle.std.specs.Prelude.{ℕ, suc, ◌-◌, ◌≤◌, ◌<◌, ◌≡◌, List, T, length}
+use Rattle.std.specs.Prelude.{ℕ, suc, ◌≤◌, ◌<◌, ◌≡◌, List, T, length}
 use Rattle.std.specs.Float.{binary64}
 use Rattle.std.specs.Float.Ieee.{fits}
 use Rattle.form.specs.Shift.{scenario_count}

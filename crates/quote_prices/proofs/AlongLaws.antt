@@ -1,8 +1,8 @@
 -- p1 + (p2 - p1) × w, each operation rounded once, for a weight short of 1: it stays within p1 and p2. Assumes nothing.
 use Prim.Native.Nat.{ℕ, ◌+◌, ◌-◌, ◌*◌, ◌^◌, ◌≤◌, ◌<◌}
-use native.Mathlib.Nat.{le_of_lt, lt_of_le_of_lt, mul-pos, mul-le-mul_right}
+use native.Mathlib.Nat.{lt_of_le_of_lt, mul-le-mul_right}
 use native.Mathlib.Omega.{arith}
-use mathlib.Core.Path.{◌≡◌, refl, sym, ap, ◌∙◌, subst}
+use mathlib.Core.Path.{◌≡◌, refl, ap, ◌∙◌}
 use mathlib.Core.Bool.{Bool, true, false}
 use lib.Pow.{pow_pos}
 use lib.Ieee.{Float, Format, prec, low, unlike, round, add, sub, mul}

@@ -1,15 +1,15 @@
 -- The price between two lines is a price, and within those of its neighbours. Assumes nothing.
-use Prim.Native.Nat.{ℕ, suc, ◌+◌, ◌-◌, ◌*◌, ◌^◌, ◌≤◌, ◌<◌, zero-le}
+use Prim.Native.Nat.{ℕ, suc, ◌+◌, ◌-◌, ◌*◌, ◌^◌, ◌≤◌, ◌<◌}
 use native.Mathlib.Nat.{lt_of_le_of_lt, lt_of_lt_of_le, le-add_right, mul_comm, le_of_lt, mul-le-mul_right, mul-lt-mul_of_pos_right, mul-one, mul-pos, le_of_mul-le-mul_right}
 use native.Mathlib.Omega.{arith}
 use mathlib.Core.Path.{◌≡◌, refl, sym, ap, ◌∙◌, subst}
 use mathlib.Core.Logic.{⊎_elim}
-use mathlib.Core.Bool.{Bool, true, false, not, ◌&&◌}
+use mathlib.Core.Bool.{Bool, true, false}
 use borrow.Author.Tests.{not-false}
-use lib.Dec.{T, ltb, lit<, lit≤, ltb→lt, lt→ltb}
+use lib.Dec.{T, lit<, lit≤, ltb→lt, lt→ltb}
 use lib.IntN.{pos}
 use lib.Pow.{pow-add, pow_pos, pow_mono}
-use lib.Ieee.{Float, nan, inf, fin, Format, binary32, binary64, prec, emax, low, up, down, round, lt, le, of_int, fits}
+use lib.Ieee.{Float, nan, inf, fin, Format, binary32, binary64, prec, emax, low, up, down, lt, le, of_int, fits}
 use lib.Ieee.Back.{round_whole}
 use lib.Ieee.Bits.{is_true}
 use lib.Ieee.Exact.{HasValue}
@@ -26,7 +26,7 @@ use Rattle.quote_prices.specs.Neighbours.{BetweenPrices}
 use Rattle.quote_prices.proofs.RoundingLaws.{Units, Held, le-values, round-le, round-units}
 use Rattle.quote_prices.proofs.OperationLaws.{units_of, fits-units, div-whole}
 use Rattle.quote_prices.proofs.StepLaws.{Short}
-use Rattle.quote_prices.proofs.AlongLaws.{Within, along-rising, along-falling}
+use Rattle.quote_prices.proofs.AlongLaws.{along-rising, along-falling}
 
 -- ---- the weight k / n, for k < n ≤ 65,535: at most 65,534 / 65,535, which is less than 1 - 1 / 2^17
 module _ (k n : ℕ) (less : k < n) (most : n ≤ 65535) where

@@ -1,16 +1,16 @@
 -- Floats as numbers of units: what a format holds, and each operation as one rounding of whole numbers. Nothing here is about prices. Assumes nothing.
 use Prim.Native.Nat.{ℕ, zero, suc, ◌+◌, ◌-◌, ◌*◌, ◌%◌, ◌^◌, ◌≤◌, ◌<◌}
-use native.Mathlib.Nat.{mul-pos, le_of_mul-le-mul_right, lt_of_mul-lt-mul_right, mul-lt-mul_of_pos_right, mul-le-mul_right, mul-sub, mul_comm, mul-mul-mul_comm, zero-mul, lt_of_not-le, not-le_of_lt, le_of_suc-le-suc, lt_irrefl, eq_of_mul-eq-mul_right}
+use native.Mathlib.Nat.{mul-pos, lt_of_mul-lt-mul_right, mul-lt-mul_of_pos_right, mul-sub, mul_comm, mul-mul-mul_comm, zero-mul, lt_of_not-le, not-le_of_lt, le_of_suc-le-suc, lt_irrefl}
 use native.Mathlib.Omega.{arith}
-use mathlib.Core.Path.{◌≡◌, refl, sym, ap, ◌∙◌, subst}
-use mathlib.Core.Bool.{Bool, true, false, cond, not, ◌&&◌, beq}
+use mathlib.Core.Path.{◌≡◌, refl, sym, ap, ◌∙◌}
+use mathlib.Core.Bool.{Bool, true, false, not, ◌&&◌}
 use borrow.Author.Tests.{lt-ltb, le-ltb, ne_eqb}
 use lib.Dec.{T, ltb, leb, eqb, leb→le, ltb→lt}
 use lib.Pow.{pow-add, pow_pos, pow-lt}
 use lib.IntN.{ℤ, pos, negsuc}
 use lib.Ieee.{Float, nan, inf, fin, Format, prec, emax, low, up, down, unlike, round, sum, add, sub, neg, mul, div, fits}
 use lib.Ieee.Exact.{HasValue}
-use lib.Ieee.Fits.{up_pos, down_pos, and_l, and_r}
+use lib.Ieee.Fits.{down_pos}
 use lib.Ieee.Scale.{overflow, round_same}
 use lib.Ieee.Positive.{first_pos}
 use Rattle.lists.proofs.OrderLaws.{leb-iff}

@@ -3,10 +3,9 @@
 use Prim.Native.Nat.{ℕ}
 use mathlib.Core.Path.{◌≡◌, refl}
 use mathlib.Core.Bool.{Bool, true, false}
-use mathlib.Core.List.{List, [], ◌∷◌, map}
+use mathlib.Core.List.{[], ◌∷◌, map}
 use lib.Ieee.{binary64, add, sub, mul, div, lt, le, of_int, of_bits, to_bits}
-use Rattle.lists.specs.Tables.{table, table_from, any_below}
-use Rattle.form.specs.Shift.{scenario_count}
+use Rattle.lists.specs.Tables.{any_below}
 use Rattle.quote_prices.specs.declared.PriceLine.{PriceLine}
 use Rattle.quote_prices.specs.PriceLines.{faulty_price, faulty_prices}
 use Rattle.quote_prices.specs.Interpolation.{weight, along, price_between}

@@ -1,5 +1,5 @@
 -- The two tests of a price, as the code makes them: 0 and 1,000 by their bit patterns. Assumes nothing.
-use mathlib.Core.Path.{◌≡◌, refl, sym}
+use mathlib.Core.Path.{◌≡◌, refl}
 use mathlib.Core.Bool.{true, false, not}
 use lib.Ieee.{Float, binary64, lt, le, of_int, of_bits}
 use Rattle.quote_prices.specs.PriceLines.{whole, faulty_price}

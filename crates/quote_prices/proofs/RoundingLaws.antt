@@ -1,9 +1,9 @@
 -- Floats that are not negative, counted in units of their format's smallest value: a fraction rounds to no more units than any float above it has, and to
 -- no fewer than any float below it. Nothing here is about prices. Assumes nothing.
 use Prim.Native.Nat.{ℕ, zero, suc, ◌+◌, ◌*◌, ◌^◌, ◌≤◌, ◌<◌, zero-le}
-use native.Mathlib.Nat.{le_of_mul-le-mul_right, zero-mul, mul-le-mul_right, mul_right_comm, le_trans, le_of_eq}
+use native.Mathlib.Nat.{le_of_mul-le-mul_right, zero-mul}
 use native.Mathlib.Omega.{arith}
-use mathlib.Core.Path.{◌≡◌, refl, sym, ap, subst}
+use mathlib.Core.Path.{◌≡◌, refl, sym, ap}
 use mathlib.Core.Logic.{◌⊎◌, inl, inr}
 use mathlib.Core.Bool.{Bool, true, false, cond}
 use lib.Dec.{T, ltb}

@@ -1,12 +1,11 @@
 -- A listed month is printed with the eight bytes of its line's price, bit for bit. Assumes nothing.
 use Prim.Native.Nat.{ℕ, ◌+◌, ◌*◌, ◌/◌, ◌<◌}
 use native.Mathlib.Omega.{arith}
-use mathlib.Core.Path.{◌≡◌, refl, sym, ap, ◌∙◌, subst}
+use mathlib.Core.Path.{◌≡◌, ap, ◌∙◌}
 use mathlib.Core.Bool.{false}
 use mathlib.Core.List.{List, [], ◌∷◌, ◌++◌}
 use borrow.Author.Tests.{eq-eqb}
-use lib.Dec.{T}
-use lib.Ieee.{nan, binary64, fits, to_bits}
+use lib.Ieee.{nan, binary64, to_bits}
 use lib.Ieee.Bits.{of_bits-fits, to_bits-of_bits}
 use lib.ListN.{length}
 use Rattle.lists.proofs.TableLaws.{table-length, table-get_or}
@@ -17,7 +16,6 @@ use Rattle.quote_prices.specs.PriceLines as line
 use Rattle.quote_prices.specs.PriceLines.{faulty_price}
 use Rattle.quote_lines.specs.Lines.{line_at, months_at}
 use Rattle.quote_lines.specs.Faults.{lines_verdict}
-use Rattle.quote_lines.specs.Replies.{reply_of}
 use Rattle.quote_lines.specs.Accepted.{InFormat}
 use Rattle.quote_lines.proofs.FaultLaws.{accepted-prices}
 use Rattle.quote_lines.proofs.AcceptedLaws.{accepted-replies}

@@ -2,13 +2,11 @@
 -- 101, 102, .., 107 as their prices. Assumes nothing.
 use Prim.Native.Nat.{ℕ}
 use mathlib.Core.Path.{◌≡◌, refl}
-use mathlib.Core.Bool.{cond}
 use mathlib.Core.List.{List, [], ◌∷◌, ◌++◌}
-use lib.Dec.{eqb}
 use lib.Ieee.{add, sub, mul, div, lt, le, of_int, of_bits, to_bits}
 use lib.ListN.{length, take}
 use Rattle.lists.specs.Ranges.{first_from}
-use Rattle.lists.specs.Tables.{table, table_from, any_below}
+use Rattle.lists.specs.Tables.{table_from, any_below}
 use Rattle.record_fields.specs.Bytes.{number_at}
 use Rattle.answers.specs.Verdict.{accepted, refused, refused_if, first_refusal, first_of}
 use Rattle.quote_prices.specs.PriceLines.{faulty_price, faulty_prices}

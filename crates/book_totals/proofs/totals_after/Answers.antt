@@ -1,10 +1,9 @@
 -- `totals_after` meets its contract. The loop's invariant: the totals passed are moved. Assumes nothing.
-use Prim.Native.Nat.{◌-◌}
 use mathlib.Core.Path.{◌≡◌}
 use native.Mathlib.Omega.{arith}
 use Rattle.lists.proofs.FillLaws.{fill_none, fill_more, fill-all}
 use Rattle.form.specs.Counts.{total_count}
-use Rattle.book_totals.specs.KeptTotals.{total_after, totals_after}
+use Rattle.book_totals.specs.KeptTotals.{totals_after}
 use Rattle.book_totals.proofs.totals_after.Goals as goal
 
 pub loop-i-init : goal.loop-i-init

@@ -1,5 +1,5 @@
 -- `price_of` meets its contract. The loop's invariant: the products of the months so far are summed. Assumes nothing.
-use Prim.Native.Nat.{◌+◌, ◌-◌, ◌≤◌, zero-le}
+use Prim.Native.Nat.{◌+◌, ◌≤◌, zero-le}
 use native.Mathlib.Omega.{arith}
 use native.Mathlib.Nat.{le_trans, le_antisymm}
 use mathlib.Core.Path.{◌≡◌, refl, ap, ◌∙◌}

@@ -1,8 +1,7 @@
 -- `cells_of` meets its contract. The loop's invariant: the cells before a number are listed. Assumes nothing.
-use Prim.Native.Nat.{◌-◌, ◌<◌}
+use Prim.Native.Nat.{◌<◌}
 use native.Mathlib.Omega.{arith}
 use mathlib.Core.Path.{◌≡◌, ◌∙◌}
-use mathlib.Core.Logic.{⊎_elim}
 use mathlib.Core.Bool.{◌&&◌}
 use Rattle.certificate_cells.specs.Cells.{cell_value}
 use Rattle.certificate_cells.specs.Inner.Listing.{accepted_cells}
@@ -56,11 +55,11 @@ loop-cell-preserved c =
     let at = c.loop-cell in
     let least = c.loop-cell-test.true in
     elim c.if-is_filled-is_present.branch [
-      then-is_filled-is_present w ↦ rw (w.cells-is, w.count-is)
-      (listing-present t at.cells at.count at.cell at.invariant least _ (rw (w.value_of.ensures, c.form_cell-e.ensures))
-      (tested ∙ w.if-is_filled-is_present.true))
+      | then-is_filled-is_present w ↦ rw (w.cells-is, w.count-is)
+          (listing-present t at.cells at.count at.cell at.invariant least _ (rw (w.value_of.ensures, c.form_cell-e.ensures))
+          (tested ∙ w.if-is_filled-is_present.true))
       | else-is_filled-is_present w ↦ rw (w.cells-is, w.count-is)
-      (listing-absent t at.cells at.count at.cell at.invariant least (tested ∙ w.if-is_filled-is_present.false))
+          (listing-absent t at.cells at.count at.cell at.invariant least (tested ∙ w.if-is_filled-is_present.false))
     ]
 
 pub returns : goal.returns

@@ -1,6 +1,5 @@
 -- `check_months` meets its contract. The loop's invariant: the first i positions pass, and the rest of them gives the verdict.
 -- Assumes nothing.
-use Prim.Native.Nat.{◌-◌}
 use mathlib.Core.Path.{◌≡◌, sym, ap, ◌∙◌}
 use mathlib.Core.Bool.{true}
 use Rattle.form.specs.declared.Position.{Position}

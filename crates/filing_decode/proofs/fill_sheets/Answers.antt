@@ -5,7 +5,6 @@ use mathlib.Core.Path.{◌≡◌, ap, ◌∙◌}
 use native.Mathlib.Omega.{arith}
 use lib.Dec.{lit<}
 use lib.ListN.{get_or}
-use Rattle.lists.specs.Runs.{written}
 use Rattle.record_kinds.specs.Kinds.{kind_count, yields_kind, flat_rates_kind, tiers_kind, rate_path_kind, libor_kind, sheet_of, sheet_kinds, sheet_kind}
 use Rattle.filing_decode.specs.Contents.{sheet_offset, contents_of}
 use Rattle.filing_decode.proofs.ContentsLaws.{sheet-noted, yields-filled, rates-filled, libor-filled}

@@ -1,5 +1,5 @@
 -- `shifted_rates` meets its contract: the scenarios before i are filled. Assumes nothing.
-use Prim.Native.Nat.{ℕ, ◌-◌}
+use Prim.Native.Nat.{ℕ}
 use mathlib.Core.Path.{◌≡◌, ap, ◌∙◌}
 use native.Mathlib.Omega.{arith}
 use Rattle.lists.proofs.FillLaws.{fill_none, fill_more, fill-all}

@@ -1,5 +1,4 @@
 -- `forward` meets its contract: the search keeps the true rate's growth between its ends. Assumes nothing.
-use Prim.Native.Nat.{◌-◌}
 use mathlib.Core.Path.{sym, ◌∙◌}
 use native.Mathlib.Omega.{arith}
 use Rattle.forward_rates.proofs.TermLaws.{term-some, term-within}

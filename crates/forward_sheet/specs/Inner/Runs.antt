@@ -1,5 +1,5 @@
 -- What a run of numbers written into a list leaves, and the figures of a scenario's accumulated yields. Definitions only.
-use Rattle.std.specs.Prelude.{ℕ, suc, ◌+◌, ◌≤◌, ◌<◌, ◌≡◌, ◌⊎◌, List, ℤ, pos, length, get_or}
+use Rattle.std.specs.Prelude.{ℕ, ◌+◌, ◌≤◌, ◌<◌, ◌≡◌, List, ℤ, pos, length, get_or}
 use Rattle.form.specs.Limits.{sheet_months}
 use Rattle.pricing.specs.Scales.{rate_scale}
 use Rattle.price_factors.specs.Inner.Factors.{sheet_yield}

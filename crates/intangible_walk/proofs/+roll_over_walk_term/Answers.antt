@@ -6,7 +6,7 @@ use native.Mathlib.Omega.{arith}
 use native.Mathlib.Nat.{le_refl}
 use Rattle.intangible.specs.RollingTerms.{last_month}
 use Rattle.intangible_months.specs.Inner.Lent.{lent_terms}
-use Rattle.intangible_walk.proofs.WalkLaws.{Inside, term-small, month-within, left_le, survival-le, early-month, early-on, last-is, rolling-month, rolling-on}
+use Rattle.intangible_walk.proofs.WalkLaws.{term-small, month-within, left_le, survival-le, early-month, early-on, last-is, rolling-month, rolling-on}
 use Rattle.intangible_walk.proofs.+roll_over_walk_term.Goals as goal
 
 pub roll_over-rolled-next-requires : goal.roll_over-rolled-next-requires

@@ -1,4 +1,4 @@
-use Prim.Native.Nat.{◌+◌, ◌-◌, ◌*◌, ◌≤◌}
+use Prim.Native.Nat.{◌+◌, ◌*◌, ◌≤◌}
 use native.Mathlib.Omega.{arith}
 use mathlib.Core.Path.{◌≡◌, refl}
 use borrow.Author.Rules.{rules}
@@ -8,8 +8,6 @@ use Rattle.lists.proofs.FillLaws.{fill_none, fill_more, fill-all}
 use Rattle.form.specs.Shift.{scenario_count}
 use Rattle.quote_lines.specs.Lines.{line_in}
 use Rattle.quote_lines.proofs.LineLaws.{month-within, prices-within}
-use Rattle.quote_lines.proofs.line_at.Reads as reads
-use Rattle.quote_lines.proofs.line_at.Lts as lts
 use Rattle.quote_lines.proofs.line_at.Goals as goal
 
 -- src/lib.rt:64:17

@@ -3,8 +3,6 @@ use lib.Ieee.{nan}
 use lib.ListN.{get_or}
 use Rattle.lists.proofs.FillLaws.{Filled}
 use Rattle.form.specs.Shift.{scenario_count}
-use Rattle.quote_lines.proofs.line_at.Reads as reads
-use Rattle.quote_lines.proofs.line_at.Lts as lts
 use Rattle.quote_lines.proofs.line_at.Given as goal
 
 abbrev pub invariant-loop-k : goal.invariant-loop-k

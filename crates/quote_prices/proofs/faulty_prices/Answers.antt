@@ -1,12 +1,10 @@
 -- `faulty_prices` meets its contract: none of the prices before the loop's scenario is faulty. Assumes nothing.
-use Prim.Native.Nat.{◌-◌}
 use native.Mathlib.Omega.{arith}
 use mathlib.Core.Path.{◌≡◌, refl, sym, ◌∙◌}
-use mathlib.Core.Bool.{false}
 use Rattle.lists.specs.Tables.{any_below}
 use Rattle.lists.proofs.TestLaws.{any_none, any_here}
 use Rattle.form.specs.Shift.{scenario_count}
-use Rattle.quote_prices.specs.PriceLines.{faulty_price, faulty_prices}
+use Rattle.quote_prices.specs.PriceLines.{faulty_prices}
 use Rattle.quote_prices.proofs.faulty_prices.Goals as goal
 
 pub loop-scenario-init : goal.loop-scenario-init

@@ -4,7 +4,6 @@ use Prim.Native.Nat.{◌-◌, ◌≤◌}
 use mathlib.Core.Path.{◌≡◌}
 use mathlib.Core.Bool.{false}
 use Rattle.record_limits.specs.Bodies.{number_over}
-use Rattle.record_limits.proofs.SheetLaws as sheet
 use Rattle.record_limits.proofs.number_over.Given as goal
 
 abbrev pub invariant-loop-i : goal.invariant-loop-i

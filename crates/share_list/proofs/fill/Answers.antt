@@ -1,8 +1,6 @@
 -- `fill` meets its contract: a turn stores one place more. Assumes nothing.
 use native.Mathlib.Omega.{arith}
 use native.Mathlib.Numerals.{add-one}
-use mathlib.Core.Path.{◌≡◌}
-use lib.ListN.{length, length-set}
 use Rattle.share_list.proofs.OverwriteLaws.{overwrite-suc}
 use Rattle.share_list.proofs.fill.Goals as goal
 

@@ -1,5 +1,5 @@
 -- `text::append_number`, which calls itself on a tenth of the number, meets its contract. Assumes nothing.
-use mathlib.Core.Path.{◌≡◌, ap}
+use mathlib.Core.Path.{ap}
 use native.Mathlib.Omega.{arith}
 use lib.ListN.{length, length-append}
 use Rattle.text.specs.Decimal.{digit}

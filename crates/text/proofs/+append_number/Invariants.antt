@@ -1,7 +1,3 @@
-use Rattle.std.proofs.Common.{◌+◌, ◌≤◌, ◌∷◌, [], length, ◌≡◌, ℕ, ◌-◌, ◌*◌, ◌<◌}
-use Rattle.text.specs.Appended.{Appended}
-use Rattle.text.specs.Decimal.{decimal}
-use Rattle.text.specs.Lines.{too_long}
 use Rattle.text.proofs.+append_number.Given as goal
 
 -- proposed from what the function passes where it calls itself

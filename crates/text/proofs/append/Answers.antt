@@ -1,5 +1,4 @@
 -- `text::append` meets its contract: the bytes from i on remain. Assumes nothing.
-use Prim.Native.Nat.{◌-◌}
 use native.Mathlib.Nat.{add-zero}
 use native.Mathlib.Omega.{arith}
 use Rattle.text.proofs.AppendLaws.{remaining-all, remaining-byte, remaining-none}

@@ -1,6 +1,5 @@
 -- `withdrawal_filing::from_the_top` meets its contract. The loop's invariant: the first i entries hold the last i numbers, turned round. Assumes
 -- nothing.
-use Prim.Native.Nat.{◌-◌}
 use mathlib.Core.Path.{◌≡◌}
 use native.Mathlib.Omega.{arith}
 use lib.ListN.{replicate}

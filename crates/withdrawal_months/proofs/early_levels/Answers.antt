@@ -1,5 +1,4 @@
 -- `withdrawal_months::early_levels` meets its contract: the months before t have their levels. Assumes nothing.
-use Prim.Native.Nat.{◌-◌}
 use mathlib.Core.Path.{refl, ◌∙◌}
 use mathlib.Core.List.{[]}
 use native.Mathlib.Numerals.{add-one}

@@ -1,5 +1,4 @@
 -- `withdrawal_search::reached_level` meets its contract: no edge before the level is reached, and each of them has been tried. Assumes nothing.
-use Prim.Native.Nat.{◌-◌}
 use mathlib.Core.Path.{refl, sym, ◌∙◌}
 use native.Mathlib.Nat.{not-suc-le-zero, not-le_of_lt}
 use native.Mathlib.Omega.{arith}

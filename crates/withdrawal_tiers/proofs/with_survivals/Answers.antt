@@ -1,10 +1,8 @@
 -- `withdrawal_tiers::with_survivals` meets its contract. The loop's invariant: the entries below `i` hold the survivals of their withdrawals, the
 -- others 0. The measure is what is left of the tiers. Assumes nothing.
-use Prim.Native.Nat.{◌-◌}
 use mathlib.Core.Path.{◌≡◌}
 use native.Mathlib.Omega.{arith}
 use borrow.Author.Rules.{rules}
-use Rattle.withdrawal.specs.Survival.{survival}
 use Rattle.withdrawal.specs.Inner.TierArrays.{with_survivals}
 use Rattle.withdrawal.proofs.HeldLaws.{stored-none, stored_more, stored-all}
 use Rattle.withdrawal_tiers.proofs.with_survivals.Goals as goal

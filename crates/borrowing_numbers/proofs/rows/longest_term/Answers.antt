@@ -1,5 +1,4 @@
 -- `longest_term` meets its contract. The loop's invariant: the longest of the borrowings so far. Assumes nothing.
-use Prim.Native.Nat.{◌-◌}
 use native.Mathlib.Omega.{arith}
 use native.Mathlib.Numerals.{add-one}
 use mathlib.Core.Path.{◌≡◌, refl}

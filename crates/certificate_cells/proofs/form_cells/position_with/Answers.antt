@@ -1,9 +1,8 @@
 -- `position_with` meets its contract. The loop's invariant: what is left to search gives the answer. Assumes nothing.
-use Prim.Native.Nat.{◌-◌}
 use native.Mathlib.Omega.{arith}
 use mathlib.Core.Path.{refl, sym, ◌∙◌}
 use Rattle.lists.proofs.RangeLaws.{search-here, search-next, search-end}
-use Rattle.certificate_cells.specs.Cells.{is_of_position, position_with}
+use Rattle.certificate_cells.specs.Cells.{position_with}
 use Rattle.certificate_cells.proofs.form_cells.position_with.Goals as goal
 
 pub loop-i-init : goal.loop-i-init

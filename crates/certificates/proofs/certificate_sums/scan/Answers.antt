@@ -1,11 +1,10 @@
 -- `scan` meets its contract. The loop's invariant: the certificates before k pass, and the sums are theirs. Assumes nothing.
-use Prim.Native.Nat.{ℕ, ◌-◌, ◌<◌}
+use Prim.Native.Nat.{ℕ, ◌<◌}
 use native.Mathlib.Omega.{arith}
 use mathlib.Core.Path.{◌≡◌, ap, ◌∙◌}
 use lib.ListN.{get_or}
 use Rattle.answers.specs.Verdict.{Verdict, accepted, refused}
 use Rattle.answers.specs.Answers.{verdict_of}
-use Rattle.certificate_calendar.specs.declared.Date.{Date}
 use Rattle.certificate_terms.specs.Terms.{certificate_count, column_of, position_for, position_of}
 use Rattle.certificate_terms.specs.Faults.{own_verdict}
 use Rattle.certificate_terms.proofs.FaultLaws.{Sound, remaining-one, remaining-le-original, sound-position}

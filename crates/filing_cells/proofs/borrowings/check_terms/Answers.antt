@@ -1,6 +1,5 @@
 -- `check_terms` meets its contract. The loop's invariant: the first terms pass, and the rest of them gives the verdict.
 -- Assumes nothing.
-use Prim.Native.Nat.{◌-◌}
 use mathlib.Core.Path.{◌≡◌, sym, ap, ◌∙◌}
 use mathlib.Core.Bool.{true}
 use Rattle.form.specs.Borrowings.{term_cell}

@@ -1,8 +1,6 @@
 -- `some_borrowed` meets its contract. The loop's invariant: the first i balances are zero. Assumes nothing.
-use Prim.Native.Nat.{◌-◌}
 use native.Mathlib.Omega.{arith}
 use mathlib.Core.Path.{◌≡◌, refl, sym, ap, ◌∙◌}
-use mathlib.Core.Bool.{false}
 use Rattle.lists.specs.Tables.{any_below}
 use Rattle.lists.proofs.TestLaws.{any_none, any_here}
 use Rattle.form.specs.declared.borrowings.Borrowing.{Borrowing}

@@ -1,9 +1,8 @@
 -- `some_from` meets its contract. The loop's invariant: the first i cells are zero. Assumes nothing.
-use Prim.Native.Nat.{◌*◌, ◌-◌, ◌≤◌, ◌<◌}
+use Prim.Native.Nat.{◌*◌, ◌≤◌, ◌<◌}
 use native.Mathlib.Nat.{mul-le-mul_left, le_of_lt}
 use native.Mathlib.Omega.{arith}
 use mathlib.Core.Path.{◌≡◌, refl, sym}
-use mathlib.Core.Bool.{false}
 use Rattle.lists.specs.Tables.{any_below}
 use Rattle.lists.proofs.TestLaws.{any_none, any_here}
 use Rattle.filing_cells.specs.Inner.Borrowed.{some_from}

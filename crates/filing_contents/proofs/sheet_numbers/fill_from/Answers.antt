@@ -1,6 +1,6 @@
 -- `fill_from` meets its contract. The loop's invariant: the first i rates are those of before up to `from`, and the rate behind them.
 -- Assumes nothing.
-use Prim.Native.Nat.{ℕ, ◌-◌}
+use Prim.Native.Nat.{ℕ}
 use native.Mathlib.Omega.{arith}
 use mathlib.Core.Path.{◌≡◌, sym}
 use mathlib.Core.Bool.{cond}

@@ -1,6 +1,6 @@
 -- `fill_numbers` meets its contract. The loop's invariant: the first i numbers are filled.
 -- Assumes nothing.
-use Prim.Native.Nat.{◌+◌, ◌*◌, ◌-◌, ◌<◌}
+use Prim.Native.Nat.{◌+◌, ◌*◌, ◌<◌}
 use native.Mathlib.Nat.{add_comm}
 use borrow.Author.Tests.{leb-true}
 use native.Mathlib.Omega.{arith}

@@ -1,11 +1,9 @@
 -- `tier_numbers` meets its contract. The loop's invariant: the first i numbers are filled.
 -- Assumes nothing.
-use Prim.Native.Nat.{◌-◌}
 use native.Mathlib.Omega.{arith}
 use mathlib.Core.Path.{◌≡◌}
 use Rattle.lists.proofs.FillLaws.{fill_none, fill_more, fill-all}
 use Rattle.form.specs.Limits.{tier_limit}
-use Rattle.filing_contents.specs.Sheets.{tier_number}
 use Rattle.filing_contents.proofs.sheet_numbers.tier_numbers.Goals as goal
 
 pub loop-i-init : goal.loop-i-init

@@ -4,7 +4,6 @@ use native.Mathlib.Omega.{arith}
 use mathlib.Core.Path.{sym, ap, ◌∙◌}
 use mathlib.Core.List.{[], ◌∷◌}
 use lib.ListN.{get_or-eq_default}
-use Rattle.lists.proofs.RangeLaws.{above}
 use Rattle.form.specs.Limits.{filed_coupon_limit}
 use Rattle.form.specs.Borrowings.{within_class}
 use Rattle.form.proofs.borrowings.within_class.Goals as goal

@@ -3,7 +3,6 @@ use Prim.Native.Nat.{ℕ, ◌≤◌}
 use native.Mathlib.Omega.{arith}
 use mathlib.Core.Path.{sym, ap, ◌∙◌}
 use lib.ListN.{get_or-eq_default}
-use Rattle.lists.proofs.RangeLaws.{above}
 use Rattle.form.specs.Borrowings.{within_term}
 use Rattle.form.proofs.borrowings.within_term.Goals as goal
 

@@ -3,7 +3,6 @@ use Prim.Native.Nat.{◌≤◌}
 use native.Mathlib.Omega.{arith}
 use mathlib.Core.Path.{sym, ap, ◌∙◌}
 use lib.ListN.{get_or-eq_default}
-use Rattle.lists.proofs.RangeLaws.{above}
 use Rattle.form.specs.Cells.{position, positions, position_at}
 use Rattle.form.proofs.positions.position.Goals as goal
 

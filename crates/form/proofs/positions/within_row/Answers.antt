@@ -3,7 +3,6 @@ use Prim.Native.Nat.{ℕ, ◌≤◌}
 use native.Mathlib.Omega.{arith}
 use mathlib.Core.Path.{sym, ap, ◌∙◌}
 use lib.ListN.{get_or-eq_default}
-use Rattle.lists.proofs.RangeLaws.{above}
 use Rattle.lists.specs.Ranges.{within}
 use Rattle.form.specs.Cells.{within_row}
 use Rattle.form.proofs.positions.within_row.Goals as goal

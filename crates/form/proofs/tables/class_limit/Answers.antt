@@ -3,7 +3,6 @@ use Prim.Native.Nat.{◌≤◌}
 use native.Mathlib.Omega.{arith}
 use mathlib.Core.Path.{sym, ap}
 use lib.ListN.{get_or-eq_default}
-use Rattle.lists.proofs.RangeLaws.{above}
 use Rattle.form.specs.Limits.{class_limits, class_limit}
 use Rattle.form.proofs.tables.class_limit.Goals as goal
 

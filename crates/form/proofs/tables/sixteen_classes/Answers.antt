@@ -2,7 +2,6 @@
 use native.Mathlib.Omega.{arith}
 use Prim.Native.Nat.{◌≤◌}
 use mathlib.Core.Path.{◌≡◌, sym, ap}
-use Rattle.lists.proofs.RangeLaws.{above}
 use Rattle.lists.specs.Tables.{table_from, contains}
 use Rattle.form.specs.Cells.{position, positions, brokered_cell, penalty_balance_cell, penalty_months_cell, unused_cells}
 use Rattle.form.specs.Borrowings.{borrowing, borrowing_at, coupon_cell, term_cell}

@@ -1,5 +1,4 @@
 -- `power`, which calls itself on half of the months, meets its contract. Assumes nothing.
-use Prim.Native.Nat.{ℕ}
 use mathlib.Core.Path.{◌≡◌}
 use native.Mathlib.Omega.{arith}
 use Rattle.forward_rates.proofs.PowerLaws.{moderate-once, moderate-less}

@@ -3,7 +3,7 @@ use Prim.Native.Nat.{◌*◌, ◌+◌, ◌-◌, ◌≤◌}
 use native.Mathlib.Nat.{le_of_lt, mul-le-mul}
 use native.Mathlib.Omega.{arith}
 use Rattle.forward_rates.specs.Inner.Figures.{unit, figure_limit, Figure}
-use Rattle.forward_rates.specs.Inner.Searches.{Told, term_loss, margin}
+use Rattle.forward_rates.specs.Inner.Searches.{Told, term_loss}
 use Rattle.forward_rates.proofs.FigureLaws.{figure-less, figure-limit, power-loss-le}
 use Rattle.forward_rates.proofs.SideLaws.{told_below, told-above, one-above, one_below}
 use Rattle.forward_rates.proofs.sides.side_of.Goals as goal

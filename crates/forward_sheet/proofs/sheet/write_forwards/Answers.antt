@@ -1,5 +1,4 @@
 -- `write_forwards` meets its contract: the pairs of the scenarios passed are there. Assumes nothing.
-use Prim.Native.Nat.{◌-◌}
 use mathlib.Core.Path.{◌≡◌}
 use native.Mathlib.Omega.{arith}
 use Rattle.form.specs.Shift.{scenario_count}

@@ -1,5 +1,5 @@
 -- `write_scenario` meets its contract: the pairs of the terms passed are there. Assumes nothing.
-use Prim.Native.Nat.{◌+◌, ◌*◌, ◌-◌, ◌≤◌}
+use Prim.Native.Nat.{◌+◌, ◌*◌, ◌≤◌}
 use mathlib.Core.Path.{◌≡◌, ap}
 use native.Mathlib.Omega.{arith}
 use Rattle.forward_sheet.specs.Sheet.{term_count, pairs_over, pairs_before, scenario_pairs, HoldsScenario}

@@ -1,5 +1,4 @@
 -- `filed_term::filed_balances` meets its contract. The loop's invariant: the balances after t months. Assumes nothing.
-use Prim.Native.Nat.{◌-◌}
 use mathlib.Core.Path.{refl, ◌∙◌}
 use native.Mathlib.Nat.{le_refl}
 use native.Mathlib.Omega.{arith}

@@ -1,5 +1,5 @@
 -- `price_deposits::values::values_of` meets its contract: the scenarios passed are written, by the walk. Assumes nothing.
-use Prim.Native.Nat.{◌+◌, ◌*◌, ◌-◌, ◌<◌}
+use Prim.Native.Nat.{◌+◌, ◌*◌, ◌<◌}
 use mathlib.Core.List.{[]}
 use mathlib.Core.Path.{◌≡◌, refl, ap, ◌∙◌}
 use native.Mathlib.Nat.{le_refl, mul-le-mul_left, ne_of_gt, pos_of_ne-zero}

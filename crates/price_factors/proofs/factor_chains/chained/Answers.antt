@@ -1,5 +1,4 @@
 -- `price_factors::factor_chains::chained` meets its contract: after i turns each chain has i factors. Assumes nothing.
-use Prim.Native.Nat.{◌-◌}
 use mathlib.Core.Path.{◌≡◌}
 use native.Mathlib.Numerals.{add-one}
 use native.Mathlib.Omega.{arith}

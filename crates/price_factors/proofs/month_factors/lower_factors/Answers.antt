@@ -1,5 +1,4 @@
 -- `price_factors::month_factors::lower_factors` meets its contract: the factors before i are filled. Assumes nothing.
-use Prim.Native.Nat.{◌-◌}
 use mathlib.Core.Path.{◌≡◌, ◌∙◌}
 use native.Mathlib.Omega.{arith}
 use Rattle.lists.proofs.FillLaws.{fill_none, fill_more, fill-all}

@@ -1,5 +1,5 @@
 -- `price_factors::rate_multipliers::lower_multipliers` meets its contract: the multipliers before i are filled. Assumes nothing.
-use Prim.Native.Nat.{ℕ, ◌-◌}
+use Prim.Native.Nat.{ℕ}
 use mathlib.Core.List.{List}
 use mathlib.Core.Path.{◌≡◌, ap, ◌∙◌}
 use native.Mathlib.Omega.{arith}

@@ -1,5 +1,4 @@
 -- `price_factors::rate_multipliers::upper_multipliers` meets its contract: the multipliers before i are filled. Assumes nothing.
-use Prim.Native.Nat.{◌-◌}
 use mathlib.Core.Path.{◌≡◌}
 use native.Mathlib.Omega.{arith}
 use Rattle.lists.proofs.FillLaws.{fill_none, fill_more, fill-all}

@@ -1,11 +1,9 @@
 -- `price_multipliers::discount_tables::to_multipliers` meets its contract: the entries before i hold multipliers, the others their factors. Assumes nothing.
-use Prim.Native.Nat.{◌-◌}
 use mathlib.Core.Path.{refl, ◌∙◌}
 use native.Mathlib.Omega.{arith}
 use lib.Seq.{get_or-set_other}
 use Rattle.lists.proofs.FillLaws.{filled-start, filled_more}
 use Rattle.form.specs.Counts.{factor_count}
-use Rattle.price_multipliers.specs.Multipliers.{discount_multiplier}
 use Rattle.price_multipliers.proofs.discount_tables.to_multipliers.Goals as goal
 
 pub loop-i-init : goal.loop-i-init

@@ -1,5 +1,4 @@
 -- `check_lines` meets its contract: none of the lines before i is faulty. Assumes nothing.
-use Prim.Native.Nat.{◌-◌}
 use native.Mathlib.Omega.{arith}
 use mathlib.Core.Path.{sym, ◌∙◌}
 use Rattle.answers.specs.Verdict.{accepted, refused}

@@ -1,5 +1,4 @@
 -- `reached_line` meets its contract: none of the lines before i reaches the month. Assumes nothing.
-use Prim.Native.Nat.{◌-◌}
 use native.Mathlib.Omega.{arith}
 use mathlib.Core.Path.{◌≡◌, sym, ap, ◌∙◌}
 use Rattle.quote_prices.specs.declared.PriceLine.{PriceLine}

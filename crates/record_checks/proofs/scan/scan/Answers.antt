@@ -1,6 +1,5 @@
 -- `scan` meets its contract. The loop's invariant: the records before `at` are sound, and noted.
 -- Assumes nothing.
-use Prim.Native.Nat.{◌-◌}
 use native.Mathlib.Omega.{arith}
 use mathlib.Core.Path.{sym, subst, ◌∙◌}
 use Rattle.answers.specs.Verdict.{accepted}

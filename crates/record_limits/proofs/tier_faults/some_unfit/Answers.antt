@@ -1,12 +1,9 @@
 -- `some_unfit` meets its contract. The loop's invariant: none of the first i tiers is unfit.
 -- Assumes nothing.
-use Prim.Native.Nat.{◌-◌}
 use native.Mathlib.Omega.{arith}
 use mathlib.Core.Path.{◌≡◌, refl, sym, ◌∙◌}
-use mathlib.Core.Bool.{false}
 use Rattle.lists.specs.Tables.{any_below}
 use Rattle.lists.proofs.TestLaws.{any_none, any_here}
-use Rattle.record_limits.specs.TierFaults.{unfit_tier}
 use Rattle.record_limits.proofs.tier_faults.some_unfit.Goals as goal
 
 pub loop-i-init : goal.loop-i-init

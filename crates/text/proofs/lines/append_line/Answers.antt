@@ -1,5 +1,4 @@
 -- `text::lines::append_line` meets its contract: the line from number i on remains. Assumes nothing.
-use Prim.Native.Nat.{◌-◌}
 use mathlib.Core.Path.{ap}
 use native.Mathlib.Omega.{arith}
 use lib.ListN.{length, length-append}

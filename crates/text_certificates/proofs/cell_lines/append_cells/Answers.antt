@@ -1,5 +1,4 @@
 -- `append_cells` meets its contract: the lines from the cell on remain. Assumes nothing.
-use Prim.Native.Nat.{◌-◌}
 use native.Mathlib.Omega.{arith}
 use mathlib.Core.Path.{refl}
 use Rattle.text.proofs.AppendLaws.{remaining-all, remaining-less, remaining-last}

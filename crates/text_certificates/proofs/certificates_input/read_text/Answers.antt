@@ -1,5 +1,5 @@
 -- `read_text` meets its contract. The loop's invariant: the lines so far have their form, and their numbers are stored. Assumes nothing.
-use Prim.Native.Nat.{ℕ, ◌+◌, ◌*◌, ◌-◌, ◌≤◌}
+use Prim.Native.Nat.{ℕ, ◌+◌, ◌*◌, ◌≤◌}
 use native.Mathlib.Omega.{arith}
 use mathlib.Core.Path.{◌≡◌, sym, ap, ◌∙◌}
 use mathlib.Core.Bool.{true}
@@ -13,7 +13,7 @@ use Rattle.text_certificates.specs.Texts.{read_count}
 use Rattle.text_numerals.specs.Forms.{has_form, form_numbers, form_end}
 use Rattle.text_certificates.specs.Lines.{date_form, certificate_form}
 use Rattle.text_numerals.proofs.LineLaws.{line-readable, line-is}
-use Rattle.text_certificates.proofs.TextLaws.{first_read, form-takes, next-read, line-fails, first-fails, count-is, none-fails, stored_next, certificate-read, numbers-are, certificate-length, first-none, line_first, none_first, date-read}
+use Rattle.text_certificates.proofs.TextLaws.{first_read, form-takes, next-read, line-fails, first-fails, none-fails, stored_next, certificate-read, numbers-are, certificate-length, first-none, line_first, none_first, date-read}
 use Rattle.text_certificates.proofs.certificates_input.read_text.Goals as goal
 
 -- the first line is no date, so that line 1 is the first unreadable one, and no certificate is read

@@ -1,5 +1,4 @@
 -- `number_end` meets its contract. The loop's invariant: what is left to search gives the answer. Assumes nothing.
-use Prim.Native.Nat.{◌-◌}
 use native.Mathlib.Omega.{arith}
 use mathlib.Core.Path.{◌≡◌, refl, sym, ap, ◌∙◌}
 use mathlib.Core.Bool.{not}

@@ -1,5 +1,4 @@
 -- `read_line` meets its contract. The loop's invariant: the line is read up to its number j. Assumes nothing.
-use Prim.Native.Nat.{◌-◌}
 use native.Mathlib.Omega.{arith}
 use mathlib.Core.Path.{sym, ◌∙◌}
 use Rattle.text_numerals.proofs.LineLaws.{reading-start, reading-fails, reading-next, reading-done}

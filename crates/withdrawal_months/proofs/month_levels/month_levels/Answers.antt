@@ -1,5 +1,5 @@
 -- `withdrawal_months::month_levels::month_levels` meets its contract: the levels of the scenarios before i are filled. Assumes nothing.
-use Prim.Native.Nat.{ℕ, ◌-◌, ◌≤◌}
+use Prim.Native.Nat.{ℕ, ◌≤◌}
 use mathlib.Core.Path.{◌≡◌, ap, ◌∙◌}
 use native.Mathlib.Omega.{arith}
 use Rattle.form.specs.Shift.{shifted_rate, shifted_limit, scenario_count}

@@ -1,6 +1,5 @@
 -- `amended_before` meets its contract. The loop's invariant: what is still to be searched gives the answer.
 -- Assumes nothing.
-use Prim.Native.Nat.{◌-◌}
 use native.Mathlib.Nat.{le_refl}
 use native.Mathlib.Omega.{arith}
 use mathlib.Core.Path.{sym, ◌∙◌}

@@ -1,7 +1,6 @@
 -- `repetition` meets its contract. The loop's invariant: the set has the cells and numbers of the block's amendments so far, and what is still to be searched
 -- gives the answer.
 -- Assumes nothing.
-use Prim.Native.Nat.{◌-◌}
 use native.Mathlib.Omega.{arith}
 use mathlib.Core.Path.{sym, ◌∙◌}
 use Rattle.record_fields.proofs.SearchLaws.{here, next-lt, reached-next, ahead-start, ahead-here, ahead-next, ahead-done}
