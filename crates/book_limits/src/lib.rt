@@ -9,6 +9,7 @@ use form::positions::{position, within_row};
 use form::sub_balances::SUB_BALANCES;
 
 // A place from 0 to 35 takes a balance, a coupon, months of its row and a penalty.
+#[tactic(auto, unfolding(crate::specs::PlaceLimits::fits_place))]
 pub fn fits(place: usize, balance: u64, coupon: u64, months: u64, penalty: u64) -> bool
     ensures { result ≡ fits_place place balance coupon months penalty }
 {
