@@ -26,7 +26,7 @@ pub returns-then-number-ne0 : goal.returns-then-number-ne0
 unfolding certificate_count
 returns-then-number-ne0 c =
     let counted : certificates_verdict c.args.valuation c.args.certificates.now
-    ≡ each_verdict c.args.valuation c.args.certificates.now = count-passes _ _ c.if-count-lt1.false c.if-count-gt1000.false in
+    ≡ each_verdict c.args.valuation c.args.certificates.now = count-passes _ _ (omega arith) (omega arith) in
     let scanned = c.scan-scanned.ensures.answer_value in
     record {
       converted = call-refused _ _ _ _ c.refusal-then-number-ne0.ensures (scanned ∙ sym counted)
@@ -48,7 +48,7 @@ pub returns : goal.returns
 unfolding certificate_count summed_count verdict_of
 returns c =
     let counted : certificates_verdict c.args.valuation c.args.certificates.now
-    ≡ each_verdict c.args.valuation c.args.certificates.now = count-passes _ _ c.if-count-lt1.false c.if-count-gt1000.false in
+    ≡ each_verdict c.args.valuation c.args.certificates.now = count-passes _ _ (omega arith) (omega arith) in
     let totals-are : c.scan-scanned.result.totals
     ≡ totals_of c.args.valuation c.args.certificates.now
     (certificate_count c.args.certificates.now) = let zero = sym c.number.ensures ∙ c.if-number-ne0.false in

@@ -1,4 +1,5 @@
 -- `book_calls::book_changes::clears` meets its contract. Assumes nothing.
+use native.Mathlib.Omega.{arith}
 use borrow.Author.Tests.{eq-eqb, ne_eqb}
 use Rattle.book_calls.specs.Changing.{clears}
 use Rattle.book_calls.proofs.book_changes.clears.Goals as goal
@@ -9,4 +10,4 @@ returns-then-action-ne1 c = rw (ne_eqb _ 1 c.if-action-ne1.true)
 
 pub returns : goal.returns
 unfolding clears
-returns c = rw (eq-eqb _ 1 c.if-action-ne1.false) c.leaves_nothing.ensures
+returns c = rw (eq-eqb c.args.action 1 (omega arith)) c.leaves_nothing.ensures
