@@ -40,7 +40,7 @@ returns-then-s-end c =
     let bytes : List ℕ = c.args.s.now in
     let end_is : c.scan-scanned.result.end ≡ first_plain bytes = c.scan-scanned.ensures.2 in
     let first-is : c.first_repetition-first.result ≡ found bytes = c.first_repetition-first.ensures ∙ ap (repetitions_below bytes block_count) end_is in
-    let none_before : first_plain bytes ≤ found bytes = omega (arith, c.if-first-end.false, first-is, end_is) in
+    let none_before : first_plain bytes ≤ found bytes = omega (arith, first-is, end_is) in
     let s = bytes in
     let none = none_before in (
       sym (none-verdict s none (omega (arith, c.if-s-end.true, end_is))),
@@ -61,7 +61,7 @@ returns c =
     let bytes : List ℕ = c.args.s.now in
     let end_is : c.scan-scanned.result.end ≡ first_plain bytes = c.scan-scanned.ensures.2 in
     let first-is : c.first_repetition-first.result ≡ found bytes = c.first_repetition-first.ensures ∙ ap (repetitions_below bytes block_count) end_is in
-    let none_before : first_plain bytes ≤ found bytes = omega (arith, c.if-first-end.false, first-is, end_is) in
+    let none_before : first_plain bytes ≤ found bytes = omega (arith, first-is, end_is) in
     let s = bytes in
     let none = none_before in (
       c.check_fully-answer.ensures ∙ ap (record_verdict s) end_is ∙ sym (here-verdict s none (omega (arith, c.if-s-end.false, end_is))),

@@ -1,5 +1,6 @@
 -- `check_sheets` meets its contract. Assumes nothing.
-use Prim.Native.Nat.{ℕ, ◌<◌}
+use Prim.Native.Nat.{ℕ, ◌≤◌, ◌<◌}
+use native.Mathlib.Omega.{arith}
 use mathlib.Core.Path.{◌≡◌, ap, ◌∙◌}
 use mathlib.Core.List.{List}
 use borrow.Author.Tests.{le-leb, lt-leb}
@@ -52,9 +53,10 @@ unfolding verdict_of refused sheet_verdict sheet_missing
 returns c =
     let sheet-is : (kind : ℕ) → kind < kind_count → get_or c.args.sheets.now kind 0 ≡ sheet_offset c.args.s.now kind = λ kind h. ap (λ (sheets : List ℕ). get_or sheets kind 0) c.requires ∙ sheet-noted _ kind h in
     let s = c.args.s.now in
+    let no-path : length s ≤ sheet_offset s rate_path_kind = omega (arith, sheet-is rate_path_kind (lit< tt)) in
     condition-holds _ 6 (length s)
     (simp (
       lt-leb (length s) (sheet_offset s 2) (rw (sheet-is 2 (lit< tt)) at c.if-s-sheets.false),
       le-leb (length s) (sheet_offset s flat_rates_kind) (rw (sheet-is flat_rates_kind (lit< tt)) at c.if-sheets-s.false),
-      le-leb (length s) (sheet_offset s rate_path_kind) (rw (sheet-is rate_path_kind (lit< tt)) at c.if-sheets-s-2.false),
+      le-leb (length s) (sheet_offset s rate_path_kind) no-path,
     ))
