@@ -77,9 +77,10 @@ walk_term-roll_over-requires t c =
     let p = c.requires in
     let inv = c.loop-at.invariant in
     let last = c.earlier-last.ensures in
-    let he : suc c.loop-at.at.month ≡ c.args.term.end = omega (arith, c.loop-at-test.false, c.if-term-lt-LAST_MONTH.true, last, month-within _ _ _ _ _ _ _ _ _ p.walkable inv.in-term) in (
+    let early : c.args.term.end < last_month = omega arith in
+    let he : suc c.loop-at.at.month ≡ c.args.term.end = omega (arith, c.loop-at-test.false, last, month-within _ _ _ _ _ _ _ _ _ p.walkable inv.in-term) in (
       omega (arith, c.decreases, inv.from, inv.in-term.standing.before),
-      (p.walkable, (inv.in-term, record { ends = he; before = rw he c.if-term-lt-LAST_MONTH.true })),
+      (p.walkable, (inv.in-term, record { ends = he; before = rw he early })),
     )
 
 pub walk_term-paid_out-requires : goal.walk_term-paid_out-requires

@@ -40,7 +40,7 @@ unfolding certificate_count verdict_of
 months_between-months-requires c =
     let own-number : c.number.result ≡ (own_verdict c.args.valuation c.loop-k.k c.certificate_at-c.result).number = c.number.ensures ∙ ap (λ (u : Verdict). u.number) c.check_certificate-answer.ensures in
     let counted : c.loop-k.k < certificate_count c.args.certificates.now = c.loop-k-test.true in
-    let own-none : (own_verdict c.args.valuation c.loop-k.k c.certificate_at-c.result).number ≡ 0 = omega (arith, own-number, c.if-number-ne0.false) in
+    let own-none : (own_verdict c.args.valuation c.loop-k.k c.certificate_at-c.result).number ≡ 0 = omega (arith, own-number) in
     let sound : Sound c.args.valuation c.certificate_at-c.result = scan-sound _ _ _ _ c.loop-k.invariant counted c.certificate_at-c.result c.certificate_at-c.ensures own-none in
     record { from_value = sound.valuation-day; to_value = sound.maturity-day }
 
@@ -49,7 +49,7 @@ unfolding certificate_count verdict_of
 months_between-requires c =
     let own-number : c.number.result ≡ (own_verdict c.args.valuation c.loop-k.k c.certificate_at-c.result).number = c.number.ensures ∙ ap (λ (u : Verdict). u.number) c.check_certificate-answer.ensures in
     let counted : c.loop-k.k < certificate_count c.args.certificates.now = c.loop-k-test.true in
-    let own-none : (own_verdict c.args.valuation c.loop-k.k c.certificate_at-c.result).number ≡ 0 = omega (arith, own-number, c.if-number-ne0.false) in
+    let own-none : (own_verdict c.args.valuation c.loop-k.k c.certificate_at-c.result).number ≡ 0 = omega (arith, own-number) in
     let sound : Sound c.args.valuation c.certificate_at-c.result = scan-sound _ _ _ _ c.loop-k.invariant counted c.certificate_at-c.result c.certificate_at-c.ensures own-none in
     record { from_value = sound.issue-day; to_value = sound.maturity-day }
 
@@ -58,7 +58,7 @@ unfolding certificate_count verdict_of
 position_of-position-requires c =
     let own-number : c.number.result ≡ (own_verdict c.args.valuation c.loop-k.k c.certificate_at-c.result).number = c.number.ensures ∙ ap (λ (u : Verdict). u.number) c.check_certificate-answer.ensures in
     let counted : c.loop-k.k < certificate_count c.args.certificates.now = c.loop-k-test.true in
-    let own-none : (own_verdict c.args.valuation c.loop-k.k c.certificate_at-c.result).number ≡ 0 = omega (arith, own-number, c.if-number-ne0.false) in
+    let own-none : (own_verdict c.args.valuation c.loop-k.k c.certificate_at-c.result).number ≡ 0 = omega (arith, own-number) in
     let sound : Sound c.args.valuation c.certificate_at-c.result = scan-sound _ _ _ _ c.loop-k.invariant counted c.certificate_at-c.result c.certificate_at-c.ensures own-none in
     let ok = sound in
     let one = remaining-one _ _ ok in
@@ -71,7 +71,7 @@ unfolding certificate_count position_of verdict_of
 offset_bounds-totals-position c =
     let own-number : c.number.result ≡ (own_verdict c.args.valuation c.loop-k.k c.certificate_at-c.result).number = c.number.ensures ∙ ap (λ (u : Verdict). u.number) c.check_certificate-answer.ensures in
     let counted : c.loop-k.k < certificate_count c.args.certificates.now = c.loop-k-test.true in
-    let own-none : (own_verdict c.args.valuation c.loop-k.k c.certificate_at-c.result).number ≡ 0 = omega (arith, own-number, c.if-number-ne0.false) in
+    let own-none : (own_verdict c.args.valuation c.loop-k.k c.certificate_at-c.result).number ≡ 0 = omega (arith, own-number) in
     let sound : Sound c.args.valuation c.certificate_at-c.result = scan-sound _ _ _ _ c.loop-k.invariant counted c.certificate_at-c.result c.certificate_at-c.ensures own-none in
     let position-is : c.position_of-position.result ≡ position_of c.args.valuation c.certificate_at-c.result = position-same c.position_of-position.ensures c.months_between-months.ensures c.months_between.ensures in
     let position-lt : c.position_of-position.result < 9 = rw position-is (sound-position _ _ sound) in
@@ -82,7 +82,7 @@ unfolding certificate_count position_of verdict_of
 bounds-totals-position c =
     let own-number : c.number.result ≡ (own_verdict c.args.valuation c.loop-k.k c.certificate_at-c.result).number = c.number.ensures ∙ ap (λ (u : Verdict). u.number) c.check_certificate-answer.ensures in
     let counted : c.loop-k.k < certificate_count c.args.certificates.now = c.loop-k-test.true in
-    let own-none : (own_verdict c.args.valuation c.loop-k.k c.certificate_at-c.result).number ≡ 0 = omega (arith, own-number, c.if-number-ne0.false) in
+    let own-none : (own_verdict c.args.valuation c.loop-k.k c.certificate_at-c.result).number ≡ 0 = omega (arith, own-number) in
     let sound : Sound c.args.valuation c.certificate_at-c.result = scan-sound _ _ _ _ c.loop-k.invariant counted c.certificate_at-c.result c.certificate_at-c.ensures own-none in
     let position-is : c.position_of-position.result ≡ position_of c.args.valuation c.certificate_at-c.result = position-same c.position_of-position.ensures c.months_between-months.ensures c.months_between.ensures in
     let position-lt : c.position_of-position.result < 9 = rw position-is (sound-position _ _ sound) in
@@ -93,7 +93,7 @@ unfolding certificate_count position_of verdict_of
 overflow_add-totals c =
     let own-number : c.number.result ≡ (own_verdict c.args.valuation c.loop-k.k c.certificate_at-c.result).number = c.number.ensures ∙ ap (λ (u : Verdict). u.number) c.check_certificate-answer.ensures in
     let counted : c.loop-k.k < certificate_count c.args.certificates.now = c.loop-k-test.true in
-    let own-none : (own_verdict c.args.valuation c.loop-k.k c.certificate_at-c.result).number ≡ 0 = omega (arith, own-number, c.if-number-ne0.false) in
+    let own-none : (own_verdict c.args.valuation c.loop-k.k c.certificate_at-c.result).number ≡ 0 = omega (arith, own-number) in
     let sound : Sound c.args.valuation c.certificate_at-c.result = scan-sound _ _ _ _ c.loop-k.invariant counted c.certificate_at-c.result c.certificate_at-c.ensures own-none in
     let position-is : c.position_of-position.result ≡ position_of c.args.valuation c.certificate_at-c.result = position-same c.position_of-position.ensures c.months_between-months.ensures c.months_between.ensures in
     let position-lt : c.position_of-position.result < 9 = rw position-is (sound-position _ _ sound) in
@@ -106,7 +106,7 @@ unfolding certificate_count position_of refused verdict_of
 returns-then-totals-position-gt-BALANCE_LIMIT c =
     let own-number : c.number.result ≡ (own_verdict c.args.valuation c.loop-k.k c.certificate_at-c.result).number = c.number.ensures ∙ ap (λ (u : Verdict). u.number) c.check_certificate-answer.ensures in
     let counted : c.loop-k.k < certificate_count c.args.certificates.now = c.loop-k-test.true in
-    let own-none : (own_verdict c.args.valuation c.loop-k.k c.certificate_at-c.result).number ≡ 0 = omega (arith, own-number, c.if-number-ne0.false) in
+    let own-none : (own_verdict c.args.valuation c.loop-k.k c.certificate_at-c.result).number ≡ 0 = omega (arith, own-number) in
     let position-is : c.position_of-position.result ≡ position_of c.args.valuation c.certificate_at-c.result = position-same c.position_of-position.ensures c.months_between-months.ensures c.months_between.ensures in
     let sum-tested : get_or c.loop-k.totals.balance c.position_of-position.result 0 ≡ get_or c.loop-k.totals.balance (position_of c.args.valuation c.certificate_at-c.result) 0 = ap (λ (i : ℕ). get_or c.loop-k.totals.balance i 0) position-is in
     let inv = c.loop-k.invariant in
@@ -120,7 +120,7 @@ unfolding certificate_count position_of verdict_of
 added-totals-requires c =
     let own-number : c.number.result ≡ (own_verdict c.args.valuation c.loop-k.k c.certificate_at-c.result).number = c.number.ensures ∙ ap (λ (u : Verdict). u.number) c.check_certificate-answer.ensures in
     let counted : c.loop-k.k < certificate_count c.args.certificates.now = c.loop-k-test.true in
-    let own-none : (own_verdict c.args.valuation c.loop-k.k c.certificate_at-c.result).number ≡ 0 = omega (arith, own-number, c.if-number-ne0.false) in
+    let own-none : (own_verdict c.args.valuation c.loop-k.k c.certificate_at-c.result).number ≡ 0 = omega (arith, own-number) in
     let sound : Sound c.args.valuation c.certificate_at-c.result = scan-sound _ _ _ _ c.loop-k.invariant counted c.certificate_at-c.result c.certificate_at-c.ensures own-none in
     let position-is : c.position_of-position.result ≡ position_of c.args.valuation c.certificate_at-c.result = position-same c.position_of-position.ensures c.months_between-months.ensures c.months_between.ensures in
     let position-lt : c.position_of-position.result < 9 = rw position-is (sound-position _ _ sound) in
@@ -136,7 +136,7 @@ unfolding certificate_count position_of verdict_of
 loop-k-preserved c =
     let own-number : c.number.result ≡ (own_verdict c.args.valuation c.loop-k.k c.certificate_at-c.result).number = c.number.ensures ∙ ap (λ (u : Verdict). u.number) c.check_certificate-answer.ensures in
     let counted : c.loop-k.k < certificate_count c.args.certificates.now = c.loop-k-test.true in
-    let own-none : (own_verdict c.args.valuation c.loop-k.k c.certificate_at-c.result).number ≡ 0 = omega (arith, own-number, c.if-number-ne0.false) in
+    let own-none : (own_verdict c.args.valuation c.loop-k.k c.certificate_at-c.result).number ≡ 0 = omega (arith, own-number) in
     let position-is : c.position_of-position.result ≡ position_of c.args.valuation c.certificate_at-c.result = position-same c.position_of-position.ensures c.months_between-months.ensures c.months_between.ensures in
     let sum-tested : get_or c.loop-k.totals.balance c.position_of-position.result 0 ≡ get_or c.loop-k.totals.balance (position_of c.args.valuation c.certificate_at-c.result) 0 = ap (λ (i : ℕ). get_or c.loop-k.totals.balance i 0) position-is in
     let at = c.certificate_at-c in

@@ -30,7 +30,7 @@ overflow_mul-result c =
       ← c.record_cell.ensures,
       ← c.cell_class.ensures,
     )
-    (simp (ne_eqb _ fine_coupon_kind c.if-record_kind-eq-FINE_COUPON_KIND.false, eq-eqb _ coupon_class c.if-cell_class-eq-COUPON_CLASS.true)) in
+    (simp (ne_eqb c.record_kind.result fine_coupon_kind (omega arith), eq-eqb _ coupon_class c.if-cell_class-eq-COUPON_CLASS.true)) in
     let limit : held_limit (cell_class (record_cell c.args.s.now c.args.at))
     ≡ coupon_limit = rw (← c.record_cell.ensures, ← c.cell_class.ensures) (simp (eq-eqb _ coupon_class c.if-cell_class-eq-COUPON_CLASS.true)) in
     omega (arith, tenfold, limit, c.requires)
@@ -45,7 +45,7 @@ returns-then-cell_class-eq-COUPON_CLASS c =
       ← c.record_cell.ensures,
       ← c.cell_class.ensures,
     )
-    (simp (ne_eqb _ fine_coupon_kind c.if-record_kind-eq-FINE_COUPON_KIND.false, eq-eqb _ coupon_class c.if-cell_class-eq-COUPON_CLASS.true)) in
+    (simp (ne_eqb c.record_kind.result fine_coupon_kind (omega arith), eq-eqb _ coupon_class c.if-cell_class-eq-COUPON_CLASS.true)) in
     tenfold
 
 -- the kind is not 6 and the cell is no coupon, so that the amount is the filed value as it is
@@ -58,4 +58,4 @@ returns c =
       ← c.record_cell.ensures,
       ← c.cell_class.ensures,
     )
-    (simp (ne_eqb _ fine_coupon_kind c.if-record_kind-eq-FINE_COUPON_KIND.false, ne_eqb _ coupon_class c.if-cell_class-eq-COUPON_CLASS.false))
+    (simp (ne_eqb c.record_kind.result fine_coupon_kind (omega arith), ne_eqb _ coupon_class c.if-cell_class-eq-COUPON_CLASS.false))
