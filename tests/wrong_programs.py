@@ -20,7 +20,7 @@ EXCHANGES = [
     (r"(?<![\w.])(\d+)(?![\w.])", lambda m: str(int(m.group()) + 1)), (r"(?<![\w.])([1-9]\d*)(?![\w.])", lambda m: str(int(m.group()) - 1)),
     (r"\bif ([^{]+) \{", lambda m: "if !(" + m.group(1) + ") {"), (r"([\w.]+), ([\w.]+)(?=[,)])", lambda m: m.group(2) + ", " + m.group(1)),
     (r"(?<=\()(\w+), (\w+)(?=[,)])", lambda m: m.group(1) + ", " + m.group(1)), (r"(?<=\()(\w+), (\w+)(?=[,)])", lambda m: m.group(2) + ", " + m.group(2)),
-    (r"Answer::(?!Accepted)\w+\(\w+\)", "Answer::Accepted"), (r"\{ (\w+) \}", lambda m: "{ " + m.group(1) + ": 0 }"),
+    (r"Err\(Refusal::\w+\([^()]*\)\)", "Ok(())"), (r"\{ (\w+) \}", lambda m: "{ " + m.group(1) + ": 0 }"),
     (r"^\s+[\w.\[\]* ]+ [-+|]?= [^;{]+;$", ""), (r"^\s+\w+\([^;{]*\);$", ""), (r"^    [a-z][\w.]*( as \w+|\(.*\))?$", "    0"),
 ]
 

@@ -5,7 +5,7 @@ use native.Mathlib.Nat.{sub-zero, le_of_suc-le-suc, not-suc-le-zero}
 use native.Mathlib.Numerals.{add-one}
 use native.Mathlib.Omega.{arith}
 use mathlib.Core.Path.{◌≡◌, refl, sym, ap, ◌∙◌}
-use mathlib.Core.Bool.{Bool, true, false}
+use mathlib.Core.Bool.{Bool, true, false, cond}
 use borrow.Author.Tests.{lt-ltb, le-ltb, ltb-false, eq-eqb, ne_eqb, eqb-true, eqb-false}
 use lib.Dec.{ltb, eqb}
 use Rattle.lists.specs.Tables.{table_from}
@@ -63,13 +63,39 @@ pub condition-fails : (b : Bool) (n at : ℕ) → (refused_if b (suc n) at).numb
 condition-fails true n at h = absurd (condition-refuses true n at refl h)
 condition-fails false n at h = refl
 
--- the verdict of one row, by its condition; and of a row behind others
-pub row_is : {v : Verdict} {b holds : Bool} (n at : ℕ) → v ≡ refused_if b n at → b ≡ holds → v ≡ refused_if holds n at
-row_is n at e p = e ∙ ap (λ (x : Bool). refused_if x n at) p
+-- a row whose condition holds before other rows, and one whose condition does not
+pub row-holds : {b : Bool} (n at : ℕ) (rest : Verdict) → true ≡ b → refused (suc n) at ≡ first_refusal (refused_if b (suc n) at) rest
+row-holds {b} n at rest h =
+    condition-holds b (suc n) at (sym h) ∙ sym (first-refused (refused_if b (suc n) at) rest (condition-refuses b n at (sym h)))
 
-pub row_next : {r before v : Verdict} {b holds : Bool} (n at : ℕ) → r ≡ first_refusal before (refused_if b n at) → before ≡ v → b ≡ holds
-    → r ≡ first_refusal v (refused_if holds n at)
-row_next n at e p q = e ∙ rw (p, q)
+pub row-fails : {b : Bool} (n at : ℕ) {v rest : Verdict} → false ≡ b → v ≡ rest → v ≡ first_refusal (refused_if b n at) rest
+row-fails {b} n at {v} {rest} h e = e ∙ sym (first-passed (refused_if b n at) rest (condition-none b n at (sym h)))
+
+-- a verdict that refuses, refuses at a location
+abbrev pub LocatedAt : ℕ → Verdict → Type 0
+LocatedAt at v = (v.number ≡ 0 → ⊥) → v.location ≡ at
+
+pub located-accepted : (at : ℕ) → LocatedAt at accepted
+unfolding accepted
+located-accepted at h = absurd (h refl)
+
+pub located-row : (b : Bool) (n at : ℕ) → LocatedAt at (refused_if b n at)
+unfolding refused_if refused accepted
+located-row true n at h = refl
+located-row false n at h = absurd (h refl)
+
+pub located-first : (at : ℕ) (v next : Verdict) → LocatedAt at v → LocatedAt at next → LocatedAt at (first_refusal v next)
+unfolding first_refusal
+located-first at v next l m = by (eqb v.number 0) refl
+  where
+    by : (b : Bool) → eqb v.number 0 ≡ b → LocatedAt at (cond b next v)
+    by true e = m
+    by false e = l
+
+-- acceptance before other verdicts
+pub accepted-first : {v w : Verdict} (next : Verdict) → accepted ≡ v → w ≡ next → w ≡ first_refusal v next
+unfolding accepted
+accepted-first {v} next e f = f ∙ sym (first-passed v next (ap number-of (sym e)))
 
 -- 10 before another verdict: a short list, a list that is long enough, and what no refusal says of the list
 module _ (least size : ℕ) (next : Verdict) where

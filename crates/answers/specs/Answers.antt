@@ -1,12 +1,11 @@
--- The answers of the code as verdicts of the paper's table (01:28-39; 02:CR 1, CR 3, CR 5, CR 6, CR 7, CR 8, CR 12): each case's number and location. Definitions only.
-use Rattle.std.specs.Prelude.{ℕ}
-use Rattle.answers.specs.declared.Answer.{Answer}
-use Rattle.answers.specs.declared.Answer.TheVariants.{Accepted, RecordIncomplete, RecordMisshapen, CellUnlisted, Repeated, PathBesideFlat, AmendmentRepeated, OverLimit, TiersUnsound, SheetMissing, LiborMissing, CouponOutsideClass, MonthsOutsideRow, AboveColumnSum, TotalDiffers, ListTooShort, NoSuchDay, NotOutstanding, TooManyMonths, OutsidePlaceLimits, LineFaulty}
-use Rattle.answers.specs.Verdict.{Verdict}
+-- The refusals of the code, and its answers as verdicts of the paper's table (01:28-39; 02:CR 1, CR 3, CR 5, CR 6, CR 7, CR 8, CR 12): each case's number and location. Definitions only.
+use Rattle.std.specs.Prelude.{ℕ, Result, Ok, Err}
+use Rattle.answers.specs.declared.Refusal.{Refusal}
+use Rattle.answers.specs.declared.Refusal.TheVariants.{RecordIncomplete, RecordMisshapen, CellUnlisted, Repeated, PathBesideFlat, AmendmentRepeated, OverLimit, TiersUnsound, SheetMissing, LiborMissing, CouponOutsideClass, MonthsOutsideRow, AboveColumnSum, TotalDiffers, ListTooShort, NoSuchDay, NotOutstanding, TooManyMonths, OutsidePlaceLimits, LineFaulty}
+use Rattle.answers.specs.Verdict.{Verdict, accepted, refused}
 
--- the number of an answer
-abbrev pub number_of : Answer → ℕ
-number_of Accepted = 0
+-- the number of a refusal
+abbrev pub number_of : Refusal → ℕ
 number_of (RecordIncomplete offset) = 1
 number_of (RecordMisshapen offset) = 2
 number_of (CellUnlisted offset) = 3
@@ -28,9 +27,8 @@ number_of (TooManyMonths certificate) = 15
 number_of (OutsidePlaceLimits place) = 17
 number_of (LineFaulty line) = 21
 
--- the location of an answer
-abbrev pub location_of : Answer → ℕ
-location_of Accepted = 0
+-- the location of a refusal
+abbrev pub location_of : Refusal → ℕ
 location_of (RecordIncomplete offset) = offset
 location_of (RecordMisshapen offset) = offset
 location_of (CellUnlisted offset) = offset
@@ -52,6 +50,7 @@ location_of (TooManyMonths certificate) = certificate
 location_of (OutsidePlaceLimits place) = place
 location_of (LineFaulty line) = line
 
--- the verdict that an answer stands for
-unfoldable pub verdict_of : Answer → Verdict
-verdict_of a = record { number = number_of a; location = location_of a }
+-- the verdict that an answer stands for: acceptance, whatever it comes with, or the refusal
+abbrev pub verdict_of : {A : Type 0} → Result A Refusal → Verdict
+verdict_of (Ok x) = accepted
+verdict_of (Err r) = refused (number_of r) (location_of r)

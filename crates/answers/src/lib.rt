@@ -1,16 +1,13 @@
-// The answers on a filing, on a list of certificates, on a change of a book and on price lines, and the paper's number of each.
+// The refusals of a filing, of a list of certificates, of a change of a book and of price lines, with the paper's number and the location of each. An answer is a
+// `Result`: what was asked for, or the first refusal.
 #![tactic(auto)]
 
-pub mod first_refusals;
-pub mod locations;
-
 ghost use Rattle.std.specs.Prelude.{◌≡◌};
-ghost use Rattle.answers.specs.Answers.{number_of};
+ghost use Rattle.answers.specs.Answers.{number_of, location_of};
 
-// The answer: acceptance, or the first refusal and its location.
-#[derive(Clone, Copy)]
-pub enum Answer {
-    Accepted,
+// A refusal, at its location.
+#[derive(Clone, Copy, Debug, PartialEq, Eq)]
+pub enum Refusal {
     // At the record's offset; OverLimit of a certificate at its index.
     RecordIncomplete(usize),
     RecordMisshapen(usize),
@@ -40,31 +37,60 @@ pub enum Answer {
     LineFaulty(usize),
 }
 
-// The number of a refusal, 0 for acceptance.
-pub fn number(answer: Answer) -> u64
-    ensures { result ≡ number_of answer }
-{
-    match answer {
-        Answer::Accepted => 0,
-        Answer::RecordIncomplete(_) => 1,
-        Answer::RecordMisshapen(_) => 2,
-        Answer::CellUnlisted(_) => 3,
-        Answer::Repeated(_) => 4,
-        Answer::PathBesideFlat(_) => 12,
-        Answer::AmendmentRepeated(_) => 16,
-        Answer::OverLimit(_) => 5,
-        Answer::TiersUnsound(_) => 11,
-        Answer::SheetMissing(_) => 6,
-        Answer::LiborMissing(_) => 18,
-        Answer::CouponOutsideClass(_) => 19,
-        Answer::MonthsOutsideRow(_) => 7,
-        Answer::AboveColumnSum(_) => 8,
-        Answer::TotalDiffers(_) => 9,
-        Answer::ListTooShort(_) => 10,
-        Answer::NoSuchDay(_) => 13,
-        Answer::NotOutstanding(_) => 14,
-        Answer::TooManyMonths(_) => 15,
-        Answer::OutsidePlaceLimits(_) => 17,
-        Answer::LineFaulty(_) => 21,
+impl Refusal {
+    // The paper's number of the refusal.
+    pub fn number(self) -> u64
+        ensures { result ≡ number_of self }
+    {
+        match self {
+            Refusal::RecordIncomplete(_) => 1,
+            Refusal::RecordMisshapen(_) => 2,
+            Refusal::CellUnlisted(_) => 3,
+            Refusal::Repeated(_) => 4,
+            Refusal::PathBesideFlat(_) => 12,
+            Refusal::AmendmentRepeated(_) => 16,
+            Refusal::OverLimit(_) => 5,
+            Refusal::TiersUnsound(_) => 11,
+            Refusal::SheetMissing(_) => 6,
+            Refusal::LiborMissing(_) => 18,
+            Refusal::CouponOutsideClass(_) => 19,
+            Refusal::MonthsOutsideRow(_) => 7,
+            Refusal::AboveColumnSum(_) => 8,
+            Refusal::TotalDiffers(_) => 9,
+            Refusal::ListTooShort(_) => 10,
+            Refusal::NoSuchDay(_) => 13,
+            Refusal::NotOutstanding(_) => 14,
+            Refusal::TooManyMonths(_) => 15,
+            Refusal::OutsidePlaceLimits(_) => 17,
+            Refusal::LineFaulty(_) => 21,
+        }
+    }
+
+    // The location of the refusal: the record's offset, the cell, the certificate, the place, the price line, or the length of what is too short.
+    pub fn location(self) -> usize
+        ensures { result ≡ location_of self }
+    {
+        match self {
+            Refusal::RecordIncomplete(at) => at,
+            Refusal::RecordMisshapen(at) => at,
+            Refusal::CellUnlisted(at) => at,
+            Refusal::Repeated(at) => at,
+            Refusal::PathBesideFlat(at) => at,
+            Refusal::AmendmentRepeated(at) => at,
+            Refusal::OverLimit(at) => at,
+            Refusal::TiersUnsound(at) => at,
+            Refusal::SheetMissing(size) => size,
+            Refusal::LiborMissing(size) => size,
+            Refusal::CouponOutsideClass(cell) => cell,
+            Refusal::MonthsOutsideRow(cell) => cell,
+            Refusal::AboveColumnSum(cell) => cell,
+            Refusal::TotalDiffers(cell) => cell,
+            Refusal::ListTooShort(size) => size,
+            Refusal::NoSuchDay(certificate) => certificate,
+            Refusal::NotOutstanding(certificate) => certificate,
+            Refusal::TooManyMonths(certificate) => certificate,
+            Refusal::OutsidePlaceLimits(place) => place,
+            Refusal::LineFaulty(line) => line,
+        }
     }
 }

@@ -1,15 +1,17 @@
 -- A list of changes made in turn on the book that a filing opens (02:CR 7). Definitions only.
-use Rattle.std.specs.Prelude.{ℕ, ◌+◌, ◌*◌, ◌/◌, ◌≡◌, Bool, cond, not, ◌&&◌, List, eqb, length, get_or}
+use Rattle.std.specs.Prelude.{ℕ, ◌+◌, ◌*◌, ◌/◌, ◌≡◌, Bool, cond, not, ◌&&◌, Result, Ok, Err, IfOk, List, eqb, length, get_or}
 use Rattle.lists.specs.Ranges.{first_from}
 use Rattle.lists.specs.Tables.{table}
+use Rattle.answers.specs.declared.Refusal.{Refusal}
 use Rattle.answers.specs.Answers.{verdict_of}
-use Rattle.answers.specs.Verdict.{Verdict, accepted, first_refusal, first_of}
+use Rattle.answers.specs.Verdict.{Verdict, first_refusal, first_of}
 use Rattle.filing.specs.Verdict.{filing_verdict}
 use Rattle.book_state.specs.declared.Book.{Book}
 use Rattle.book_promise.specs.Books.{opened_book}
 use Rattle.book_promise.specs.Changes.{Change, set_place, clear_place, neither_at, change_verdict, book_after_all}
 use Rattle.book_promise.specs.Promise.{Kept}
 use Rattle.book_calls.specs.declared.book_changes.Changed.{Changed}
+use Rattle.book_calls.specs.declared.book_changes.NotChanged.{NotChanged}
 
 -- nothing is given for a place: balance, coupon, months and penalty are 0
 unfoldable pub leaves_nothing : ℕ → ℕ → ℕ → ℕ → Bool
@@ -49,16 +51,21 @@ refused_change l k = not (eqb (change_verdict (change_at l k)).number 0)
 unfoldable pub changes_made : List ℕ → ℕ
 changes_made l = first_from 0 (change_count l) (refused_change l)
 
--- the book after the changes; with one of them refused, as it was
-unfoldable pub book_with : Book → List ℕ → Book
-book_with b l = cond (eqb (changes_verdict l).number 0) (book_after_all b (changes_of l)) b
+-- what is answered on a list of changes, without the count of those made; and that count
+abbrev pub answer_on : {A : Type 0} → Result A NotChanged → Result A Refusal
+answer_on (Ok x) = Ok x
+answer_on (Err n) = Err n.refusal
 
--- what a list of changes does to a book
-pub record ChangedAll (before : Book) (l : List ℕ) (r : Changed) : Type 0 where
-  pub answer-is : verdict_of r.answer ≡ changes_verdict l
-  pub book-is : r.book ≡ book_with before l
-  pub made-is : r.made ≡ changes_made l
-  pub kept : (s : List ℕ) → Kept s before → Kept s r.book
+abbrev pub made_by : {A : Type 0} → (A → ℕ) → Result A NotChanged → ℕ
+made_by made (Ok x) = made x
+made_by made (Err n) = n.made
+
+-- what a list of changes does to a book: the answer, how many are made, and where none is refused the book after them all, which stays kept
+pub record ChangedAll (before : Book) (l : List ℕ) (r : Result ℕ NotChanged) (after : Book) : Type 0 where
+  pub answer-is : verdict_of (answer_on r) ≡ changes_verdict l
+  pub made-is : made_by (λ (k : ℕ). k) r ≡ changes_made l
+  pub book-is : IfOk r (λ k. after ≡ book_after_all before (changes_of l))
+  pub kept : IfOk r (λ k. (s : List ℕ) → Kept s before → Kept s after)
 
 -- the refusal of the filing, then those of the changes in turn
 unfoldable pub book_verdict : List ℕ → List ℕ → Verdict
@@ -68,9 +75,9 @@ book_verdict s l = first_refusal (filing_verdict s) (changes_verdict l)
 unfoldable pub made_of : List ℕ → List ℕ → ℕ
 made_of s l = cond (eqb (filing_verdict s).number 0) (changes_made l) 0
 
--- what is answered on a filing s and a list of changes l: the first refusal, or the book, which is kept
-pub record BookOf (s l : List ℕ) (r : Changed) : Type 0 where
-  pub answer-is : verdict_of r.answer ≡ book_verdict s l
-  pub book-is : r.book ≡ cond (eqb (book_verdict s l).number 0) (book_after_all (opened_book s) (changes_of l)) (opened_book s)
-  pub made-is : r.made ≡ made_of s l
-  pub kept : verdict_of r.answer ≡ accepted → Kept s r.book
+-- what is answered on a filing s and a list of changes l: the first refusal with the count of those made, or the book after them all, which is kept
+pub record BookOf (s l : List ℕ) (r : Result Changed NotChanged) : Type 0 where
+  pub answer-is : verdict_of (answer_on r) ≡ book_verdict s l
+  pub made-is : made_by (λ (c : Changed). c.made) r ≡ made_of s l
+  pub book-is : IfOk r (λ c. c.book ≡ book_after_all (opened_book s) (changes_of l))
+  pub kept : IfOk r (λ c. Kept s c.book)

@@ -4,65 +4,58 @@ ghost use Rattle.book_promise.specs.Promise.{ChangedOf};
 ghost use Rattle.book_calls.specs.Changing.{leaves_nothing, clears, change_of, change_count, change_at, ChangedAll, BookOf};
 
 use crate::{clear, open, set};
-use answers::{Answer, number};
-use book_state::{Answered, Book, refusal};
+use answers::Refusal;
+use book_state::Book;
 
-// The answer on a list of changes, the book after it, and how many changes were made before the answer.
+// The book after a list of changes, and how many were made.
 #[derive(Clone, Copy)]
 pub struct Changed {
-    pub answer: Answer,
     pub book: Book,
     pub made: usize,
 }
 
-// Opens a book from a filing and makes the changes of a list in turn. A change is six numbers: 0 to set a place or 1 to clear it, the place, then balance,
-// coupon, months and penalty as `set` takes them, or 0 each. Only whole changes count. The first refusal answers, and leaves the book as it was opened.
-pub fn book_of(filing: &[u8], changes: &[u64]) -> Changed
-    ensures changed { BookOf filing.now changes.now result }
-{
-    let opened = open(filing);
-    let answer = opened.answer;
-    let book = opened.book;
-    if number(answer) != 0 {
-        return Changed {
-            answer,
-            book,
-            made: 0,
-        };
-    }
-    change_all(book, changes)
+// Why the changes of a list are not made: the first refusal, of the filing or of a change, and how many changes were made before it.
+#[derive(Clone, Copy, Debug, PartialEq, Eq)]
+pub struct NotChanged {
+    pub refusal: Refusal,
+    pub made: usize,
 }
 
-// The changes in turn.
-fn change_all(opened: Book, changes: &[u64]) -> Changed
-    ensures { ChangedAll opened changes.now result }
+impl From<Refusal> for NotChanged {
+    ghost from_gives = { λ refusal none. none ≡ record { refusal = refusal; made = 0 } };
+
+    fn from(refusal: Refusal) -> NotChanged {
+        NotChanged { refusal, made: 0 }
+    }
+}
+
+// Opens a book from a filing and makes the changes of a list in turn. A change is six numbers: 0 to set a place or 1 to clear it, the place, then balance,
+// coupon, months and penalty as `set` takes them, or 0 each. Only whole changes count. The first refusal answers.
+pub fn book_of(filing: &[u8], changes: &[u64]) -> Result<Changed, NotChanged>
+    ensures changed { BookOf filing.now changes.now result }
 {
-    let mut book = opened;
-    let mut k: usize = 0;
-    while k < changes.len() / 6 {
-        let done = change_at(book, changes, k);
-        let answer = done.answer;
-        if number(answer) != 0 {
-            return Changed {
-                answer,
-                book: opened,
-                made: k,
-            };
+    let mut book = open(filing)?;
+    let made = change_all(&mut book, changes)?;
+    Ok(Changed { book, made })
+}
+
+// The changes in turn, up to the first that is refused: how many were made.
+fn change_all(book: &mut Book, changes: &[u64]) -> Result<usize, NotChanged>
+    ensures { ChangedAll book.old changes.now result book.new }
+{
+    let count = changes.len() / 6;
+    for k in 0..count {
+        if let Err(refusal) = change_at(book, changes, k) {
+            return Err(NotChanged { refusal, made: k });
         }
-        book = done.book;
-        k += 1;
     }
-    Changed {
-        answer: Answer::Accepted,
-        book,
-        made: k,
-    }
+    Ok(count)
 }
 
 // Change k of the list.
-fn change_at(book: Book, changes: &[u64], k: usize) -> Answered
+fn change_at(book: &mut Book, changes: &[u64], k: usize) -> Result<(), Refusal>
     requires { k < change_count changes.now }
-    ensures { ChangedOf book (change_at changes.now k) result }
+    ensures { ChangedOf book.old (change_at changes.now k) result book.new }
 {
     let at = 6 * k;
     change(
@@ -78,15 +71,15 @@ fn change_at(book: Book, changes: &[u64], k: usize) -> Answered
 
 // The change that six numbers mean.
 fn change(
-    book: Book,
+    book: &mut Book,
     action: u64,
     place: u64,
     balance: u64,
     coupon: u64,
     months: u64,
     penalty: u64,
-) -> Answered
-    ensures { ChangedOf book (change_of action place balance coupon months penalty) result }
+) -> Result<(), Refusal>
+    ensures { ChangedOf book.old (change_of action place balance coupon months penalty) result book.new }
 {
     if clears(action, balance, coupon, months, penalty) {
         return clear(book, place as usize);
@@ -94,31 +87,21 @@ fn change(
     if action == 0 {
         return set(book, place as usize, balance, coupon, months, penalty);
     }
-    refusal(book, place as usize)
+    Err(Refusal::OutsidePlaceLimits(place as usize))
 }
 
 // A place is to be cleared, with nothing besides.
+#[tactic(auto, unfolding(crate::specs::Changing::clears))]
 fn clears(action: u64, balance: u64, coupon: u64, months: u64, penalty: u64) -> bool
     ensures { result ≡ clears action balance coupon months penalty }
 {
-    if action != 1 {
-        return false;
-    }
-    leaves_nothing(balance, coupon, months, penalty)
+    action == 1 && leaves_nothing(balance, coupon, months, penalty)
 }
 
 // Balance, coupon, months and penalty are all 0.
+#[tactic(auto, unfolding(crate::specs::Changing::leaves_nothing))]
 fn leaves_nothing(balance: u64, coupon: u64, months: u64, penalty: u64) -> bool
     ensures { result ≡ leaves_nothing balance coupon months penalty }
 {
-    if balance != 0 {
-        return false;
-    }
-    if coupon != 0 {
-        return false;
-    }
-    if months != 0 {
-        return false;
-    }
-    penalty == 0
+    balance == 0 && coupon == 0 && months == 0 && penalty == 0
 }

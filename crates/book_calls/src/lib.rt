@@ -12,9 +12,9 @@ ghost use Rattle.book_state.specs.BookPlaces.{empty_under};
 ghost use Rattle.book_promise.specs.Changes.{set_place, clear_place};
 ghost use Rattle.book_promise.specs.Promise.{OpenedOf, ChangedOf};
 
-use answers::Answer;
+use answers::Refusal;
 use book_limits::fits;
-use book_state::{Answered, Book, empty_book, refusal, with_place};
+use book_state::{Book, empty_book, put_place};
 use book_values::values_in;
 use filing::read;
 use filing_contents::FiledTiers;
@@ -23,32 +23,32 @@ use form::limits::{MONTHS_LIMIT, RATES, RATES_START, SHEET_MONTHS, SHEET_NUMBERS
 use form::sub_balances::{NO_PLACE, PLACE_VALUES, SUB_BALANCES, SubBalance};
 use price_deposits::RatePaths;
 use price_factors::{FACTORS, fill_factors};
+use pricing::Bounds;
 
 // Opens an empty book under the sheets and tiers of a filing. A refused filing is refused as `read` refuses it.
-pub fn open(filing: &[u8]) -> Answered
+pub fn open(filing: &[u8]) -> Result<Book, Refusal>
     ensures opened { OpenedOf filing.now result }
 {
     let mut cells = [0; CELLS];
     let mut sheets = [0; SHEET_NUMBERS];
-    let reading = read(filing, &mut cells, &mut sheets);
-    let tiers = reading.tiers;
-    let answer = reading.answer;
-    let book = book_under(&sheets, tiers);
-    Answered { answer, book }
+    let reading = read(filing, &mut cells, &mut sheets)?;
+    Ok(book_under(&sheets, reading.tiers))
 }
 
 // An empty book under the numbers of a filing's sheets, and tiers.
 fn book_under(sheets: &[u16; SHEET_NUMBERS], tiers: FiledTiers) -> Book
     requires { WithinRates (yields_in sheets.now) }
-    ensures { result ≡ empty_under (rates_in sheets.now) tiers (factors_by down (yields_in sheets.now) months_limit) (factors_by up (yields_in sheets.now) months_limit) }
+    ensures { result ≡ empty_under (rates_in sheets.now) tiers (record { lower = factors_by down (yields_in sheets.now) months_limit; upper = factors_by up (yields_in sheets.now) months_limit }) }
 {
     let numbers: &[u16] = sheets;
     let yields = &numbers[YIELDS_START..YIELDS_START + SHEET_MONTHS];
     let rates = held_rates(&numbers[RATES_START..RATES_START + RATES]);
-    let mut lower = [0u64; FACTORS];
-    let mut upper = [0u64; FACTORS];
-    fill_factors(yields, MONTHS_LIMIT, &mut lower, &mut upper);
-    empty_book(rates, tiers, lower, upper)
+    let mut factors = Bounds {
+        lower: [0; FACTORS],
+        upper: [0; FACTORS],
+    };
+    fill_factors(yields, MONTHS_LIMIT, &mut factors.lower, &mut factors.upper);
+    empty_book(rates, tiers, factors)
 }
 
 // A part with as many numbers as there are retail rates, as the book keeps them.
@@ -57,30 +57,25 @@ fn held_rates(part: &[u16]) -> RatePaths
     ensures { result ≡ part.now }
 {
     let mut rates = [0; RATES];
-    let mut i: usize = 0;
-    while i < RATES {
-        rates[i] = part[i];
-        i += 1;
-    }
+    rates.copy_from_slice(part);
     rates
 }
 
-// Sets a place: balance in thousands of dollars, coupon in thousandths of a percent a year, remaining months, penalty in hundredths of a month. The
+// Sets a place of the book: balance in thousands of dollars, coupon in thousandths of a percent a year, remaining months, penalty in hundredths of a month. The
 // place is valued and the totals move by the difference; a refusal alters nothing.
 pub fn set(
-    book: Book,
+    book: &mut Book,
     place: usize,
     balance: u64,
     coupon: u64,
     months: u64,
     penalty: u64,
-) -> Answered
-    ensures changed { ChangedOf book (set_place place balance coupon months penalty) result }
+) -> Result<(), Refusal>
+    ensures changed { ChangedOf book.old (set_place place balance coupon months penalty) result book.new }
 {
     if !fits(place, balance, coupon, months, penalty) {
-        return refusal(book, place);
+        return Err(Refusal::OutsidePlaceLimits(place));
     }
-    let tiers = book.tiers;
     let held = SubBalance {
         balance,
         coupon,
@@ -88,7 +83,8 @@ pub fn set(
         penalty,
         values: [0; PLACE_VALUES],
     };
-    let values = values_in(held, place, &book.rates, tiers, &book.lower, &book.upper);
+    let tiers = book.tiers;
+    let values = values_in(held, place, &book.rates, tiers, &book.factors);
     let valued = SubBalance {
         balance,
         coupon,
@@ -96,21 +92,17 @@ pub fn set(
         penalty,
         values,
     };
-    Answered {
-        answer: Answer::Accepted,
-        book: with_place(book, place, valued),
-    }
+    put_place(book, place, valued);
+    Ok(())
 }
 
-// Clears a place to all 0. A place above 35 is refused, and alters nothing.
-pub fn clear(book: Book, place: usize) -> Answered
-    ensures changed { ChangedOf book (clear_place place) result }
+// Clears a place of the book to all 0. A place above 35 is refused, and alters nothing.
+pub fn clear(book: &mut Book, place: usize) -> Result<(), Refusal>
+    ensures changed { ChangedOf book.old (clear_place place) result book.new }
 {
     if SUB_BALANCES <= place {
-        return refusal(book, place);
+        return Err(Refusal::OutsidePlaceLimits(place));
     }
-    Answered {
-        answer: Answer::Accepted,
-        book: with_place(book, place, NO_PLACE),
-    }
+    put_place(book, place, NO_PLACE);
+    Ok(())
 }

@@ -8,7 +8,8 @@ use form::limits::{BALANCE_LIMIT, COUPON_LIMIT, PENALTY_LIMIT};
 use form::positions::{position, within_row};
 use form::sub_balances::SUB_BALANCES;
 
-// A place from 0 to 35 takes a balance, a coupon, months of its row and a penalty.
+// A place from 0 to 35 takes a balance, a coupon, months of its row and a penalty. Guards in place of one chain of `&&`, whose proof did not close: where the
+// chain's values join, a test that failed is no longer named.
 #[tactic(auto, unfolding(crate::specs::PlaceLimits::fits_place))]
 pub fn fits(place: usize, balance: u64, coupon: u64, months: u64, penalty: u64) -> bool
     ensures { result ≡ fits_place place balance coupon months penalty }

@@ -7,16 +7,16 @@ use mathlib.Core.List.{List, [], ◌∷◌}
 use native.Mathlib.Omega.{arith}
 use borrow.Author.Tests.{ltb-true}
 use Rattle.form.specs.PlaceOrder.{sub_balance_count}
-use Rattle.answers.specs.declared.Answer.TheVariants.{Accepted, OutsidePlaceLimits}
-use Rattle.answers.specs.Answers.{verdict_of}
-use Rattle.answers.specs.Verdict.{Verdict, accepted, refused, refused_if}
+use Rattle.std.specs.Prelude.{Ok, Err}
+use Rattle.answers.specs.declared.Refusal.{Refusal}
+use Rattle.answers.specs.declared.Refusal.TheVariants.{OutsidePlaceLimits}
+use Rattle.answers.specs.Verdict.{Verdict, accepted, refused_if}
 use Rattle.filing_contents.specs.Contents.{Contents}
 use Rattle.filing_decode.specs.Contents.{contents_of}
 use Rattle.filing.specs.Verdict.{filing_verdict}
 use Rattle.filing.proofs.ReadLaws.{accepted-contents}
 use Rattle.filing.proofs.AcceptedLaws.{accepted-valid}
 use Rattle.book_state.specs.declared.Book.{Book}
-use Rattle.book_state.specs.declared.Answered.{Answered}
 use Rattle.book_state.specs.BookPlaces.{with_place}
 use Rattle.book_promise.specs.Books.{empty_book, opened_book}
 use Rattle.book_promise.specs.Changes.{Change, set_place, clear_place, neither_at, changed_place, fits_change, held_after, change_verdict, book_after, book_after_all}
@@ -68,17 +68,16 @@ unfolding BookPromise
 book-promise s a changes = all-kept s (opened_book s) (opened-kept s a) changes
 
 -- the two ways out of a change: refused, the book as it was; or taken
-module _ (b : Book) (c : Change) (r : Answered) where
-  pub change-refused : fits_change c ≡ false → r.answer ≡ OutsidePlaceLimits (changed_place c) → r.book ≡ b → ChangedOf b c r
-  unfolding change_verdict refused_if refused verdict_of book_after
-  change-refused h answer book =
-      record { answer-is = rw (answer, h); book-is = rw h book; kept = λ s kept. rw book kept }
+module _ (b : Book) (c : Change) where
+  pub change-refused : fits_change c ≡ false → (r : Refusal) → r ≡ OutsidePlaceLimits (changed_place c) → ChangedOf {A = Unit {0}} b c (Err r) b
+  unfolding change_verdict refused_if book_after
+  change-refused h r is = record { answer-is = rw (is, h); book-is = rw h; kept = λ s kept. kept }
 
-  pub change-taken : fits_change c ≡ true → r.answer ≡ Accepted → r.book ≡ with_place b (changed_place c) (held_after b c) → ChangedOf b c r
-  unfolding change_verdict refused_if accepted verdict_of book_after
-  change-taken h answer book =
+  pub change-taken : fits_change c ≡ true → (after : Book) → after ≡ with_place b (changed_place c) (held_after b c) → ChangedOf {A = Unit {0}} b c (Ok tt) after
+  unfolding change_verdict refused_if book_after
+  change-taken h after book =
       record {
-        answer-is = rw (answer, h);
+        answer-is = rw h;
         book-is = rw h book;
         kept = λ s kept. rw book (subst (λ (t : Bool). Kept s (cond t (with_place b (changed_place c) (held_after b c)) b)) h (after_kept s b kept c));
       }

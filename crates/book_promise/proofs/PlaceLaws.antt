@@ -105,7 +105,7 @@ module _ (place balance coupon months penalty : ℕ) (fits : fits_place place ba
 
   module _ (k : Contents) (b : Book) (u : Under k b) where
     -- its values in the book are those under the filing
-    values-filed : values_under b.rates b.tiers b.lower b.upper place (unvalued balance coupon months penalty)
+    values-filed : values_under b.rates b.tiers b.factors.lower b.factors.upper place (unvalued balance coupon months penalty)
         ≡ values_held k place (unvalued balance coupon months penalty)
     unfolding values_under
     values-filed =

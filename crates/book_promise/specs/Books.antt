@@ -20,7 +20,7 @@ filing_factors ρ k =
 
 -- the empty book under what a filing says: its rates, its tiers, and its lower and upper discount factors
 unfoldable pub empty_book : Contents → Book
-empty_book k = empty_under k.rates k.tiers (filing_factors down k) (filing_factors up k)
+empty_book k = empty_under k.rates k.tiers (record { lower = filing_factors down k; upper = filing_factors up k })
 
 -- the book that a filing's bytes open; those of a refused filing open the book of a filing that says nothing
 unfoldable pub opened_book : List ℕ → Book
@@ -34,5 +34,5 @@ valued_in b place held =
       coupon = held.coupon;
       remaining_months = held.remaining_months;
       penalty = held.penalty;
-      values = values_under b.rates b.tiers b.lower b.upper place held;
+      values = values_under b.rates b.tiers b.factors.lower b.factors.upper place held;
     }

@@ -1,8 +1,9 @@
 -- What a book promises at every moment (02:CR 7): the record that opening establishes and every change keeps, and so any sequence of changes.
 -- Balances in thousands of dollars, values and totals in dollars. Definitions only.
-use Rattle.std.specs.Prelude.{ℕ, ◌+◌, ◌*◌, ◌<◌, ◌≡◌, List, get_or}
+use Rattle.std.specs.Prelude.{ℕ, ◌+◌, ◌*◌, ◌<◌, ◌≡◌, Result, IfOk, List, get_or}
 use Rattle.lists.specs.Sums.{sum_where, everywhere}
 use Rattle.fraction.specs.Fraction.{Fraction}
+use Rattle.answers.specs.declared.Refusal.{Refusal}
 use Rattle.answers.specs.Answers.{verdict_of}
 use Rattle.answers.specs.Verdict.{accepted}
 use Rattle.filing_decode.specs.Contents.{contents_of}
@@ -12,7 +13,6 @@ use Rattle.form.specs.Shift.{scenario_count}
 use Rattle.pricing.specs.EnclosedValues.{EnclosedValues, EnclosedTotal}
 use Rattle.value_places.specs.HeldValues.{exact_held}
 use Rattle.book_state.specs.declared.Book.{Book}
-use Rattle.book_state.specs.declared.Answered.{Answered}
 use Rattle.book_state.specs.BookPlaces.{held_in}
 use Rattle.book_promise.specs.Books.{opened_book}
 use Rattle.book_promise.specs.Changes.{Change, change_verdict, book_after, book_after_all}
@@ -51,17 +51,17 @@ pub record Kept (s : List ℕ) (b : Book) : Type 0 where
   pub short-encloses : EnclosedTotal is_short sub_balance_count (exact_in s b) (total_in b 0) (total_in b 1)
   pub long-encloses : EnclosedTotal is_long sub_balance_count (exact_in s b) (total_in b 2) (total_in b 3)
 
--- opening: the answer is that on the filing, and the book of an accepted one is kept
-pub record OpenedOf (s : List ℕ) (r : Answered) : Type 0 where
-  pub answer-is : verdict_of r.answer ≡ filing_verdict s
-  pub book-is : r.book ≡ opened_book s
-  pub kept : verdict_of r.answer ≡ accepted → Kept s r.book
+-- opening: the answer is that on the filing, and the book of an accepted one is the one that its bytes open, and kept
+pub record OpenedOf (s : List ℕ) (r : Result Book Refusal) : Type 0 where
+  pub answer-is : verdict_of r ≡ filing_verdict s
+  pub book-is : IfOk r (λ b. b ≡ opened_book s)
+  pub kept : IfOk r (Kept s)
 
 -- a change: the answer, the whole book after it, and that it stays kept
-pub record ChangedOf (before : Book) (c : Change) (r : Answered) : Type 0 where
-  pub answer-is : verdict_of r.answer ≡ change_verdict c
-  pub book-is : r.book ≡ book_after before c
-  pub kept : (s : List ℕ) → Kept s before → Kept s r.book
+pub record ChangedOf {A : Type 0} (before : Book) (c : Change) (answer : Result A Refusal) (after : Book) : Type 0 where
+  pub answer-is : verdict_of answer ≡ change_verdict c
+  pub book-is : after ≡ book_after before c
+  pub kept : (s : List ℕ) → Kept s before → Kept s after
 
 -- the promise over any sequence of changes from the opening
 unfoldable pub BookPromise : Type 0

@@ -21,8 +21,8 @@ pub record Under (k : Contents) (b : Book) : Type 0 where
   pub valid : Valid k
   pub rates-are : b.rates ≡ k.rates
   pub tiers-are : b.tiers ≡ k.tiers
-  pub lower-is : b.lower ≡ filing_factors down k
-  pub upper_is : b.upper ≡ filing_factors up k
+  pub lower-is : b.factors.lower ≡ filing_factors down k
+  pub upper_is : b.factors.upper ≡ filing_factors up k
 
 -- a deposit that the place takes: a balance from 1 to its limit, a coupon within its limit, months of the row of the place's cell, a penalty within its
 -- limit, 0 at a place without; with the values that it has under the filing

@@ -5,20 +5,20 @@ use Rattle.form.specs.declared.sub_balances.SubBalance.{SubBalance}
 use Rattle.form.specs.PlaceOrder.{sub_balance_count}
 use Rattle.form.specs.Places.{no_place, place_in}
 use Rattle.form.specs.Counts.{total_count}
+use Rattle.pricing.specs.declared.Bounds.{Bounds}
 use Rattle.book_totals.specs.KeptTotals.{moved, totals_after}
 use Rattle.book_state.specs.declared.Book.{Book}
 
 -- an empty book under rates, tiers and discount factors
-abbrev pub empty_under : List ℕ → FiledTiers → List ℕ → List ℕ → Book
-empty_under rates tiers lower upper =
+abbrev pub empty_under : List ℕ → FiledTiers → Bounds (List ℕ) → Book
+empty_under rates tiers factors =
     record {
       places = replicate sub_balance_count no_place;
       balance = 0;
       totals = replicate total_count 0;
       rates = rates;
       tiers = tiers;
-      lower = lower;
-      upper = upper;
+      factors = factors;
     }
 
 -- what the book holds at a place
@@ -34,6 +34,5 @@ with_place b place held =
       totals = totals_after b.totals place (held_in b place).values held.values;
       rates = b.rates;
       tiers = b.tiers;
-      lower = b.lower;
-      upper = b.upper;
+      factors = b.factors;
     }

@@ -2,16 +2,15 @@
 #![tactic(auto)]
 
 ghost use Rattle.std.specs.Prelude.{◌≡◌, ◌<◌};
-ghost use Rattle.answers.specs.declared.Answer.TheVariants.{OutsidePlaceLimits};
 ghost use Rattle.form.specs.PlaceOrder.{sub_balance_count};
 ghost use Rattle.book_state.specs.BookPlaces.{empty_under, with_place};
 
-use answers::Answer;
 use book_totals::{moved, totals_after};
 use filing_contents::FiledTiers;
 use form::sub_balances::{NO_PLACE, SUB_BALANCES, SubBalance, TOTALS};
 use price_deposits::RatePaths;
 use price_factors::FactorTable;
+use pricing::Bounds;
 
 // The thirty-six places, the sum of their balances in thousands of dollars, and the totals in dollars: short lower, short upper, long lower and long
 // upper by scenario. Then the filing that the book was opened from: its retail rates in hundredths of a percent a year, its tiers, and the lower and
@@ -23,25 +22,12 @@ pub struct Book {
     pub totals: [u64; TOTALS],
     pub rates: RatePaths,
     pub tiers: FiledTiers,
-    pub lower: FactorTable,
-    pub upper: FactorTable,
-}
-
-// The answer on a call, and the book after it.
-#[derive(Clone, Copy)]
-pub struct Answered {
-    pub answer: Answer,
-    pub book: Book,
+    pub factors: Bounds<FactorTable>,
 }
 
 // An empty book under rates, tiers and discount factors.
-pub fn empty_book(
-    rates: RatePaths,
-    tiers: FiledTiers,
-    lower: FactorTable,
-    upper: FactorTable,
-) -> Book
-    ensures { result ≡ empty_under rates tiers lower upper }
+pub fn empty_book(rates: RatePaths, tiers: FiledTiers, factors: Bounds<FactorTable>) -> Book
+    ensures { result ≡ empty_under rates tiers factors }
 {
     Book {
         places: [NO_PLACE; SUB_BALANCES],
@@ -49,33 +35,18 @@ pub fn empty_book(
         totals: [0; TOTALS],
         rates,
         tiers,
-        lower,
-        upper,
+        factors,
     }
 }
 
-// A refused change: the book as it was.
-pub fn refusal(book: Book, place: usize) -> Answered
-    ensures { (result.answer ≡ OutsidePlaceLimits place) × (result.book ≡ book) }
-{
-    Answered {
-        answer: Answer::OutsidePlaceLimits(place),
-        book,
-    }
-}
-
-// The book with something else at a place: the totals lose what the old values had and gain the new ones.
-pub fn with_place(book: Book, place: usize, held: SubBalance) -> Book
+// Puts something else at a place of the book: the totals lose what the old values had and gain the new ones.
+pub fn put_place(book: &mut Book, place: usize, held: SubBalance)
     requires { place < sub_balance_count }
-    ensures { result ≡ with_place book place held }
+    ensures { book.new ≡ with_place book.old place held }
 {
     let old = book.places[place];
-    let old_values = old.values;
-    let values = held.values;
-    let totals = totals_after(&book.totals, place, &old_values, &values);
-    let mut after = book;
-    after.places[place] = held;
-    after.balance = moved(book.balance, old.balance, held.balance);
-    after.totals = totals;
-    after
+    let totals = totals_after(&book.totals, place, &old.values, &held.values);
+    book.balance = moved(book.balance, old.balance, held.balance);
+    book.totals = totals;
+    book.places[place] = held;
 }

@@ -1,7 +1,7 @@
 // The totals of a book, moved by the difference of a place's values.
 #![tactic(auto)]
 
-ghost use Rattle.std.specs.Prelude.{◌≡◌, ◌-◌, ◌<◌};
+ghost use Rattle.std.specs.Prelude.{◌≡◌, ◌<◌};
 ghost use Rattle.form.specs.Counts.{total_count};
 ghost use Rattle.book_totals.specs.KeptTotals as kept;
 ghost use Rattle.book_totals.specs.KeptTotals.{sums_place, total_after, totals_after};
@@ -18,13 +18,7 @@ pub fn totals_after(
 ) -> [u64; TOTALS]
     ensures { result ≡ totals_after totals.now place old.now new.now }
 {
-    let mut after = [0u64; TOTALS];
-    let mut i: usize = 0;
-    while i < TOTALS {
-        after[i] = total_after(totals[i], place, old, new, i);
-        i += 1;
-    }
-    after
+    std::array::from_fn(|i| total_after(totals[i], place, old, new, i))
 }
 
 // Total i of the twenty-eight: short lower, short upper, long lower, long upper by scenario.
@@ -58,16 +52,5 @@ fn sums_place(i: usize, place: usize) -> bool
 pub fn moved(total: u64, old: u64, new: u64) -> u64
     ensures { result ≡ kept.moved total old new }
 {
-    let left = less(total, old);
-    if 18_446_744_073_709_551_615 - new < left {
-        return 18_446_744_073_709_551_615;
-    }
-    left + new
-}
-
-// What is left of a total, at least 0.
-fn less(total: u64, old: u64) -> u64
-    ensures { result ≡ total - old }
-{
-    if total < old { 0 } else { total - old }
+    total.saturating_sub(old).saturating_add(new)
 }

@@ -15,50 +15,37 @@ use filing_contents::FiledTiers;
 use form::limits::{RATE_LIMIT, TERM_MONTHS, TIER_LIMIT, WITHDRAWAL_LIMIT};
 use form::sub_balances::{PLACE_VALUES, SCENARIOS, SubBalance};
 use price_deposits::RatePaths;
-use price_factors::{FACTORS, FactorTable};
+use price_factors::FactorTable;
 use price_multipliers::discount_tables::to_multipliers;
-use pricing::PAR;
+use pricing::{Bounds, PAR};
 use value_places::place_row::held_values;
 use withdrawal_filing::tiers_of;
 
 // Lower and upper value in each scenario of what a place holds, in dollars. They are 0 under sheets that no filing has.
-pub fn values_in<'a>(
+pub fn values_in(
     held: SubBalance,
     place: usize,
-    rates: &'a RatePaths,
+    rates: &RatePaths,
     tiers: FiledTiers,
-    lower: &'a FactorTable,
-    upper: &'a FactorTable,
+    factors: &Bounds<FactorTable>,
 ) -> [u64; PLACE_VALUES]
     requires { (place < sub_balance_count) × (held.balance ≤ balance_limit) × DepositLimits (deposit_at place held) }
-    ensures { result ≡ values_under rates.now tiers lower.now upper.now place held }
+    ensures { result ≡ values_under rates.now tiers factors.now.lower factors.now.upper place held }
 {
-    if !usable(rates, tiers, lower, upper) {
+    if !usable(rates, tiers, factors) {
         return [0; PLACE_VALUES];
     }
     let own = tiers_of(tiers);
-    let mut below = *lower;
-    let mut above = *upper;
-    to_multipliers(&mut below, held.remaining_months, false);
-    to_multipliers(&mut above, held.remaining_months, true);
+    let mut discounts = *factors;
+    to_multipliers(&mut discounts.lower, held.remaining_months, false);
+    to_multipliers(&mut discounts.upper, held.remaining_months, true);
     let mut months = [[0u8; SCENARIOS]; TERM_MONTHS];
-    held_values(
-        held,
-        place,
-        rates,
-        own.count,
-        &own.edges,
-        &own.survivals,
-        own.retained,
-        &below,
-        &above,
-        &mut months,
-    )
+    held_values(held, place, rates, &own, &discounts, &mut months)
 }
 
 // Every rate, tier and factor is within its limit and no upper factor is 0, as those of a filing are.
-fn usable(rates: &RatePaths, tiers: FiledTiers, lower: &FactorTable, upper: &FactorTable) -> bool
-    ensures { result ≡ sheets_usable rates.now tiers lower.now upper.now }
+fn usable(rates: &RatePaths, tiers: FiledTiers, factors: &Bounds<FactorTable>) -> bool
+    ensures { result ≡ sheets_usable rates.now tiers factors.now.lower factors.now.upper }
 {
     if some_above(rates, RATE_LIMIT) {
         return false;
@@ -66,13 +53,13 @@ fn usable(rates: &RatePaths, tiers: FiledTiers, lower: &FactorTable, upper: &Fac
     if !tiers_usable(tiers) {
         return false;
     }
-    if above_par(lower) {
+    if above_par(&factors.lower) {
         return false;
     }
-    if above_par(upper) {
+    if above_par(&factors.upper) {
         return false;
     }
-    !some_zero(upper)
+    !some_zero(&factors.upper)
 }
 
 // No more tiers than a filing may have, of rising edges and annual withdrawals up to their limit.
@@ -95,54 +82,26 @@ fn some_not_rising(edges: &[u16; TIER_LIMIT], count: usize) -> bool
     requires { count ≤ tier_limit }
     ensures { result ≡ any_below (not_rising edges.now) (count - 1) }
 {
-    let mut i: usize = 0;
-    while i + 1 < count {
-        if edges[i + 1] <= edges[i] {
-            return true;
-        }
-        i += 1;
-    }
-    false
+    (0..count.saturating_sub(1)).any(|i| edges[i + 1] <= edges[i])
 }
 
 // One of the numbers is above the limit.
 fn some_above(numbers: &[u16], limit: u16) -> bool
     ensures { result ≡ any_below (above_limit limit numbers.now) (length numbers.now) }
 {
-    let mut i: usize = 0;
-    while i < numbers.len() {
-        if limit < numbers[i] {
-            return true;
-        }
-        i += 1;
-    }
-    false
+    numbers.iter().any(|number| limit < *number)
 }
 
 // One of the factors is above par.
 fn above_par(factors: &[u64]) -> bool
     ensures { result ≡ any_below (above_limit par factors.now) (length factors.now) }
 {
-    let mut i: usize = 0;
-    while i < factors.len() {
-        if PAR < factors[i] {
-            return true;
-        }
-        i += 1;
-    }
-    false
+    factors.iter().any(|factor| PAR < *factor)
 }
 
 // One of the factors is 0.
 fn some_zero(factors: &FactorTable) -> bool
     ensures { result ≡ any_below (is_zero factors.now) factor_count }
 {
-    let mut i: usize = 0;
-    while i < FACTORS {
-        if factors[i] == 0 {
-            return true;
-        }
-        i += 1;
-    }
-    false
+    factors.iter().any(|factor| *factor == 0)
 }

@@ -19,11 +19,6 @@ use Rattle.borrowing_numbers.specs.Inner.Rows.{BorrowingLimits, value_limit, Wit
 use Rattle.borrowing_numbers.proofs.NumberLaws.{rows, totals, rows-length, totals-length, row-lower, row-upper}
 use Rattle.borrowing_numbers.proofs.SizeLaws.{row-le}
 
--- two totals in a scenario
-pub row-totals-length : (list : List ℕ) (scenario : ℕ) → length (row_totals list scenario) ≡ 2
-unfolding row_totals
-row-totals-length list scenario = refl
-
 -- the totals from the rows
 pub totals-are : (cells : List ℕ) (z : ℕ → ℕ → ℕ) (rest : List ℕ) (scenario : ℕ) → scenario < scenario_count
     → row_totals (rows cells z ++ rest) scenario ≡ totals_of cells z scenario

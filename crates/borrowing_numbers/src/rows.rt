@@ -1,5 +1,5 @@
 // The rows of the borrowings, one after the other.
-ghost use Rattle.std.specs.Prelude.{◌≡◌, ◌++◌, ◌≤◌, ◌<◌, max, length, drop};
+ghost use Rattle.std.specs.Prelude.{◌≡◌, ◌++◌, ◌≤◌, ◌<◌, length, drop};
 ghost use Rattle.lists.specs.Tables.{table, joined};
 ghost use Rattle.form.specs.Borrowings.{borrowing_count};
 ghost use Rattle.filing_contents.specs.Contents.{libor_in};
@@ -16,6 +16,7 @@ use form::limits::SHEET_NUMBERS;
 use form::sub_balances::PLACE_NUMBERS;
 use lists::write;
 use price_factors::{FACTORS, FactorTable, fill_factors};
+use pricing::Bounds;
 
 // The fifteen numbers of each borrowing.
 pub(crate) fn write_rows(cells: &[u64; CELLS], sheets: &[u16; SHEET_NUMBERS], list: &mut [u64])
@@ -24,32 +25,27 @@ pub(crate) fn write_rows(cells: &[u64; CELLS], sheets: &[u16; SHEET_NUMBERS], li
 {
     let longest = longest_term(cells);
     let libor = row_used(sheets, PositionKind::Borrowing);
-    let mut lower = [0u64; FACTORS];
-    let mut upper = [0u64; FACTORS];
-    fill_factors(libor, longest, &mut lower, &mut upper);
-    let mut i: usize = 0;
-    while i < BORROWINGS {
-        let row = row_of(cells, i, &lower, &upper);
+    let mut factors = Bounds {
+        lower: [0; FACTORS],
+        upper: [0; FACTORS],
+    };
+    fill_factors(libor, longest, &mut factors.lower, &mut factors.upper);
+    for i in 0..BORROWINGS {
+        let row = row_of(cells, i, &factors);
         write(list, PLACE_NUMBERS * i, &row);
-        i += 1;
     }
 }
 
 // The row of a borrowing by tables of discount factors.
-fn row_of(
-    cells: &[u64; CELLS],
-    i: usize,
-    lower: &FactorTable,
-    upper: &FactorTable,
-) -> [u64; PLACE_NUMBERS]
-    requires { BorrowingLimits cells.now × (i < borrowing_count) × AtMostPar lower.now × AtMostPar upper.now }
-    ensures { result ≡ row_with cells.now lower.now upper.now i }
+fn row_of(cells: &[u64; CELLS], i: usize, factors: &Bounds<FactorTable>) -> [u64; PLACE_NUMBERS]
+    requires { BorrowingLimits cells.now × (i < borrowing_count) × AtMostPar factors.now.lower × AtMostPar factors.now.upper }
+    ensures { result ≡ row_with cells.now factors.now.lower factors.now.upper i }
 {
     let b = borrowing_at(i);
     let balance = cell_value(cells, b.balance);
     let coupon = cell_value(cells, b.coupon);
     let months = cell_value(cells, b.months);
-    let values = values_of(balance, coupon, months, lower, upper);
+    let values = values_of(balance, coupon, months, factors);
     let mut row = [balance; PLACE_NUMBERS];
     write(&mut row, 1, &values);
     row
@@ -59,11 +55,9 @@ fn row_of(
 fn longest_term(cells: &[u64; CELLS]) -> u64
     ensures { result ≡ longest_to cells.now borrowing_count }
 {
-    let mut longest = 0;
-    let mut i: usize = 0;
-    while i < BORROWINGS {
-        longest = greater(longest, term_at(cells, i));
-        i += 1;
+    let mut longest: u64 = 0;
+    for i in 0..BORROWINGS {
+        longest = longest.max(term_at(cells, i));
     }
     longest
 }
@@ -75,13 +69,8 @@ fn term_at(cells: &[u64; CELLS], i: usize) -> u64
 {
     let b = borrowing_at(i);
     if cell_value(cells, b.balance) == 0 {
-        return 0;
+        0
+    } else {
+        cell_value(cells, b.months)
     }
-    cell_value(cells, b.months)
-}
-
-fn greater(a: u64, b: u64) -> u64
-    ensures { result ≡ max a b }
-{
-    if a < b { b } else { a }
 }

@@ -9,7 +9,5 @@ use text_listing::borrowings::write_borrowings_read;
 fn main(rt: HostRuntime) -> io::Result<()> {
     let mut input = [0u8; 65537];
     let n = read_full(&mut rt.stdin(), &mut input);
-    let mut text = [0u8; 623];
-    let size = write_borrowings_read(&input, n, &mut text);
-    rt.write_all(&text[..size])
+    rt.write_all(write_borrowings_read(&input, n).as_slice())
 }

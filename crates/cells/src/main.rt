@@ -9,7 +9,5 @@ use text_input::read_full;
 fn main(rt: HostRuntime) -> io::Result<()> {
     let mut input = [0u8; 131073];
     let n = read_full(&mut rt.stdin(), &mut input);
-    let mut text = [0u8; 1176];
-    let size = write_read(&input, n, &mut text);
-    rt.write_all(&text[..size])
+    rt.write_all(write_read(&input, n).as_slice())
 }

@@ -3,7 +3,7 @@ use Prim.Native.Nat.{ℕ, ◌+◌, ◌≤◌, ◌<◌}
 use native.Mathlib.Omega.{arith}
 use mathlib.Core.Path.{◌≡◌, refl, ◌∙◌}
 use mathlib.Core.Logic.{◌⊎◌, inl, inr, ⊎_elim}
-use mathlib.Core.Bool.{Bool, true, false, cond, or-false, ◌&&◌, ◌||◌}
+use mathlib.Core.Bool.{Bool, true, false, cond, ◌&&◌, ◌||◌}
 use borrow.Author.Tests.{leb-true, leb-false, ltb-true, eqb-true, lt-ltb, le-ltb, le-leb, eq-eqb, ne_eqb}
 use lib.Dec.{leb, ltb, eqb}
 use Rattle.lists.proofs.RangeLaws.{within_both}
@@ -56,11 +56,6 @@ module _ (a b : Date) where
   pub same-month : month_index b ≡ month_index a → on_or_after a b ≡ leb b.day a.day
   unfolding on_or_after
   same-month e = simp (le-ltb (month_index b) (month_index a) (omega arith), eq-eqb (month_index b) (month_index a) e)
-
-  -- another month: the months decide
-  pub other-month : (month_index b ≡ month_index a → ⊥) → on_or_after a b ≡ ltb (month_index b) (month_index a)
-  unfolding on_or_after
-  other-month e = simp (ne_eqb (month_index b) (month_index a) e, or-false)
 
   -- an earlier month
   pub earlier-month : month_index a < month_index b → on_or_after a b ≡ false

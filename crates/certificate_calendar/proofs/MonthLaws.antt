@@ -1,11 +1,12 @@
 -- The months between two dates: the least of the definition, in a few arithmetic steps, and fewer from a later date. Assumes nothing.
-use Prim.Native.Nat.{ℕ, ◌+◌, ◌-◌, ◌/◌, ◌%◌, ◌≤◌, ◌<◌}
+use Prim.Native.Nat.{ℕ, ◌+◌, ◌-◌, ◌/◌, ◌%◌, ◌≤◌, ◌<◌, max}
 use native.Mathlib.Omega.{arith}
 use mathlib.Core.Path.{◌≡◌, refl, sym, ◌∙◌}
 use mathlib.Core.Logic.{◌⊎◌, inl, inr, ⊎_elim}
 use mathlib.Core.Bool.{Bool, true, false, cond}
-use borrow.Author.Tests.{leb-false, lt-ltb, le-ltb, le-leb, lt-leb}
+use borrow.Author.Tests.{leb-false, ltb-true, ltb-false, le-leb, lt-leb}
 use lib.Dec.{leb, ltb}
+use mir.Val.{bool_byte}
 use Rattle.certificate_calendar.specs.declared.Date.{Date}
 use Rattle.certificate_calendar.specs.Dates.{last_day, month_index, on_or_after, day_in, moved_on, months_between}
 use Rattle.lists.proofs.OrderLaws.{lt-or-le}
@@ -59,51 +60,34 @@ module _ (a b : Date) (from : Day a) (to : Day b) where
       ⊎_elim (λ l. short-of m l) (λ l. into m (omega arith) ∙ lt-leb b.day a.day r.0) (lt-or-le (month_index a + m) (month_index b))
   reach-fails end m (inr r) h = short-of m (omega arith)
 
-  reach-least : (end m : ℕ) → Reach end → 1 ≤ m → end ≤ month_index a + m → ((k : ℕ) → 1 ≤ k → k < m → month_index a + k < end) → LeastMonths a b m
-  reach-least end m r l h f =
-      record { one = l; reaches = reach-passes end m r h; none_before = λ k g u. reach-fails end k r (f k g u) }
-
   -- the months from one date to the other, in a few steps
-  pub months-apart : (end : ℕ) → Reach end → LeastMonths a b (cond (ltb (month_index a) end) (end - month_index a) 1)
-  months-apart end r = ⊎_elim before behind (lt-or-le (month_index a) end)
-    where
-      before : month_index a < end → LeastMonths a b (cond (ltb (month_index a) end) (end - month_index a) 1)
-      before h = rw (lt-ltb (month_index a) end h) (reach-least end (end - month_index a) r (omega arith) (omega arith) (λ k g u. omega arith))
+  pub months-apart : (end : ℕ) → Reach end → LeastMonths a b (max (end - month_index a) 1)
+  months-apart end r =
+      record { one = omega arith; reaches = reach-passes end _ r (omega arith); none_before = λ k g u. reach-fails end k r (omega arith) }
 
-      behind : end ≤ month_index a → LeastMonths a b (cond (ltb (month_index a) end) (end - month_index a) 1)
-      behind h = rw (le-ltb (month_index a) end h) (reach-least end 1 r (omega arith) (omega arith) (λ k g u. absurd (omega arith)))
-
-  -- the end is at most 2200 years of 12 months, and the first date is of 1900 or later, so that the months between are at most 300 years;
-  -- where the end is not behind the first date they are 1
-  apart-le : (end : ℕ) → Reach end → cond (ltb (month_index a) end) (end - month_index a) 1 ≤ 3600
-  apart-le end r = ⊎_elim before behind (lt-or-le (month_index a) end)
-    where
-      end-le : (q : Reach end) → end ≤ 26400
-      end-le (inl q) = omega arith
-      end-le (inr q) = omega arith
-
-      before : month_index a < end → cond (ltb (month_index a) end) (end - month_index a) 1 ≤ 3600
-      before h = rw (lt-ltb (month_index a) end h) (omega (arith, end-le r))
-
-      behind : end ≤ month_index a → cond (ltb (month_index a) end) (end - month_index a) 1 ≤ 3600
-      behind h = rw (le-ltb (month_index a) end h) (omega arith)
+  -- the end is at most 2200 years of 12 months, and the first date is of 1900 or later, so that the months between are at most 300 years
+  end-le : (end : ℕ) → Reach end → end ≤ 26400
+  end-le end (inl r) = omega arith
+  end-le end (inr r) = omega arith
 
   -- the search finds it
-  pub months-are : (end : ℕ) → Reach end → months_between a b ≡ cond (ltb (month_index a) end) (end - month_index a) 1
+  pub months-are : (end : ℕ) → Reach end → months_between a b ≡ max (end - month_index a) 1
   unfolding months_between
   months-are end r =
       let least = months-apart end r in
-      least-is _ 1 3600 _ least.one (omega (arith, apart-le end r)) least.reaches least.none_before
+      least-is _ 1 3600 _ least.one (omega (arith, end-le end r)) least.reaches least.none_before
 
-  reach : (Reach (month_index b + 1)) ⊎ (Reach (month_index b))
-  reach = ⊎_elim (λ h. inl (inl (h, refl))) (λ h. inr (inr (h, refl))) (lt-or-le a.day b.day)
-
-  least_at : (end : ℕ) → Reach end → LeastMonths a b (months_between a b)
-  least_at end r = rw (months-are end r) (months-apart end r)
+  -- the month that is reached, by the test of the days
+  pub reach : Reach (month_index b + bool_byte (ltb a.day b.day))
+  reach = by (ltb a.day b.day) refl
+    where
+      by : (p : Bool) → ltb a.day b.day ≡ p → Reach (month_index b + bool_byte p)
+      by true e = inl (ltb-true a.day b.day e, refl)
+      by false e = inr (ltb-false a.day b.day e, omega arith)
 
   -- the months between two dates are the least, however far the search may go
   pub months-between-least : LeastMonths a b (months_between a b)
-  months-between-least = ⊎_elim (least_at (month_index b + 1)) (least_at (month_index b)) reach
+  months-between-least = rw (months-are _ reach) (months-apart _ reach)
 
 -- from a later date there are no more months to go: moved on by as many months as the earlier date needs, the later one stands
 -- no earlier than that date so moved, and so reaches the end too, which it would not if it needed more

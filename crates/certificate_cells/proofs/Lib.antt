@@ -1,2 +1,3 @@
-pub mod MeanLaws
 pub mod ListingLaws
+pub mod SearchLaws
+pub mod ValueLaws

@@ -2,14 +2,19 @@
 -- Definitions only.
 use Rattle.std.specs.Prelude.{ℕ, suc, ◌-◌, Bool, cond, not, ◌||◌, List, map, eqb}
 use Rattle.lists.specs.Sums.{sum}
-use Rattle.lists.specs.Tables.{table_from, those, padded}
+use Rattle.lists.specs.Tables.{table_from, those}
 use Rattle.form.specs.Cells.{position_at, first_cell, total_cell}
 use Rattle.form.specs.Classes.{cell_class}
 use Rattle.certificate_cells.specs.declared.filled_cells.Totals.{Totals}
-use Rattle.certificate_cells.specs.declared.filled_cells.FormCell.{FormCell}
 use Rattle.certificate_cells.specs.declared.filled_cells.CellValue.{CellValue}
 use Rattle.certificate_cells.specs.Means.{balance_at, coupon_at, months_at}
 use Rattle.lists.specs.Ranges.{within, first_from}
+
+-- a cell with its class and the index of its position
+pub record FormCell : Type 0 where
+  pub cell : ℕ
+  pub class : ℕ
+  pub position : ℕ
 
 -- a cell that certificates can fill: a balance, a WAC, a WARM or the total (classes 1, 2, 3 and 6)
 unfoldable pub is_filled : ℕ → Bool
@@ -27,7 +32,6 @@ is_of_position cell i = eqb (position_at i).balance cell || (eqb (position_at i)
 unfoldable pub position_with : ℕ → ℕ
 position_with cell = first_from 0 9 (is_of_position cell)
 
--- a cell with its class and the index of its position
 unfoldable pub form_cell : ℕ → FormCell
 form_cell n = record { cell = n; class = cell_class n; position = position_with n }
 
@@ -56,7 +60,3 @@ cells_of t = map (cell_value t) (those (is_present t) form_cells)
 -- no cell
 abbrev pub no_cell : CellValue
 no_cell = record { cell = 0; value = 0 }
-
--- cells in an array of 28, which is as many as there can be: no cell past the last
-abbrev pub cell_array : List CellValue → List CellValue
-cell_array l = padded 28 no_cell l

@@ -1,12 +1,11 @@
--- The faults of a certificate by itself: the first that holds answers, and a certificate without one is sound. Assumes nothing.
+-- A certificate without a fault is sound, and its months are in order. Assumes nothing.
 use Prim.Native.Nat.{ℕ, ◌≤◌, ◌<◌}
-use mathlib.Core.Path.{◌≡◌, refl}
-use mathlib.Core.Bool.{Bool, true, false, not}
-use mathlib.Core.List.{[], ◌∷◌}
+use mathlib.Core.Path.{◌≡◌}
+use mathlib.Core.Bool.{true, false, not}
 use borrow.Author.Tests.{ltb-false, not-false}
 use lib.Dec.{ltb}
 use Rattle.form.specs.Limits.{balance_limit, filed_coupon_limit, months_limit}
-use Rattle.answers.specs.Verdict.{accepted, refused, refused_if, first_refusal, first_of}
+use Rattle.answers.specs.Verdict.{refused_if, first_of}
 use Rattle.answers.proofs.VerdictLaws.{first-none, condition-fails}
 use Rattle.certificate_calendar.specs.declared.Date.{Date}
 use Rattle.certificate_terms.specs.declared.Certificate.{Certificate}
@@ -17,44 +16,6 @@ use Rattle.lists.proofs.TestLaws.{neither}
 use Rattle.certificate_calendar.proofs.DateLaws.{date-day, on-or-after}
 use Rattle.certificate_calendar.proofs.MonthLaws.{months-between-least, months-between-anti}
 use Rattle.certificate_terms.proofs.PositionLaws.{position-lt}
-
-module _ (v : Date) (k : ℕ) (c : Certificate) where
-  -- the first condition that holds, each after those before it
-  pub own-limit : over_limit c ≡ true → refused 5 k ≡ own_verdict v k c
-  unfolding own_verdict first_of first_refusal refused_if refused
-  own-limit a = rw a
-
-  pub own-day : over_limit c ≡ false → no_such_day v c ≡ true → refused 13 k ≡ own_verdict v k c
-  unfolding own_verdict first_of first_refusal refused_if refused accepted
-  own-day a b = rw (a, b)
-
-  pub own-outstanding : over_limit c ≡ false → no_such_day v c ≡ false → not_outstanding v c ≡ true → refused 14 k ≡ own_verdict v k c
-  unfolding own_verdict first_of first_refusal refused_if refused accepted
-  own-outstanding a b d = rw (a, b, d)
-
-  pub own-months : over_limit c ≡ false → no_such_day v c ≡ false → not_outstanding v c ≡ false → too_many_months v c ≡ true
-      → refused 15 k ≡ own_verdict v k c
-  unfolding own_verdict first_of first_refusal refused_if refused accepted
-  own-months a b d e = rw (a, b, d, e)
-
-  pub own-none : over_limit c ≡ false → no_such_day v c ≡ false → not_outstanding v c ≡ false → too_many_months v c ≡ false
-      → accepted ≡ own_verdict v k c
-  unfolding own_verdict first_of first_refusal refused_if refused accepted
-  own-none a b d e = rw (a, b, d, e)
-
--- a refusal is at the certificate's index
-locations : (a b d e : Bool) (k : ℕ) → ((first_of (refused_if a 5 k ∷ refused_if b 13 k ∷ refused_if d 14 k ∷ refused_if e 15 k ∷ [])).number ≡ 0 → ⊥)
-    → (first_of (refused_if a 5 k ∷ refused_if b 13 k ∷ refused_if d 14 k ∷ refused_if e 15 k ∷ [])).location ≡ k
-unfolding first_of first_refusal refused_if refused accepted
-locations true b d e k h = refl
-locations false true d e k h = refl
-locations false false true e k h = refl
-locations false false false true k h = refl
-locations false false false false k h = absurd (h refl)
-
-pub own-location : (v : Date) (k : ℕ) (c : Certificate) → ((own_verdict v k c).number ≡ 0 → ⊥) → (own_verdict v k c).location ≡ k
-unfolding own_verdict
-own-location v k c h = locations (over_limit c) (no_such_day v c) (not_outstanding v c) (too_many_months v c) k h
 
 -- all three dates are days
 pub days-are : (v : Date) (c : Certificate) → no_such_day v c ≡ false

@@ -5,30 +5,29 @@ use mathlib.Core.Path.{◌≡◌, sym, ap, ◌∙◌}
 use mathlib.Core.Logic.{⊎_elim}
 use mathlib.Core.Bool.{Bool, true, false, cond, not}
 use mathlib.Core.List.{List, []}
-use borrow.Author.Tests.{eq-eqb, ne_eqb}
+use borrow.Author.Tests.{eq-eqb}
 use lib.Dec.{eqb}
 use lib.ListN.{length, get_or, get_or-eq_default}
 use Rattle.lists.specs.Tables.{table}
 use Rattle.lists.proofs.OrderLaws.{lt-or-le}
-use Rattle.lists.proofs.RangeLaws.{within-is, within-below, within-above}
 use Rattle.lists.proofs.TableLaws.{table-length, table-get_or, table-le}
 use Rattle.form.specs.Limits.{balance_limit, filed_coupon_limit, months_limit}
-use Rattle.answers.specs.declared.Answer.{Answer}
+use Rattle.arrayvec.specs.ArrayVec.{ArrayVec}
+use Rattle.std.specs.Prelude.{Ok, Err}
+use Rattle.answers.specs.declared.Refusal.{Refusal}
 use Rattle.answers.specs.Verdict.{Verdict, accepted, refused}
-use Rattle.answers.specs.Answers.{number_of, verdict_of}
+use Rattle.answers.specs.Answers.{number_of, location_of}
 use Rattle.answers.proofs.VerdictLaws.{first-passed, first-refused, tried-none, condition-holds, condition-refuses, condition-none}
 use Rattle.certificate_calendar.specs.declared.Date.{Date}
 use Rattle.certificate_terms.specs.Terms.{certificate_count}
-use Rattle.certificate_cells.specs.declared.filled_cells.Totals.{Totals}
-use Rattle.certificate_cells.specs.declared.filled_cells.Cells.{Cells}
+use Rattle.certificate_cells.specs.declared.filled_cells.CellValue.{CellValue}
 use Rattle.certificate_cells.specs.Cells.{cells_of}
-use Rattle.certificate_cells.specs.Inner.Listing.{Bounded, accepted_cells}
+use Rattle.certificate_cells.specs.Inner.Listing.{Bounded}
 use Rattle.certificates.specs.Sums.{position_sum, balance_of, weighted_coupon, weighted_months, totals_of}
 use Rattle.certificates.specs.EachVerdict.{certificate_verdict, each_verdict}
 use Rattle.certificates.specs.Verdict.{count_verdict, certificates_verdict}
 use Rattle.certificates.specs.Filled.{filled_cells}
 use Rattle.certificates.specs.Promise.{Converted}
-use Rattle.certificates.specs.Inner.Answers.{no_cells}
 use Rattle.lists.specs.Ranges.{within}
 use Rattle.certificate_cells.proofs.ListingLaws.{cells_count}
 use Rattle.certificates.proofs.SumLaws.{Passed, balance-sum-le, coupon-sum-le, months-sum-le}
@@ -40,21 +39,15 @@ module _ (v : Date) (s : List ℕ) where
   each-passed h = tried-none (certificate_verdict v s) (certificate_count s) h
 
   -- the count decides, or the certificates in turn do
-  count-refuses : within 1 1000 (certificate_count s) ≡ false → refused 5 0 ≡ certificates_verdict v s
+  pub count-refuses : within 1 1000 (certificate_count s) ≡ false → refused 5 0 ≡ certificates_verdict v s
   unfolding certificates_verdict count_verdict
   count-refuses h =
       let outside : not (within 1 1000 (certificate_count s)) ≡ true = ap not h in
       condition-holds _ 5 0 outside ∙ sym (first-refused (count_verdict s) (each_verdict v s) (condition-refuses _ 4 0 outside))
 
-  pub count_none : certificate_count s < 1 → refused 5 0 ≡ certificates_verdict v s
-  count_none h = count-refuses (within-below 1 1000 (certificate_count s) h)
-
-  pub count-many : 1 ≤ certificate_count s → 1000 < certificate_count s → refused 5 0 ≡ certificates_verdict v s
-  count-many l h = count-refuses (within-above 1 1000 (certificate_count s) l h)
-
-  pub count-passes : 1 ≤ certificate_count s → certificate_count s ≤ 1000 → certificates_verdict v s ≡ each_verdict v s
+  pub count-passes : within 1 1000 (certificate_count s) ≡ true → certificates_verdict v s ≡ each_verdict v s
   unfolding certificates_verdict count_verdict
-  count-passes l u = first-passed (count_verdict s) (each_verdict v s) (condition-none _ 5 0 (ap not (within-is 1 1000 (certificate_count s) l u)))
+  count-passes h = first-passed (count_verdict s) (each_verdict v s) (condition-none _ 5 0 (ap not h))
 
   -- the sums of certificates that pass, entry by entry, past the ninth too
   weighted-le : (f g : ℕ → ℕ) (limit : ℕ) → ((i : ℕ) → f i ≤ limit * g i) → (i : ℕ) → get_or (table 9 f) i 0 ≤ limit * get_or (table 9 g) i 0
@@ -84,27 +77,19 @@ module _ (v : Date) (s : List ℕ) where
             (λ i. months-sum-le v s n i p);
       }
 
-  filled_none : ((certificates_verdict v s).number ≡ 0 → ⊥) → filled_cells v s ≡ []
-  unfolding filled_cells
-  filled_none h = rw (ne_eqb (certificates_verdict v s).number 0 h)
-
   pub filled-some : (certificates_verdict v s).number ≡ 0 → filled_cells v s ≡ cells_of (totals_of v s (certificate_count s))
   unfolding filled_cells
   filled-some h = rw (eq-eqb (certificates_verdict v s).number 0 h)
 
   -- a refusal
-  pub call-refused : (r : Cells) (a : Answer) → r ≡ no_cells a → verdict_of a ≡ certificates_verdict v s → (number_of a ≡ 0 → ⊥) → Converted v s r
-  unfolding verdict_of no_cells
-  call-refused r a e h n =
-      let none = filled_none (λ z. n (ap (λ (u : Verdict). u.number) h ∙ z)) in
-      rw e (record { answer-is = h; count-is = rw none; cells_are = rw none })
+  pub call-refused : (r : Refusal) → refused (number_of r) (location_of r) ≡ certificates_verdict v s → Converted v s (Err r)
+  call-refused r h = record { answer-is = h; cells_are = tt }
 
   -- acceptance
-  pub call-accepted : (r : Cells) (t : Totals) → r ≡ accepted_cells t → t ≡ totals_of v s (certificate_count s) → accepted ≡ certificates_verdict v s → Converted v s r
-  unfolding verdict_of accepted accepted_cells
-  call-accepted r t e q h =
-      let some = filled-some (sym (ap (λ (u : Verdict). u.number) h)) in
-      rw (e, q) (record { answer-is = h; count-is = rw some; cells_are = rw some })
+  pub call-accepted : (cells : ArrayVec CellValue) → cells.items ≡ cells_of (totals_of v s (certificate_count s)) → accepted ≡ certificates_verdict v s
+      → Converted v s (Ok cells)
+  unfolding accepted
+  call-accepted cells e h = record { answer-is = h; cells_are = e ∙ sym (filled-some (sym (ap (λ (u : Verdict). u.number) h))) }
 
   pub filled-count : length (filled_cells v s) ≤ 28
   unfolding filled_cells

@@ -1,3 +1,2 @@
 -- What only inner contracts cite.
-pub mod Answers
 pub mod Totals

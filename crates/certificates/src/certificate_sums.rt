@@ -1,70 +1,49 @@
 // The certificates in turn: each is tested, and added to the sums of its position.
-ghost use Rattle.std.specs.Prelude.{◌≡◌, ◌≤◌, ◌<◌, ◌+◌, ◌*◌, get_or};
+ghost use Rattle.std.specs.Prelude.{◌≡◌, ◌≤◌, ◌<◌, ◌+◌, ◌*◌, IfOk, get_or};
 ghost use Rattle.form.specs.Limits.{balance_limit, filed_coupon_limit, months_limit};
 ghost use Rattle.answers.specs.Answers.{verdict_of};
 ghost use Rattle.certificate_terms.specs.Terms.{certificate_count};
 ghost use Rattle.certificates.specs.EachVerdict.{each_verdict};
 ghost use Rattle.certificates.specs.Sums.{totals_of};
-ghost use Rattle.certificates.specs.Inner.Totals.{totals_with, summed_count};
+ghost use Rattle.certificates.specs.Inner.Totals.{totals_with};
 
-use answers::{Answer, number};
-use certificate_calendar::{Date, months_between};
+use answers::Refusal;
+use certificate_calendar::Date;
 use certificate_cells::filled_cells::Totals;
-use certificate_terms::faults::check_certificate;
-use certificate_terms::{certificate_at, position_of};
+use certificate_terms::{Certificate, position_of};
 use form::limits::BALANCE_LIMIT;
 
-// The answer on the certificates in turn, and the sums of those before the one that is refused, of all where none is.
-#[derive(Clone, Copy)]
-pub struct Scanned {
-    pub answer: Answer,
-    pub totals: Totals,
-}
-
-pub(crate) fn scan(valuation: Date, certificates: &[u64]) -> Scanned
-    ensures answer_value { verdict_of result.answer ≡ each_verdict valuation certificates.now }
-    ensures totals_value { result.totals ≡ totals_of valuation certificates.now (summed_count (verdict_of result.answer) (certificate_count certificates.now)) }
+// The sums of the certificates, or the refusal of the first that is refused.
+pub(crate) fn scan(valuation: Date, certificates: &[u64]) -> Result<Totals, Refusal>
+    ensures answer_value { verdict_of result ≡ each_verdict valuation certificates.now }
+    ensures totals_value { IfOk result (λ t. t ≡ totals_of valuation certificates.now (certificate_count certificates.now)) }
 {
-    let mut totals = Totals {
-        balance: [0; 9],
-        coupon: [0; 9],
-        months: [0; 9],
-    };
-    let mut k = 0;
-    while k < certificates.len() / 8 {
-        let c = certificate_at(certificates, k);
-        let answer = check_certificate(valuation, c, k);
-        if number(answer) != 0 {
-            return Scanned { answer, totals };
+    let mut totals = Totals::default();
+    for k in 0..certificates.len() / 8 {
+        let certificate = Certificate::of_list(certificates, k);
+        certificate.check(valuation, k)?;
+        let months = valuation.months_to(certificate.maturity);
+        let original = certificate.issue.months_to(certificate.maturity);
+        let position = position_of(months, original);
+        if BALANCE_LIMIT < totals.balance[position] + certificate.balance {
+            return Err(Refusal::OverLimit(k));
         }
-        let months = months_between(valuation, c.maturity);
-        let position = position_of(months, months_between(c.issue, c.maturity));
-        if BALANCE_LIMIT < totals.balance[position] + c.balance {
-            return Scanned {
-                answer: Answer::OverLimit(k),
-                totals,
-            };
-        }
-        totals = added(totals, position, months, c.balance, c.coupon);
-        k += 1;
+        add(&mut totals, position, months, certificate);
     }
-    Scanned {
-        answer: Answer::Accepted,
-        totals,
-    }
+    Ok(totals)
 }
 
-// The sums with a certificate more.
-fn added(mut totals: Totals, position: usize, months: u64, balance: u64, coupon: u64) -> Totals
+// Adds a certificate to the sums of its position.
+fn add(totals: &mut Totals, position: usize, months: u64, certificate: Certificate)
     requires position_bound { position < 9 }
-    requires coupon_le_filed_coupon_limit { (coupon ≤ filed_coupon_limit) × (months ≤ months_limit) }
-    requires balance_bound { get_or totals.balance position 0 + balance ≤ balance_limit }
-    requires position_bound_2 { get_or totals.coupon position 0 ≤ filed_coupon_limit * get_or totals.balance position 0 }
-    requires position_bound_3 { get_or totals.months position 0 ≤ months_limit * get_or totals.balance position 0 }
-    ensures { result ≡ totals_with totals position months balance coupon }
+    requires coupon_le_filed_coupon_limit { (certificate.coupon ≤ filed_coupon_limit) × (months ≤ months_limit) }
+    requires balance_bound { get_or totals.old.balance position 0 + certificate.balance ≤ balance_limit }
+    requires position_bound_2 { get_or totals.old.coupon position 0 ≤ filed_coupon_limit * get_or totals.old.balance position 0 }
+    requires position_bound_3 { get_or totals.old.months position 0 ≤ months_limit * get_or totals.old.balance position 0 }
+    ensures { totals.new ≡ totals_with totals.old position months certificate.balance certificate.coupon }
 {
+    let balance = certificate.balance;
     totals.balance[position] += balance;
-    totals.coupon[position] += balance * coupon;
+    totals.coupon[position] += balance * certificate.coupon;
     totals.months[position] += balance * months;
-    totals
 }

@@ -1,45 +1,41 @@
 -- The number, the location and the totals of the book's call keep its promise. Assumes nothing.
 use Prim.Native.Nat.{ℕ}
-use mathlib.Core.Path.{◌≡◌, refl, sym, ap, subst, ◌∙◌}
-use mathlib.Core.Bool.{Bool, true, false, cond}
+use mathlib.Core.Path.{◌≡◌, sym, ap, subst, ◌∙◌}
 use mathlib.Core.List.{List, ◌∷◌}
-use lib.Dec.{eqb}
-use borrow.Author.Tests.{eq-eqb}
-use Rattle.answers.specs.Answers.{number_of, location_of, verdict_of}
-use Rattle.answers.specs.Verdict.{Verdict}
-use Rattle.answers.proofs.AnswerLaws.{accepted-answer}
-use Rattle.book_state.specs.declared.Book.{Book}
-use Rattle.book_promise.specs.Books.{opened_book}
+use borrow.Author.Tests.{eq-eqb, ne_eqb}
+use Rattle.std.specs.Prelude.{Ok, Err}
+use Rattle.answers.specs.Answers.{number_of, location_of}
+use Rattle.answers.specs.Verdict.{Verdict, accepted, refused}
+use Rattle.answers.proofs.AnswerLaws.{refusal-numbered, refusal-refuses}
 use Rattle.book_promise.specs.Promise.{Kept}
 use Rattle.book_calls.specs.declared.book_changes.Changed.{Changed}
+use Rattle.book_calls.specs.declared.book_changes.NotChanged.{NotChanged}
 use Rattle.book_calls.specs.Changing.{book_verdict, BookOf}
-use Rattle.exports.specs.Changed.{shown_of, book_of, BookForC}
+use Rattle.exports.specs.Changed.{shown_of, BookForC}
 
--- what is shown of a book that stands where a test holds, where the same test holds
-shown-where : (b : Bool) (book other : Book) (before : List ℕ) → cond b (shown_of (cond b book other)) before ≡ cond b (shown_of book) before
-shown-where true book other before = refl
-shown-where false book other before = refl
-
-module _ (s l before after : List ℕ) (r : Changed) (number location : ℕ) (done : BookOf s l r) (n : number ≡ number_of r.answer) (p : location ≡ location_of r.answer) where
-  number-of : number ≡ (book_verdict s l).number
-  unfolding verdict_of
-  number-of = n ∙ ap (λ (v : Verdict). v.number) done.answer-is
-
-  -- an accepted book is that of all changes
-  book-is : number ≡ 0 → r.book ≡ book_of s l
-  book-is z =
-      let q : eqb (book_verdict s l).number 0 ≡ true = eq-eqb _ 0 (sym number-of ∙ z) in
-      done.book-is ∙ rw q
-
-  -- number and location are those of the answer, which is the book's verdict; what is written is the book where the number is 0, and there
-  -- it is the book of all changes, which is kept; otherwise the list stays
-  pub book-for-c : after ≡ cond (eqb number 0) (r.book.balance ∷ r.book.totals) before → BookForC s l before number location r.made after
-  unfolding verdict_of shown_of
-  book-for-c e =
+module _ (s l before : List ℕ) where
+  -- a refusal is the book's verdict, and the list stays
+  pub book-refused : (n : NotChanged) (number location : ℕ) → BookOf s l (Err n) → number ≡ number_of n.refusal → location ≡ location_of n.refusal
+      → BookForC s l before number location n.made before
+  unfolding refused
+  book-refused n number location done e f =
+      let some : (book_verdict s l).number ≡ 0 → ⊥ = rw (← done.answer-is) (refusal-refuses n.refusal) in
       record {
-        number_is = number-of;
-        location-is = p ∙ ap (λ (v : Verdict). v.location) done.answer-is;
+        number_is = e ∙ ap (λ (v : Verdict). v.number) done.answer-is;
+        location-is = f ∙ ap (λ (v : Verdict). v.location) done.answer-is;
         changed-is = done.made-is;
-        list-is = e ∙ rw (number-of, done.book-is) (shown-where (eqb (book_verdict s l).number 0) (book_of s l) (opened_book s) before);
-        kept = λ z. subst (Kept s) (book-is z) (done.kept (accepted-answer r.answer (sym n ∙ z)));
+        list-is = rw (ne_eqb (book_verdict s l).number 0 some);
+        kept = λ z. absurd (refusal-numbered n.refusal (sym e ∙ z));
+      }
+
+  -- the accepted book is that of all changes, which is kept
+  pub book-accepted : (c : Changed) (after : List ℕ) → BookOf s l (Ok c) → after ≡ c.book.balance ∷ c.book.totals → BookForC s l before 0 0 c.made after
+  unfolding accepted shown_of
+  book-accepted c after done e =
+      record {
+        number_is = ap (λ (v : Verdict). v.number) done.answer-is;
+        location-is = ap (λ (v : Verdict). v.location) done.answer-is;
+        changed-is = done.made-is;
+        list-is = rw (eq-eqb (book_verdict s l).number 0 (sym (ap (λ (v : Verdict). v.number) done.answer-is))) (e ∙ ap shown_of done.book-is);
+        kept = λ z. subst (Kept s) done.book-is done.kept;
       }

@@ -2,25 +2,41 @@
 use Prim.Native.Nat.{ℕ}
 use mathlib.Core.Path.{◌≡◌, sym, ap, ◌∙◌}
 use mathlib.Core.List.{List}
-use Rattle.answers.specs.declared.Answer.{Answer}
-use Rattle.answers.specs.Answers.{number_of, location_of, verdict_of}
-use Rattle.answers.specs.Verdict.{Verdict}
-use Rattle.answers.proofs.AnswerLaws.{accepted-answer}
+use Rattle.std.specs.Prelude.{Result, Ok, Err}
+use Rattle.answers.specs.declared.Refusal.{Refusal}
+use Rattle.answers.specs.Answers.{number_of, location_of}
+use Rattle.answers.specs.Verdict.{Verdict, accepted, refused}
+use Rattle.answers.proofs.AnswerLaws.{refusal-numbered}
 use Rattle.valuation.specs.Promise.{Valued}
 use Rattle.exports.specs.Exported.{ValuedForC}
 
--- number and location are those of the answer, which is the filing's verdict; the lists are the call's own, and number 0 means an accepted
--- answer, whose lists enclose the exact values
-pub valued-for-c : (s list borrowings list-after borrowings-after : List ℕ) (answer : Answer) (number location : ℕ)
-    → Valued s list borrowings answer list-after borrowings-after → number ≡ number_of answer → location ≡ location_of answer
-    → ValuedForC s list borrowings number location list-after borrowings-after
-unfolding verdict_of
-valued-for-c s list borrowings list-after borrowings-after answer number location valued n p =
-    record {
-      number_is = n ∙ ap (λ (v : Verdict). v.number) valued.answer-is;
-      location-is = p ∙ ap (λ (v : Verdict). v.location) valued.answer-is;
-      list-is = valued.list-is;
-      borrowings-are = valued.borrowings-are;
-      enclosed = λ e. valued.enclosed (accepted-answer answer (sym n ∙ e));
-      borrowings-enclosed = λ e. valued.borrowings-enclosed (accepted-answer answer (sym n ∙ e));
-    }
+module _ {A : Type 0} (s list borrowings list-after borrowings-after : List ℕ) (answer : Result A Refusal)
+    (valued : Valued s list borrowings answer list-after borrowings-after) where
+  -- a refusal is the filing's verdict, and the lists are the call's own
+  pub valued-refused : (r : Refusal) (number location : ℕ) → answer ≡ Err r → number ≡ number_of r → location ≡ location_of r
+      → ValuedForC s list borrowings number location list-after borrowings-after
+  unfolding refused
+  valued-refused r number location is e f =
+      let v = rw is at valued.answer-is in
+      record {
+        number_is = e ∙ ap (λ (v : Verdict). v.number) v;
+        location-is = f ∙ ap (λ (v : Verdict). v.location) v;
+        list-is = valued.list-is;
+        borrowings-are = valued.borrowings-are;
+        enclosed = λ z. absurd (refusal-numbered r (sym e ∙ z));
+        borrowings-enclosed = λ z. absurd (refusal-numbered r (sym e ∙ z));
+      }
+
+  -- the lists of an accepted filing enclose the exact values
+  pub valued-accepted : (x : A) → answer ≡ Ok x → ValuedForC s list borrowings 0 0 list-after borrowings-after
+  unfolding accepted
+  valued-accepted x is =
+      let v = rw is at valued.answer-is in
+      record {
+        number_is = ap (λ (v : Verdict). v.number) v;
+        location-is = ap (λ (v : Verdict). v.location) v;
+        list-is = valued.list-is;
+        borrowings-are = valued.borrowings-are;
+        enclosed = λ z. valued.enclosed (rw is);
+        borrowings-enclosed = λ z. valued.borrowings-enclosed (rw is);
+      }

@@ -13,8 +13,7 @@ book =
       totals = 1 ∷ 2 ∷ 3 ∷ 4 ∷ [];
       rates = [];
       tiers = record { count = 0; edges = []; withdrawals = [] };
-      lower = [];
-      upper = [];
+      factors = record { lower = []; upper = [] };
     }
 
 shown-hold : shown_of book ≡ 7 ∷ 1 ∷ 2 ∷ 3 ∷ 4 ∷ []

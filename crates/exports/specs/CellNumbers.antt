@@ -8,6 +8,6 @@ use Rattle.certificate_cells.specs.Cells.{no_cell}
 unfoldable pub pair_at : List CellValue → ℕ → List ℕ
 pair_at l i = (get_or l i no_cell).cell ∷ (get_or l i no_cell).value ∷ []
 
--- cells in 28 entries as numbers, two for each
+-- at most 28 cells as numbers, two for each; 0 past the last
 unfoldable pub numbers_of : List CellValue → List ℕ
 numbers_of l = joined (table 28 (pair_at l))

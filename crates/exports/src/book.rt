@@ -1,7 +1,7 @@
 // The book's call.
 ghost use Rattle.exports.specs.Changed.{BookForC};
 
-use crate::plain_numbers::{answer_numbers, write_totals};
+use crate::plain_numbers::{refused, shown};
 use book_calls::book_changes::book_of;
 
 // Opens a book from a filing and makes changes in turn as `book_calls::book_changes::book_of` does: answers 0 for acceptance, else the first refusal's number, with its
@@ -16,12 +16,16 @@ pub extern "C" fn spritapricot_book(
 ) -> u64
     ensures changed { BookForC filing.now changes.now totals.old result location.new changed.new totals.new }
 {
-    let done = book_of(filing, changes);
-    *changed = done.made as u64;
-    let answer = done.answer;
-    let number = answer_numbers(answer, location);
-    let book = done.book;
-    let kept = book.totals;
-    write_totals(number, book.balance, &kept, totals);
-    number
+    match book_of(filing, changes) {
+        Ok(done) => {
+            *location = 0;
+            *changed = done.made as u64;
+            *totals = shown(done.book.balance, &done.book.totals);
+            0
+        }
+        Err(not_made) => {
+            *changed = not_made.made as u64;
+            refused(not_made.refusal, location)
+        }
+    }
 }

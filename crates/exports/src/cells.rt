@@ -1,7 +1,7 @@
 // The certificates' call.
 ghost use Rattle.exports.specs.Converted.{ConvertedForC};
 
-use crate::plain_numbers::{answer_numbers, write_cells};
+use crate::plain_numbers::{cell_numbers, refused};
 use certificate_calendar::Date;
 use certificates::to_cells;
 
@@ -19,10 +19,16 @@ pub extern "C" fn spritapricot_cells(
 ) -> u64
     ensures converted { ConvertedForC (record { year = year; month = month; day = day }) certificates.now cells.old result location.new count.new cells.new }
 {
-    let valuation = Date { year, month, day };
-    let filled = to_cells(valuation, certificates);
-    *count = filled.count as u64;
-    write_cells(filled, cells);
-    let answer = filled.answer;
-    answer_numbers(answer, location)
+    match to_cells(Date { year, month, day }, certificates) {
+        Ok(filled) => {
+            *location = 0;
+            *count = filled.len() as u64;
+            *cells = cell_numbers(&filled);
+            0
+        }
+        Err(refusal) => {
+            *count = 0;
+            refused(refusal, location)
+        }
+    }
 }

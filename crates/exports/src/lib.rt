@@ -8,7 +8,7 @@ pub mod price;
 
 ghost use Rattle.exports.specs.Exported.{ValuedForC};
 
-use crate::plain_numbers::answer_numbers;
+use crate::plain_numbers::refused;
 use valuation::value;
 
 // Values a filing as `valuation::value` does: answers 0 for acceptance, else the refusal's number, with the refusal's location in `location`.
@@ -21,5 +21,9 @@ pub extern "C" fn spritapricot_value(
 ) -> u64
     ensures valued { ValuedForC filing.now numbers.old borrowings.old result location.new numbers.new borrowings.new }
 {
-    answer_numbers(value(filing, numbers, borrowings), location)
+    if let Err(refusal) = value(filing, numbers, borrowings) {
+        return refused(refusal, location);
+    }
+    *location = 0;
+    0
 }

@@ -3,7 +3,7 @@ ghost use Rattle.std.specs.Prelude.{◌≡◌};
 ghost use Rattle.quote_lines.specs.Replies.{reply_number, reply_price};
 ghost use Rattle.exports.specs.Priced.{PricedForC};
 
-use crate::plain_numbers::answer_numbers;
+use crate::plain_numbers::refused;
 use quote_lines::{Reply, quote};
 
 // What price lines reply to a month and a scenario, as `quote_lines::quote` does: answers 0 for a listed price and 1 for a price between, with it in `price`, 2
@@ -19,14 +19,13 @@ pub extern "C" fn spritapricot_price(
 ) -> u64
     ensures quoted { PricedForC months.now prices.now month scenario price.old result location.new price.new }
 {
-    let quoted = quote(months, prices, month, scenario);
-    let answer = quoted.answer;
-    let refused = answer_numbers(answer, location);
-    if refused != 0 {
-        return refused;
+    match quote(months, prices, month, scenario) {
+        Ok(reply) => {
+            *location = 0;
+            reply_numbers(reply, price)
+        }
+        Err(refusal) => refused(refusal, location),
     }
-    let reply = quoted.reply;
-    reply_numbers(reply, price)
 }
 
 // The number of a reply, with its price in a lent number.

@@ -7,15 +7,14 @@ use borrow.Author.Tests.{eq-eqb, ne_eqb}
 use lib.ListN.{replicate}
 use Rattle.form.specs.Cells.{cell_count}
 use Rattle.form.specs.Limits.{sheet_number_count}
-use Rattle.answers.specs.declared.Answer.{Answer}
-use Rattle.answers.specs.Verdict.{Verdict, first_refusal}
-use Rattle.answers.specs.Answers.{number_of, verdict_of}
+use Rattle.answers.specs.declared.Refusal.{Refusal}
+use Rattle.answers.specs.Verdict.{Verdict, refused, first_refusal}
+use Rattle.answers.specs.Answers.{number_of, location_of}
+use Rattle.answers.proofs.AnswerLaws.{refusal-refuses}
 use Rattle.answers.proofs.VerdictLaws.{first-passed, first-refused}
 use Rattle.record_verdicts.specs.RecordVerdicts.{records_verdict}
-use Rattle.filing_cells.specs.Inner.Sums.{column_sums}
-use Rattle.filing_contents.specs.Contents.{Contents, contents_in}
+use Rattle.filing_contents.specs.Contents.{Contents}
 use Rattle.filing_decode.specs.Contents.{contents_of}
-use Rattle.filing.specs.declared.readings.Reading.{Reading}
 use Rattle.filing.specs.RequiredSheets.{sheet_verdict, libor_verdict}
 use Rattle.filing.specs.Verdict.{contents_verdict, filing_verdict}
 use Rattle.filing.specs.EmptyContents.{empty_contents}
@@ -63,19 +62,6 @@ module _ (s : List ℕ) where
   unfolding read_contents
   over_zeros = ap (read_over s) zeros-said
 
-  -- a refusal with the filing's verdict leaves what is lent, with no tiers and sums of 0
-  pub refused-reading : (cells numbers : List ℕ) (r : Reading) (a : Answer)
-      → (r.answer ≡ a) × (r.tiers ≡ empty_contents.tiers) × (r.sums ≡ column_sums empty_contents.cells)
-      → verdict_of a ≡ filing_verdict s
-      → (number_of a ≡ 0 → ⊥)
-      → (verdict_of r.answer ≡ filing_verdict s)
-      × ((contents_in cells numbers r.tiers ≡ read_over s (lent cells numbers)) × (r.sums ≡ column_sums (read_contents s).cells))
-  unfolding verdict_of
-  refused-reading cells numbers r a e v h =
-      let refused : (filing_verdict s).number ≡ 0 → ⊥ = λ z. h (ap (λ (u : Verdict). u.number) v ∙ z) in (
-        ap verdict_of e.0 ∙ v,
-        (
-          ap (contents_in cells numbers) e.1 ∙ refused_over (lent cells numbers) refused,
-          e.2 ∙ ap (λ (k : Contents). column_sums k.cells) (refused-contents refused),
-        ),
-      )
+  -- a refusal with the filing's verdict leaves what is lent
+  pub refused-reading : (r : Refusal) (before : Contents) → refused (number_of r) (location_of r) ≡ filing_verdict s → before ≡ read_over s before
+  refused-reading r before v = refused_over before (λ z. refusal-refuses r (ap (λ (u : Verdict). u.number) v ∙ z))

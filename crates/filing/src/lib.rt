@@ -4,20 +4,19 @@
 pub mod readings;
 mod required_sheets;
 
-ghost use Rattle.std.specs.Prelude.{◌≡◌, length};
+ghost use Rattle.std.specs.Prelude.{◌≡◌, IfOk, length};
 ghost use Rattle.answers.specs.Answers.{verdict_of};
 ghost use Rattle.record_offsets.specs.Inner.Notes.{noted_before};
 ghost use Rattle.record_verdicts.specs.RecordVerdicts.{records_verdict};
-ghost use Rattle.filing_contents.specs.Contents.{contents_in};
+ghost use Rattle.filing_decode.specs.Contents.{contents_of};
 ghost use Rattle.filing_cells.specs.Inner.Sums.{column_sums};
 ghost use Rattle.filing.specs.RequiredSheets.{sheet_verdict};
 ghost use Rattle.filing.specs.Verdict.{filing_verdict};
-ghost use Rattle.filing.specs.Readings.{read_over, lent, read_contents};
+ghost use Rattle.filing.specs.Readings.{read_over, lent, left_by};
 
-use crate::readings::{Reading, refusal};
+use crate::readings::Reading;
 use crate::required_sheets::{check_libor, check_sheets};
-use answers::first_refusals::first_refusal;
-use answers::number;
+use answers::Refusal;
 use filing_cells::check_cells;
 use filing_decode::{fill_cells, fill_sheets};
 use form::CELLS;
@@ -27,25 +26,22 @@ use record_kinds::KINDS;
 use record_offsets::BLOCKS;
 
 // Reads a filing: its records front to back, then the sheets that must be there, then the conditions on its cells. Only then is what it says written into the
-// lent arrays: a refusal leaves them as they were, and has no tiers and sums of 0.
-pub fn read(filing: &[u8], cells: &mut [u64; CELLS], numbers: &mut [u16; SHEET_NUMBERS]) -> Reading
-    ensures answered { verdict_of result.answer ≡ filing_verdict filing.now }
-    ensures said { contents_in cells.new numbers.new result.tiers ≡ read_over filing.now (lent cells.old numbers.old) }
-    ensures summed { result.sums ≡ column_sums (read_contents filing.now).cells }
+// lent arrays: a refusal leaves them as they were.
+pub fn read(
+    filing: &[u8],
+    cells: &mut [u64; CELLS],
+    numbers: &mut [u16; SHEET_NUMBERS],
+) -> Result<Reading, Refusal>
+    ensures answered { verdict_of result ≡ filing_verdict filing.now }
+    ensures said { left_by cells.new numbers.new result ≡ read_over filing.now (lent cells.old numbers.old) }
+    ensures summed { IfOk result (λ r. r.sums ≡ column_sums (contents_of filing.now).cells) }
 {
     let mut sheets = [0; KINDS];
     let mut noted = [0; CELLS];
     let mut counting = [0; CELLS];
     let mut falling = [false; BLOCKS];
-    let checked = check_records(filing, &mut sheets, &mut noted, &mut counting, &mut falling);
-    let records = checked.answer;
-    if number(records) != 0 {
-        return refusal(records);
-    }
-    let missing = check_sheets(filing, &sheets);
-    if number(missing) != 0 {
-        return refusal(missing);
-    }
+    check_records(filing, &mut sheets, &mut noted, &mut counting, &mut falling)?;
+    check_sheets(filing, &sheets)?;
     read_contents(filing, &sheets, &counting, cells, numbers)
 }
 
@@ -56,28 +52,18 @@ fn read_contents(
     counting: &[usize; CELLS],
     cells: &mut [u64; CELLS],
     numbers: &mut [u16; SHEET_NUMBERS],
-) -> Reading
+) -> Result<Reading, Refusal>
     requires filing_value { ((records_verdict filing.now).number ≡ 0) × ((sheet_verdict filing.now).number ≡ 0) }
     requires sheets_value { (sheets.now ≡ (noted_before filing.now (length filing.now)).sheets) × (counting.now ≡ (noted_before filing.now (length filing.now)).counting) }
-    ensures answer_value { verdict_of result.answer ≡ filing_verdict filing.now }
-    ensures tiers_after { contents_in cells.new numbers.new result.tiers ≡ read_over filing.now (lent cells.old numbers.old) }
-    ensures sums_value { result.sums ≡ column_sums (read_contents filing.now).cells }
+    ensures answered { verdict_of result ≡ filing_verdict filing.now }
+    ensures said { left_by cells.new numbers.new result ≡ read_over filing.now (lent cells.old numbers.old) }
+    ensures summed { IfOk result (λ r. r.sums ≡ column_sums (contents_of filing.now).cells) }
 {
     let mut said = [0; CELLS];
     fill_cells(filing, counting, &mut said);
-    let libor = check_libor(filing, sheets, &said);
-    let checked = check_cells(&said);
-    let cells_answer = checked.answer;
-    let answer = first_refusal(libor, cells_answer);
-    if number(answer) != 0 {
-        return refusal(answer);
-    }
-    let sums = checked.sums;
+    check_libor(filing, sheets, &said)?;
+    let sums = check_cells(&said)?;
     *cells = said;
     let tiers = fill_sheets(filing, sheets, numbers);
-    Reading {
-        answer,
-        tiers,
-        sums,
-    }
+    Ok(Reading { tiers, sums })
 }

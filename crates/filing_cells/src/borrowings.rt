@@ -8,7 +8,7 @@ ghost use Rattle.filing_cells.specs.BorrowingVerdicts.{coupons_verdict, terms_ve
 ghost use Rattle.filing_cells.specs.Inner.Borrowed.{BorrowingsWithin, some_from};
 
 use crate::column_sums::cells::cell_value;
-use answers::Answer;
+use answers::Refusal;
 use form::CELLS;
 use form::borrowings::{
     BORROWING_TERMS, BORROWINGS, BORROWINGS_TOTAL_CELL, COUPON_CLASSES, borrowing_at, borrowing_of,
@@ -19,28 +19,19 @@ use form::borrowings::{
 pub fn some_borrowed(cells: &[u64; CELLS]) -> bool
     ensures { result ≡ some_borrowed cells.now }
 {
-    let mut i = 0;
-    while i < BORROWINGS {
-        if cell_value(cells, borrowing_at(i).balance) != 0 {
-            return true;
-        }
-        i += 1;
-    }
-    false
+    (0..BORROWINGS).any(|i| cell_value(cells, borrowing_at(i).balance) != 0)
 }
 
 // 19, by ascending WAC cell.
-pub fn check_coupons(cells: &[u64; CELLS]) -> Answer
+pub fn check_coupons(cells: &[u64; CELLS]) -> Result<(), Refusal>
     ensures { verdict_of result ≡ coupons_verdict cells.now }
 {
-    let mut class = 0;
-    while class < COUPON_CLASSES {
+    for class in 0..COUPON_CLASSES {
         if coupon_outside(cells, class) {
-            return Answer::CouponOutsideClass(coupon_cell(class));
+            return Err(Refusal::CouponOutsideClass(coupon_cell(class)));
         }
-        class += 1;
     }
-    Answer::Accepted
+    Ok(())
 }
 
 // A class has a balance, and its coupon lies outside it.
@@ -64,17 +55,15 @@ fn class_borrowed(cells: &[u64; CELLS], class: usize) -> bool
 }
 
 // 7, by ascending WARM cell.
-pub fn check_terms(cells: &[u64; CELLS]) -> Answer
+pub fn check_terms(cells: &[u64; CELLS]) -> Result<(), Refusal>
     ensures { verdict_of result ≡ terms_verdict cells.now }
 {
-    let mut term = 0;
-    while term < BORROWING_TERMS {
+    for term in 0..BORROWING_TERMS {
         if term_outside(cells, term) {
-            return Answer::MonthsOutsideRow(term_cell(term));
+            return Err(Refusal::MonthsOutsideRow(term_cell(term)));
         }
-        term += 1;
     }
-    Answer::Accepted
+    Ok(())
 }
 
 // A term has a balance, and its remaining months lie outside it.
@@ -102,25 +91,23 @@ fn some_from(cells: &[u64; CELLS], first: usize, step: usize, count: usize) -> b
     requires { first + step * count ≤ borrowings_total_cell }
     ensures { result ≡ some_from cells.now first step count }
 {
-    let mut i = 0;
-    while i < count {
+    for i in 0..count {
         if cell_value(cells, first + step * i) != 0 {
             return true;
         }
-        i += 1;
     }
     false
 }
 
 // 9, at the total.
-pub fn check_borrowings_total(cells: &[u64; CELLS]) -> Answer
+pub fn check_borrowings_total(cells: &[u64; CELLS]) -> Result<(), Refusal>
     requires { BorrowingsWithin cells.now }
     ensures { verdict_of result ≡ borrowings_verdict cells.now }
 {
     if cell_value(cells, BORROWINGS_TOTAL_CELL) == borrowings_sum(cells) {
-        Answer::Accepted
+        Ok(())
     } else {
-        Answer::TotalDiffers(BORROWINGS_TOTAL_CELL)
+        Err(Refusal::TotalDiffers(BORROWINGS_TOTAL_CELL))
     }
 }
 
@@ -130,10 +117,8 @@ fn borrowings_sum(cells: &[u64; CELLS]) -> u64
     ensures { result ≡ sum (borrowings cells.now) }
 {
     let mut total = 0;
-    let mut summed = 0;
-    while summed < BORROWINGS {
-        total += cell_value(cells, borrowing_at(summed).balance);
-        summed += 1;
+    for i in 0..BORROWINGS {
+        total += cell_value(cells, borrowing_at(i).balance);
     }
     total
 }

@@ -4,7 +4,7 @@
 pub mod borrowings;
 pub mod column_sums;
 
-ghost use Rattle.std.specs.Prelude.{◌≡◌};
+ghost use Rattle.std.specs.Prelude.{◌≡◌, IfOk};
 ghost use Rattle.answers.specs.Answers.{verdict_of};
 ghost use Rattle.filing_cells.specs.Inner.Sums.{BalancesWithin, column_sums};
 ghost use Rattle.filing_cells.specs.Inner.Borrowed.{BorrowingsWithin};
@@ -15,49 +15,37 @@ use crate::borrowings::{check_borrowings_total, check_coupons, check_terms};
 use crate::column_sums::ColumnSums;
 use crate::column_sums::cells::cell_value;
 use crate::column_sums::sums::column_sums;
-use answers::Answer;
-use answers::first_refusals::first_refusal;
+use answers::Refusal;
 use form::positions::{position, within_row};
 use form::{CELLS, FIRST_COLUMN_CELL, Position, TOTAL_CELL};
 
-// The answer on the cells of a filing, and the sums of their columns.
-#[derive(Clone, Copy)]
-pub struct CheckedCells {
-    pub answer: Answer,
-    pub sums: ColumnSums,
-}
-
-// 19 and 7 to 9, on the cells of a filing.
-pub fn check_cells(cells: &[u64; CELLS]) -> CheckedCells
+// 19 and 7 to 9, on the cells of a filing: the sums of their columns where none refuses.
+pub fn check_cells(cells: &[u64; CELLS]) -> Result<ColumnSums, Refusal>
     requires { BalancesWithin cells.now × BorrowingsWithin cells.now }
-    ensures answer_value { verdict_of result.answer ≡ cells_verdict cells.now }
-    ensures sums_value { result.sums ≡ column_sums cells.now }
+    ensures answer_value { verdict_of result ≡ cells_verdict cells.now }
+    ensures sums_value { IfOk result (λ sums. sums ≡ column_sums cells.now) }
 {
     let sums = column_sums(cells);
-    let borrowed = check_borrowings_total(cells);
-    let total = first_refusal(check_total(cells, &sums.totals), borrowed);
-    let columns = first_refusal(check_columns(cells, &sums.totals), total);
-    let terms = first_refusal(check_terms(cells), columns);
-    let months = first_refusal(check_months(cells), terms);
-    CheckedCells {
-        answer: first_refusal(check_coupons(cells), months),
-        sums,
-    }
+    check_coupons(cells)?;
+    check_months(cells)?;
+    check_terms(cells)?;
+    check_columns(cells, &sums.totals)?;
+    check_total(cells, &sums.totals)?;
+    check_borrowings_total(cells)?;
+    Ok(sums)
 }
 
 // 7, by ascending WARM cell.
-fn check_months(cells: &[u64; CELLS]) -> Answer
+fn check_months(cells: &[u64; CELLS]) -> Result<(), Refusal>
     ensures { verdict_of result ≡ months_verdict cells.now }
 {
-    let mut i = 0;
-    while i < 9 {
+    for i in 0..9 {
         let p = position(i);
         if months_outside(cells, p) {
-            return Answer::MonthsOutsideRow(p.months);
+            return Err(Refusal::MonthsOutsideRow(p.months));
         }
-        i += 1;
     }
-    Answer::Accepted
+    Ok(())
 }
 
 // A position has a balance, and its remaining months lie outside its row.
@@ -72,29 +60,27 @@ fn months_outside(cells: &[u64; CELLS], p: Position) -> bool
 }
 
 // 8, by ascending cell: the brokered balances of the three columns, then their balances subject to penalty.
-fn check_columns(cells: &[u64; CELLS], totals: &[u64; 3]) -> Answer
+fn check_columns(cells: &[u64; CELLS], totals: &[u64; 3]) -> Result<(), Refusal>
     requires { totals.now ≡ (column_sums cells.now).totals }
     ensures { verdict_of result ≡ columns_verdict cells.now }
 {
-    let mut i = 0;
-    while i < 6 {
+    for i in 0..6 {
         let column = i % 3;
         if totals[column] < cell_value(cells, i + FIRST_COLUMN_CELL) {
-            return Answer::AboveColumnSum(i + FIRST_COLUMN_CELL);
+            return Err(Refusal::AboveColumnSum(i + FIRST_COLUMN_CELL));
         }
-        i += 1;
     }
-    Answer::Accepted
+    Ok(())
 }
 
 // 9, at the total.
-fn check_total(cells: &[u64; CELLS], totals: &[u64; 3]) -> Answer
+fn check_total(cells: &[u64; CELLS], totals: &[u64; 3]) -> Result<(), Refusal>
     requires { BalancesWithin cells.now × (totals.now ≡ (column_sums cells.now).totals) }
     ensures { verdict_of result ≡ total_verdict cells.now }
 {
     if cell_value(cells, TOTAL_CELL) == totals[0] + totals[1] + totals[2] {
-        Answer::Accepted
+        Ok(())
     } else {
-        Answer::TotalDiffers(TOTAL_CELL)
+        Err(Refusal::TotalDiffers(TOTAL_CELL))
     }
 }

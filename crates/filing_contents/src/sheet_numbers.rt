@@ -14,10 +14,8 @@ pub fn fill_numbers(s: &[u8], at: usize, numbers: &mut [u16])
     ensures { numbers.new ≡ table_from 1 (length numbers.old) (sheet_number s.now at) }
 {
     let within = holds_numbers(s, at, numbers.len());
-    let mut i = 0;
-    while i < numbers.len() {
+    for i in 0..numbers.len() {
         numbers[i] = number_of(s, at, i + 1, within);
-        i += 1;
     }
 }
 
@@ -39,11 +37,7 @@ fn fill_from(rates: &mut [u16], from: usize, rate: u16)
     requires { (from ≤ rate_count) × (length rates.old ≡ rate_count) }
     ensures { rates.new ≡ table rate_count (λ i. cond (ltb i from) (get_or rates.old i 0) rate) }
 {
-    let mut i = from;
-    while i < rates.len() {
-        rates[i] = rate;
-        i += 1;
-    }
+    rates[from..].fill(rate);
 }
 
 // The tiers of the record at an offset.
@@ -63,13 +57,7 @@ fn tier_numbers(s: &[u8], at: usize, count: usize, first: usize) -> [u16; TIER_L
     requires { first ≤ 3 }
     ensures { result ≡ table tier_limit (tier_number s.now at count first) }
 {
-    let mut numbers = [0; TIER_LIMIT];
-    let mut i = 0;
-    while i < TIER_LIMIT {
-        numbers[i] = tier_number(s, at, count, first, i);
-        i += 1;
-    }
-    numbers
+    std::array::from_fn(|i| tier_number(s, at, count, first, i))
 }
 
 // The number of the i-th tier, from 0; 0 past the last.

@@ -1,5 +1,6 @@
 -- What the noted offsets of all records give is what the filing says.
 -- Assumes nothing.
+use Rattle.std.specs.Prelude.{Some}
 use Prim.Native.Nat.{ℕ, ◌+◌, ◌-◌, ◌/◌, ◌≤◌, ◌<◌}
 use native.Mathlib.Nat.{add_comm}
 use native.Mathlib.Omega.{arith}
@@ -52,7 +53,7 @@ value-noted s n = amount-present s (cell_offset s n) (ltb (cell_offset s n) (len
 -- the noted offset of a kind of sheet
 pub sheet-noted : (s : List ℕ) (kind : ℕ) → kind < kind_count → get_or (noted_before s (length s)).sheets kind 0 ≡ sheet_offset s kind
 unfolding sheet_offset
-sheet-noted s kind h = noted-sheet s (length s) kind h ∙ offset-end s (Sheet kind)
+sheet-noted s kind h = noted-sheet s (length s) kind h ∙ offset-end s (Some (Sheet kind))
 
 -- a part of the numbers that is lent to be filled: its numbers are written where it stands
 pub part_filled : (l run : List ℕ) (start n k : ℕ) (f : ℕ → ℕ) → start + n ≤ length l → k ≡ n → run ≡ table_from 1 (length (take k (drop start l))) f

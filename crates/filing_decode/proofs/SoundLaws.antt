@@ -1,5 +1,6 @@
 -- A filing whose records are all sound: each cell is within the limit of its class, so are the numbers of a sheet that is present, and tiers load.
 -- Assumes nothing.
+use Rattle.std.specs.Prelude.{Option, Some, None}
 use Prim.Native.Nat.{ℕ, suc, ◌+◌, ◌*◌, ◌-◌, ◌≤◌, ◌<◌}
 use native.Mathlib.Omega.{arith}
 use mathlib.Core.Path.{◌≡◌, refl, sym, ap, ◌∙◌}
@@ -16,7 +17,7 @@ use Rattle.form.specs.Borrowings.{borrowing_at}
 use Rattle.form.specs.Classes.{cell_class}
 use Rattle.form.proofs.CellLaws.{CellOf, balance-cell, borrowing-balance-cell}
 use Rattle.record_kinds.specs.declared.items.Item.{Item}
-use Rattle.record_kinds.specs.declared.items.Item.TheVariants.{Cell, Sheet, Amendment, Nothing}
+use Rattle.record_kinds.specs.declared.items.Item.TheVariants.{Cell, Sheet, Amendment}
 use Rattle.record_fields.specs.Records.{record_kind, record_cell, amendment_state, amendment_value, sheet_number, tier_count}
 use Rattle.record_kinds.specs.Kinds.{fine_coupon_kind, amendment_kind, sheet_kind, tiers_kind}
 use Rattle.record_kinds.specs.Items.{same_item, record_item, first_with}
@@ -55,7 +56,7 @@ module _ (s : List ℕ) (none : first_faulty s ≡ length s) where
       faultless-sound s at (record-plain s at (eqb-true (record_verdict s at).number 0 (not-false (eqb (record_verdict s at).number 0) h)))
 
   -- every record that a search for an item finds is without a fault
-  item-sound : (item : Item) → first_with s item (length s) < length s → Sound s (first_with s item (length s))
+  item-sound : (item : Option Item) → first_with s item (length s) < length s → Sound s (first_with s item (length s))
   unfolding first_refused first_with
   item-sound item h =
       sound-at (first_with s item (length s))
@@ -86,7 +87,7 @@ module _ (s : List ℕ) (none : first_faulty s ≡ length s) where
     limited : filed_value s at ≤ value_limit s at
 
   -- a record of a cell: a sound record's value is within the limit of its kind
-  cell_holds : (n at : ℕ) → Sound s at → record_item s at ≡ Cell n → Holds n at
+  cell_holds : (n at : ℕ) → Sound s at → record_item s at ≡ Some (Cell n) → Holds n at
   unfolding filed_value
   cell_holds n at sound e =
       let of = record-of-cell s at n e in
@@ -97,7 +98,7 @@ module _ (s : List ℕ) (none : first_faulty s ≡ length s) where
       }
 
   -- an amendment: its value is within the limit of its cell's class, or the cell is withdrawn, which is 0; it is not of kind 6
-  amendment-holds : (n number at : ℕ) → Sound s at → record_item s at ≡ Amendment n number → Holds n at
+  amendment-holds : (n number at : ℕ) → Sound s at → record_item s at ≡ Some (Amendment n number) → Holds n at
   unfolding filed_value value_limit
   amendment-holds n number at sound e =
       let of = record-of-amendment s at n number e in
@@ -120,12 +121,12 @@ module _ (s : List ℕ) (none : first_faulty s ≡ length s) where
   unfolding item_rank
   holds n h = let c = counting-sound n h in by (record_item s (cell_offset s n)) refl c.0 c.1
     where
-      by : (item : Item) → record_item s (cell_offset s n) ≡ item → Sound s (cell_offset s n) → 0 < item_rank n (record_item s (cell_offset s n)) → Holds n (cell_offset s n)
-      by (Cell m) e sound l = cell_holds n (cell_offset s n) sound (e ∙ ap Cell (ranked-cell m n 1 (rw e at l)))
-      by (Sheet kind) e sound l = absurd (omega (arith, rw e at l))
-      by (Amendment m number) e sound l =
-          amendment-holds n number (cell_offset s n) sound (e ∙ ap (λ (c : ℕ). Amendment c number) (ranked-cell m n (number + 1) (rw e at l)))
-      by Nothing e sound l = absurd (omega (arith, rw e at l))
+      by : (item : Option Item) → record_item s (cell_offset s n) ≡ item → Sound s (cell_offset s n) → 0 < item_rank n (record_item s (cell_offset s n)) → Holds n (cell_offset s n)
+      by (Some (Cell m)) e sound l = cell_holds n (cell_offset s n) sound (e ∙ ap (λ (c : ℕ). Some (Cell c)) (ranked-cell m n 1 (rw e at l)))
+      by (Some (Sheet kind)) e sound l = absurd (omega (arith, rw e at l))
+      by (Some (Amendment m number)) e sound l =
+          amendment-holds n number (cell_offset s n) sound (e ∙ ap (λ (c : ℕ). Some (Amendment c number)) (ranked-cell m n (number + 1) (rw e at l)))
+      by None e sound l = absurd (omega (arith, rw e at l))
 
   present-limit : (n : ℕ) → cell_offset s n < length s → amount_at s (cell_offset s n) ≤ held_limit (cell_class (record_cell s (cell_offset s n)))
   unfolding amount_at held_limit value_limit
@@ -168,15 +169,15 @@ module _ (s : List ℕ) (none : first_faulty s ≡ length s) where
       → (i : ℕ) → 1 ≤ i → i ≤ (sheet_kind kind).numbers → sheet_number s (sheet_offset s kind) i ≤ (sheet_kind kind).limit
   unfolding sheet_offset
   sheet-limit kind h i l u =
-      let is-sheet = record-of-sheet s (sheet_offset s kind) kind (with-passes s (Sheet kind) (length s) h) in
-      rw is-sheet.kind-is at ((item-sound (Sheet kind) h).number-limit i l (rw is-sheet.kind-is u))
+      let is-sheet = record-of-sheet s (sheet_offset s kind) kind (with-passes s (Some (Sheet kind)) (length s) h) in
+      rw is-sheet.kind-is at ((item-sound (Some (Sheet kind)) h).number-limit i l (rw is-sheet.kind-is u))
 
   -- tiers that are present load
   tiers-sound : sheet_offset s tiers_kind < length s → SoundTiers s (sheet_offset s tiers_kind)
   unfolding sheet_offset
   tiers-sound h =
-      let is-sheet = record-of-sheet s (sheet_offset s tiers_kind) tiers_kind (with-passes s (Sheet tiers_kind) (length s) h) in
-      (item-sound (Sheet tiers_kind) h).tiers is-sheet.kind-is
+      let is-sheet = record-of-sheet s (sheet_offset s tiers_kind) tiers_kind (with-passes s (Some (Sheet tiers_kind)) (length s) h) in
+      (item-sound (Some (Sheet tiers_kind)) h).tiers is-sheet.kind-is
 
   -- at most sixteen tiers, and none where there is no record of them
   pub tier-count-within : (contents_of s).tiers.count ≤ tier_limit

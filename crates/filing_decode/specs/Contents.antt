@@ -1,6 +1,6 @@
 -- What a filing says: its cells (amended, 02:CR 6; coupons in thousandths, 02:CR 4), its CD yields, its retail rates (01:6-11; by month, 02:CR 3),
 -- its LIBOR yields (02:CR 8) and its tiers (02:CR 1). Definitions only.
-use Rattle.std.specs.Prelude.{ℕ, ◌+◌, ◌/◌, cond, List, length, ltb}
+use Rattle.std.specs.Prelude.{ℕ, ◌+◌, ◌/◌, cond, List, length, ltb, Some}
 use Rattle.lists.specs.Tables.{table, table_from}
 use Rattle.form.specs.Cells.{first_cell, cell_count}
 use Rattle.form.specs.Limits.{sheet_months, rate_count}
@@ -23,7 +23,7 @@ cell_value s n = cond (ltb (cell_offset s n) (length s)) (amount_at s (cell_offs
 
 -- the offset of a kind of sheet, or the input's length where there is none
 unfoldable pub sheet_offset : List ℕ → ℕ → ℕ
-sheet_offset s kind = first_with s (Sheet kind) (length s)
+sheet_offset s kind = first_with s (Some (Sheet kind)) (length s)
 
 -- the i-th retail rate, from 0, column by column (02:CR 3): the number of kind 5, or, where there is none, the flat rate of kind 3 in each month of its
 -- column, hundredths of a percent a year

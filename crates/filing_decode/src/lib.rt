@@ -28,10 +28,8 @@ pub fn fill_cells(s: &[u8], offsets: &[usize; CELLS], cells: &mut [u64; CELLS])
     requires cells_len { length cells.old ≡ cell_count }
     ensures { cells.new ≡ (contents_of s.now).cells }
 {
-    let mut i = 0;
-    while i < CELLS {
+    for i in 0..CELLS {
         cells[i] = amount_at(s, offsets[i]);
-        i += 1;
     }
 }
 

@@ -38,11 +38,5 @@ impl Scenario {
 pub fn shifted_rates(rate: u16) -> [u64; SCENARIOS]
     ensures { result ≡ shifted_rates rate }
 {
-    let mut rates = [0; SCENARIOS];
-    let mut i: u8 = 0;
-    while (i as u64) < Scenario::COUNT {
-        rates[i as usize] = Scenario::new(i).shifted(rate);
-        i += 1;
-    }
-    rates
+    std::array::from_fn(|i| Scenario::new(i as u8).shifted(rate))
 }

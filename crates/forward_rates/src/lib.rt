@@ -12,25 +12,21 @@ ghost use Rattle.forward_rates.specs.Inner.Searches.{Figured};
 
 use crate::sides::{Side, side_of};
 use crate::terms::{bracket, term_at};
+use pricing::Bounds;
 
-// A lower and an upper growth, what a rate makes of 120,000 in a month.
-#[derive(Clone, Copy)]
-pub struct Growths {
-    pub lower: u64,
-    pub upper: u64,
-}
-
-// The forward over the term at an index, from the figures of the accumulated yields at its start and its end. Halves the bracket of the term until its ends are one
+// The forward over the term at an index, as a lower and an upper growth (what a rate makes of 120,000 in a month), from the figures of the accumulated yields at its start and its end. Halves the bracket of the term until its ends are one
 // apart, or a growth is so close to the true rate's that the figures cannot tell them apart.
-pub fn forward(start: u64, end: u64, index: usize) -> Growths
+pub fn forward(start: u64, end: u64, index: usize) -> Bounds<u64>
     requires { (start ≤ figure_limit) × (end ≤ figure_limit) }
     ensures encloses { (k : Forward) → k.term ≡ term_at index → Figured k start end → Enclosing k result.lower result.upper }
     ensures limited { (result.lower ≤ growth_limit) × (result.upper ≤ growth_limit) }
 {
     let term = term_at(index);
-    let whole = bracket(index);
-    let mut lower = whole.lower;
-    let mut upper = whole.upper;
+    let Bounds {
+        mut lower,
+        mut upper,
+    } = bracket(index);
+    // A `while`: no range or iterator says how often a bracket is halved.
     while lower + 1 < upper {
         let middle = (lower + upper) / 2;
         let told = side_of(start, end, term, middle);
@@ -38,12 +34,12 @@ pub fn forward(start: u64, end: u64, index: usize) -> Growths
             Side::Below => lower = middle,
             Side::Above => upper = middle,
             Side::Close => {
-                return Growths {
+                return Bounds {
                     lower: middle - 1,
                     upper: middle + 1,
                 };
             }
         }
     }
-    Growths { lower, upper }
+    Bounds { lower, upper }
 }

@@ -7,11 +7,12 @@ ghost use Rattle.forward_rates.specs.Inner.Searches.{Figured, Fit, Told, margin}
 
 use crate::figures::{UNIT, power};
 
-#[derive(Clone, Copy)]
+// What a comparison tells of a growth.
+#[derive(Clone, Copy, Debug, PartialEq, Eq)]
 pub enum Side {
-    // At most the true rate's.
+    // The growth is at most the true rate's.
     Below,
-    // At least the true rate's.
+    // The growth is at least the true rate's.
     Above,
     // One less is at most the true rate's and one more at least.
     Close,

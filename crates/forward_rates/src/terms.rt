@@ -3,7 +3,7 @@ ghost use Rattle.std.specs.Prelude.{◌≡◌};
 ghost use Rattle.forward_rates.specs.Forwards.{term_at};
 ghost use Rattle.forward_rates.specs.Inner.Searches.{Bracket};
 
-use crate::Growths;
+use pricing::Bounds;
 
 // The term at an index, months.
 pub fn term_at(index: usize) -> u64
@@ -17,19 +17,19 @@ pub fn term_at(index: usize) -> u64
 }
 
 // The growths whose power over the term is a sixteenth and sixteen, as whole numbers within these.
-pub fn bracket(index: usize) -> Growths
+pub fn bracket(index: usize) -> Bounds<u64>
     ensures { Bracket (term_at index) result.lower result.upper }
 {
     match index {
-        0 => Growths {
+        0 => Bounds {
             lower: 75_596,
             upper: 190_488,
         },
-        1 => Growths {
+        1 => Bounds {
             lower: 106_908,
             upper: 134_695,
         },
-        _ => Growths {
+        _ => Bounds {
             lower: 113_265,
             upper: 127_135,
         },

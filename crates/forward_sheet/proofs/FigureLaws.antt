@@ -1,19 +1,16 @@
 -- The figures of a scenario's accumulated yields, month by month, and of the two of a forward. Assumes nothing.
 use Prim.Native.Nat.{ℕ, suc, ◌+◌, ◌-◌, ◌≤◌, ◌<◌}
 use native.Mathlib.Omega.{arith}
-use mathlib.Core.Path.{◌≡◌, refl}
 use mathlib.Core.List.{List}
-use lib.Dec.{lit≤}
-use lib.ListN.{get_or, replicate}
+use lib.ListN.{get_or}
 use Rattle.lists.proofs.FillLaws.{FilledBy}
 use Rattle.form.specs.Limits.{sheet_months}
 use Rattle.form.specs.Shift.{scenario_count}
 use Rattle.form.proofs.ShiftLaws.{shifted-rate-le}
 use Rattle.price_factors.specs.Inner.Factors.{WithinRates, sheet_yield}
 use Rattle.forward_rates.specs.Forwards.{term_at}
-use Rattle.forward_rates.specs.Inner.Figures.{Figure, unit, figure_limit}
+use Rattle.forward_rates.specs.Inner.Figures.{Figure, figure_limit}
 use Rattle.forward_rates.specs.Inner.Searches.{Figured, YieldGrowth, yield_loss}
-use Rattle.forward_rates.proofs.FigureLaws.{figure-one, figure-less}
 use Rattle.forward_sheet.specs.Sheet.{forward_of}
 use Rattle.forward_sheet.specs.Inner.Runs.{Accumulated, WithinLimit, sheet_growth}
 
@@ -42,17 +39,6 @@ sheet-grows yields within scenario month h =
 pub record Entry (growth : ℕ → ℕ) (month figure : ℕ) : Type 0 where
   pub is : Figure yield_loss (growth month) month figure
   pub limit : figure ≤ figure_limit
-
--- that of month 0 is 1
-pub entries-start : (growth : ℕ → ℕ) → FilledBy (Entry growth) 0 (suc sheet_months) 1 (replicate (suc sheet_months) unit)
-entries-start growth =
-    record {
-      long = refl;
-      holds = λ j h. first j (omega arith);
-    }
-  where
-    first : (j : ℕ) → j ≡ 0 → Entry growth j (get_or (replicate (suc sheet_months) unit) j 0)
-    first j e = rw e (record { is = figure-less yield_loss (lit≤ tt) (figure-one (growth 0)); limit = lit≤ tt })
 
 -- when all are there
 pub entries-end : {growth : ℕ → ℕ} (figures : List ℕ) → ((month : ℕ) → YieldGrowth (growth month)) → FilledBy (Entry growth) 0 (suc sheet_months) (suc sheet_months) figures

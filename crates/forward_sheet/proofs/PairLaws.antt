@@ -1,6 +1,5 @@
 -- Pairs of forwards in a list: one more month, all of a term, and what a change elsewhere leaves. Assumes nothing.
 use Prim.Native.Nat.{ℕ, suc, ◌+◌, ◌*◌, ◌≤◌, ◌<◌}
-use native.Mathlib.Nat.{not-suc-le-zero}
 use native.Mathlib.Omega.{arith}
 use mathlib.Core.Path.{◌≡◌}
 use mathlib.Core.Logic.{⊎_elim}
@@ -29,9 +28,6 @@ Pairs growth i at n list =
 
 -- pairs over the term at an index, by the growths of the months
 module _ (growth : ℕ → ℕ) (i at : ℕ) where
-  pub pairs-none : (list : List ℤ) → Pairs growth i at 0 list
-  pairs-none list month h = absurd (not-suc-le-zero h)
-
   -- those of a list that is changed behind them
   pairs-kept : (n : ℕ) {from to : ℕ} {before after : List ℤ} → Changed from to before after → at + 2 * n ≤ from → Pairs growth i at n before → Pairs growth i at n after
   pairs-kept n k h pairs month l =

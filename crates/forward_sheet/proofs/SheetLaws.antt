@@ -56,9 +56,6 @@ abbrev pub Scenarios : (ℕ → ℕ → ℕ) → ℕ → List ℤ → Type 0
 Scenarios growth n list = (scenario : ℕ) → scenario < n → HoldsScenario (growth scenario) (2 * (scenario_pairs * scenario)) list
 
 module _ (growth : ℕ → ℕ → ℕ) where
-  pub scenarios-none : (list : List ℤ) → Scenarios growth 0 list
-  scenarios-none list i h = absurd (not-suc-le-zero h)
-
   -- one scenario more
   pub scenarios-more : (n : ℕ) {to : ℕ} {before : List ℤ} (after : List ℤ) → Changed (2 * (scenario_pairs * n)) to before after → Scenarios growth n before
       → HoldsScenario (growth n) (2 * (scenario_pairs * n)) after → Scenarios growth (n + 1) after

@@ -1,6 +1,6 @@
 -- What the forwards' call promises, for any bytes and any list lent to it (02:CR 10). Definitions only.
-use Rattle.std.specs.Prelude.{ℕ, ◌≡◌, List, ℤ, length, drop}
-use Rattle.answers.specs.declared.Answer.{Answer}
+use Rattle.std.specs.Prelude.{ℕ, ◌≡◌, Result, List, ℤ, length, drop}
+use Rattle.answers.specs.declared.Refusal.{Refusal}
 use Rattle.answers.specs.Answers.{verdict_of}
 use Rattle.answers.specs.Verdict.{Verdict, accepted, first_refusal, list_verdict}
 use Rattle.filing_decode.specs.Contents.{contents_of}
@@ -12,7 +12,7 @@ unfoldable pub verdict_on : List ℕ → List ℤ → Verdict
 verdict_on s before = first_refusal (list_verdict forward_count (length before)) (filing_verdict s)
 
 -- s is the filing's bytes, before and after are the list at the call and at the return
-pub record ForwardsOf (s : List ℕ) (before : List ℤ) (answer : Answer) (after : List ℤ) : Type 0 where
+pub record ForwardsOf {A : Type 0} (s : List ℕ) (before : List ℤ) (answer : Result A Refusal) (after : List ℤ) : Type 0 where
   pub answer-is : verdict_of answer ≡ verdict_on s before
   -- a refusal changes no number
   pub refused-left : (verdict_of answer ≡ accepted → ⊥) → after ≡ before

@@ -30,39 +30,32 @@ pub(crate) fn write_forwards(sheets: &[u16; SHEET_NUMBERS], list: &mut [i64])
 {
     let numbers: &[u16] = sheets;
     let yields = &numbers[YIELDS_START..YIELDS_START + SHEET_MONTHS];
-    let mut scenario: u8 = 0;
-    while (scenario as u64) < Scenario::COUNT {
-        write_scenario(yields, scenario, list);
-        scenario += 1;
+    for number in 0..SCENARIOS as u8 {
+        write_scenario(yields, Scenario::new(number), list);
     }
 }
 
 // Writes the pairs of a scenario, term after term.
-fn write_scenario(yields: &[u16], scenario: u8, list: &mut [i64])
-    requires { WithinRates yields.now × (sheet_months ≤ length yields.now) × (scenario < scenario_count) × (forward_count ≤ length list.old) }
-    ensures { Changed (2 * (scenario_pairs * scenario)) (2 * (scenario_pairs * (scenario + 1))) list.old list.new
-        × HoldsScenario (sheet_growth yields.now scenario) (2 * (scenario_pairs * scenario)) list.new }
+fn write_scenario(yields: &[u16], scenario: Scenario, list: &mut [i64])
+    requires { WithinRates yields.now × (sheet_months ≤ length yields.now) × (scenario.number < scenario_count) × (forward_count ≤ length list.old) }
+    ensures { Changed (2 * (scenario_pairs * scenario.number)) (2 * (scenario_pairs * (scenario.number + 1))) list.old list.new
+        × HoldsScenario (sheet_growth yields.now scenario.number) (2 * (scenario_pairs * scenario.number)) list.new }
 {
     let figures = figures_of(yields, scenario);
-    let mut at = 2 * (PAIRS * scenario as usize);
-    let mut index: usize = 0;
-    while index < TERMS {
+    let mut at = 2 * (PAIRS * scenario.number as usize);
+    for index in 0..TERMS {
         at = write_term(&figures, index, at, list);
-        index += 1;
     }
 }
 
 // The figures of the accumulated yields of months 0 to 120 in a scenario.
-fn figures_of(yields: &[u16], scenario: u8) -> [u64; SHEET_MONTHS + 1]
-    requires { WithinRates yields.now × (sheet_months ≤ length yields.now) × (scenario < scenario_count) }
-    ensures { Accumulated (sheet_growth yields.now scenario) result × WithinLimit result }
+fn figures_of(yields: &[u16], scenario: Scenario) -> [u64; SHEET_MONTHS + 1]
+    requires { WithinRates yields.now × (sheet_months ≤ length yields.now) × (scenario.number < scenario_count) }
+    ensures { Accumulated (sheet_growth yields.now scenario.number) result × WithinLimit result }
 {
     let mut figures = [UNIT; SHEET_MONTHS + 1];
-    let mut month: usize = 1;
-    while month <= SHEET_MONTHS {
-        let shifted = Scenario::new(scenario).shifted(yields[month - 1]);
-        figures[month] = accumulated(shifted, month as u64);
-        month += 1;
+    for month in 0..SHEET_MONTHS {
+        figures[month + 1] = accumulated(scenario.shifted(yields[month]), month as u64 + 1);
     }
     figures
 }

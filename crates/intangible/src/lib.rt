@@ -10,7 +10,7 @@ pub const LAST_MONTH: u64 = 360;
 
 // The run after some months at a rounding, in millionths of the opening balance: what the next month opens with, and the discounted flows after the filed term
 // so far.
-#[derive(Clone, Copy)]
+#[derive(Clone, Copy, Debug, PartialEq, Eq)]
 pub struct Rolled {
     pub balance: u64,
     pub sum: u64,

@@ -10,36 +10,23 @@ ghost use Rattle.intangible_walk.specs.Inner.Walks.{Walkable};
 ghost use Rattle.intangible_cells.specs.Inner.Filed.{products_of, intangible_by};
 
 use crate::filed_term::rolled_balances;
-use form::limits::TIER_LIMIT;
-use form::sub_balances::SCENARIOS;
 use intangible::Rolled;
 use intangible_months::RetailCell;
 use intangible_months::months::discounted;
 use intangible_walk::steps::next_term;
-use intangible_walk::{Bounds, LongFactors, Walk, walk_term};
+use intangible_walk::{Market, Walk, walk_term};
+use pricing::Bounds;
 
 // The lower result is the lower first product less the upper sum, the upper one the reverse. In the contracts k is the cell's terms in the scenario.
-pub fn intangible_in<'a>(
-    cell: RetailCell,
-    scenario: usize,
-    rates: &[u16],
-    count: usize,
-    edges: &'a [u64; TIER_LIMIT],
-    survivals: &'a [u64; TIER_LIMIT],
-    retained: u64,
-    lower: &LongFactors,
-    upper: &LongFactors,
-) -> [i64; 2]
-    requires { let k : RollingTerms = lent_terms cell scenario rates.now count edges.now survivals.now retained in Walkable k cell.column scenario rates.now count edges.now lower.now upper.now }
-    ensures { let k : RollingTerms = lent_terms cell scenario rates.now count edges.now survivals.now retained in result ≡ intangible_by k scenario lower.now upper.now }
+pub fn intangible_in<'a>(cell: RetailCell, scenario: usize, market: &Market<'a>) -> [i64; 2]
+    requires { let k : RollingTerms = lent_terms cell scenario market.now.rates.now market.now.tiers.now in Walkable k cell.column scenario market.now.rates.now market.now.tiers.now market.now.factors.now.lower market.now.factors.now.upper }
+    ensures { let k : RollingTerms = lent_terms cell scenario market.now.rates.now market.now.tiers.now in result ≡ intangible_by k scenario market.now.factors.now.lower market.now.factors.now.upper }
 {
-    let rolled = rolled_balances(cell, scenario, rates, count, edges, survivals, retained);
-    let first = first_products(rolled, cell.months, scenario, lower, upper);
+    let rolled = rolled_balances(cell, scenario, market);
+    let first = first_products(rolled, cell.months, scenario, market);
     let start = walk_from(rolled, cell.months);
-    let term = next_term(cell.months, cell.term, cell.column, scenario, rates);
-    let sums = walk_term(
-        start, term, cell, scenario, rates, count, edges, survivals, retained, lower, upper,
-    );
+    let term = next_term(cell.months, cell, scenario, market.rates);
+    let sums = walk_term(start, term, cell, scenario, market);
     [
         difference(first.lower, sums.upper),
         difference(first.upper, sums.lower),
@@ -47,26 +34,25 @@ pub fn intangible_in<'a>(
 }
 
 // What rolls over at the end of the filed term, times its discount factors.
-fn first_products(
-    rolled: Bounds,
+fn first_products<'a>(
+    rolled: Bounds<u64>,
     months: u64,
     scenario: usize,
-    lower: &LongFactors,
-    upper: &LongFactors,
-) -> Bounds
-    requires { (rolled.lower ≤ figure_limit) × (rolled.upper ≤ figure_limit) × (0 < months) × (months ≤ months_limit) × (scenario < scenario_count) × AtMostPar lower.now × AtMostPar upper.now }
-    ensures { (result ≡ products_of rolled months scenario lower.now upper.now) × (result.lower ≤ figure_limit) × (result.upper ≤ figure_limit) }
+    market: &Market<'a>,
+) -> Bounds<u64>
+    requires { (rolled.lower ≤ figure_limit) × (rolled.upper ≤ figure_limit) × (0 < months) × (months ≤ months_limit) × (scenario < scenario_count) × AtMostPar market.now.factors.now.lower × AtMostPar market.now.factors.now.upper }
+    ensures { (result ≡ products_of rolled months scenario market.now.factors.now.lower market.now.factors.now.upper) × (result.lower ≤ figure_limit) × (result.upper ≤ figure_limit) }
 {
-    let i = SCENARIOS * (months as usize - 1) + scenario;
+    let factors = market.factors_after(months - 1, scenario);
     Bounds {
-        lower: discounted(rolled.lower, lower[i], false),
-        upper: discounted(rolled.upper, upper[i], true),
+        lower: discounted(rolled.lower, factors.lower, false),
+        upper: discounted(rolled.upper, factors.upper, true),
     }
 }
 
 // The walk as it begins after the filed term: nothing is summed yet.
-fn walk_from(rolled: Bounds, months: u64) -> Walk
-    ensures { result ≡ record { month = months; lower = record { balance = rolled.lower; sum = 0 }; upper = record { balance = rolled.upper; sum = 0 } } }
+fn walk_from(rolled: Bounds<u64>, months: u64) -> Walk
+    ensures { result ≡ record { month = months; runs = record { lower = record { balance = rolled.lower; sum = 0 }; upper = record { balance = rolled.upper; sum = 0 } } } }
 {
     let lower = Rolled {
         balance: rolled.lower,
@@ -78,8 +64,7 @@ fn walk_from(rolled: Bounds, months: u64) -> Walk
     };
     Walk {
         month: months,
-        lower,
-        upper,
+        runs: Bounds { lower, upper },
     }
 }
 

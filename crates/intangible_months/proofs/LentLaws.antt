@@ -87,7 +87,7 @@ module _ (t : WithdrawalTiers) (u : Usable t) where
 
   -- what survives is what the definitions say
   pub lent-survival : (cc r n : ℕ)
-      → lent_survival t.count t.edges t.survivals t.retained cc r n ≡ early_survival (tier_table t) retail (gain cc 0 r n) (cost cc n)
+      → lent_survival t cc r n ≡ early_survival (tier_table t) retail (gain cc 0 r n) (cost cc n)
   unfolding lent_survival early_survival annual_withdrawal tier_table tier_table_of tier
   lent-survival cc r n =
       ap (λ (l : List WithdrawalTier). first_reached (gain cc 0 r n) (cost cc n) t.retained l)

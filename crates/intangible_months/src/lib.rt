@@ -7,7 +7,7 @@ pub mod survivals;
 
 // A retail cell as its rollovers see it: coupon in thousandths of a percent a year, remaining months, column (1 to 3), the months of a term that a rollover
 // opens, and the share that rolls over, in thousandths.
-#[derive(Clone, Copy)]
+#[derive(Clone, Copy, Debug, PartialEq, Eq)]
 pub struct RetailCell {
     pub coupon: u64,
     pub months: u64,
@@ -17,7 +17,7 @@ pub struct RetailCell {
 }
 
 // A term: its coupon in thousandths of a percent a year, and its last month.
-#[derive(Clone, Copy)]
+#[derive(Clone, Copy, Debug, PartialEq, Eq)]
 pub struct Term {
     pub coupon: u64,
     pub end: u64,

@@ -21,10 +21,6 @@ fn lasting_rate(rates: &[u16], column: usize, month: u64) -> u16
     requires { ColumnRates rates.now column × (0 < month) }
     ensures { (result ≡ path_rate rates.now column (min month sheet_months)) × (result ≤ rate_limit) }
 {
-    let first = SHEET_MONTHS * (column - 1);
-    let last = rates[first + (SHEET_MONTHS - 1)];
-    if SHEET_MONTHS as u64 <= month {
-        return last;
-    }
-    rates[first + (month as usize - 1)]
+    let last = month.min(SHEET_MONTHS as u64) as usize;
+    rates[SHEET_MONTHS * (column - 1) + (last - 1)]
 }

@@ -7,8 +7,7 @@ ghost use Rattle.withdrawal.specs.Inner.Incentives.{parts_of, incentive_from, Sm
 ghost use Rattle.intangible.specs.Bounded.{rolled_coupon_limit};
 ghost use Rattle.intangible_months.specs.Inner.Lent.{lent_survival};
 
-use form::limits::TIER_LIMIT;
-use withdrawal::Incentive;
+use withdrawal::{Incentive, WithdrawalTiers};
 use withdrawal_search::reached_level;
 
 // The scales of gain and cost (01:49; 02:CR 4).
@@ -17,25 +16,17 @@ const GAIN_SCALE: u64 = 120_000_000;
 const COST_SCALE: u64 = 12_000_000;
 
 // q in billionths before the last month of a term with a coupon in thousandths of a percent a year, at a month's rate in hundredths and with `left` months to
-// go: the highest edge first. Of the tiers the edges are lent and what survives at each.
-pub fn early_survival<'a>(
-    coupon: u64,
-    rate: u64,
-    left: u64,
-    count: usize,
-    edges: &'a [u64; TIER_LIMIT],
-    survivals: &'a [u64; TIER_LIMIT],
-    retained: u64,
-) -> u64
-    requires { (coupon ≤ rolled_coupon_limit) × (rate ≤ shifted_limit) × (left ≤ months_limit) × EdgesFit count edges.now }
-    ensures { result ≡ lent_survival count edges.now survivals.now retained coupon rate left }
+// go: the highest edge first.
+pub fn early_survival(coupon: u64, rate: u64, left: u64, tiers: &WithdrawalTiers) -> u64
+    requires { (coupon ≤ rolled_coupon_limit) × (rate ≤ shifted_limit) × (left ≤ months_limit) × EdgesFit tiers.now.count tiers.now.edges }
+    ensures { result ≡ lent_survival tiers.now coupon rate left }
 {
     let incentive = incentive_of(coupon, rate, left);
-    let level = reached_level(count, edges, incentive).level;
-    if level < count {
-        survivals[level]
+    let level = reached_level(tiers.count, &tiers.edges, incentive).level;
+    if level < tiers.count {
+        tiers.survivals[level]
     } else {
-        retained
+        tiers.retained
     }
 }
 

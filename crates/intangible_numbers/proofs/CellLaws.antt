@@ -13,11 +13,11 @@ use Rattle.form.proofs.ShiftLaws.{shifted-rate-le}
 use Rattle.form.specs.Cells.{position_at}
 use Rattle.filing_cells.proofs.SumLaws.{by-column, column-range}
 use Rattle.withdrawal.specs.MonthSurvival.{retail, early_survival}
-use Rattle.withdrawal.specs.Inner.TierArrays.{tier_table}
+use Rattle.withdrawal.specs.declared.WithdrawalTiers.{WithdrawalTiers}
+use Rattle.withdrawal.specs.Inner.TierArrays.{tier_table, Usable}
 use Rattle.withdrawal.proofs.SurvivalLaws.{survival-le}
 use Rattle.pricing.specs.Scales.{par}
 use Rattle.price_factors.specs.Inner.Factors.{AtMostPar}
-use Rattle.price_deposits.specs.Inner.Levels.{TiersLent, lent_tiers}
 use Rattle.price_deposits.proofs.TermsLaws.{servicing-le}
 use Rattle.intangible.specs.RollingTerms.{RollingTerms}
 use Rattle.intangible.specs.RolledMonths.{term_coupon}
@@ -47,30 +47,29 @@ unfolding rolling_rate path_rate
 rate-within rates column scenario month f h = shifted-rate-le scenario _ (omega arith) (f _)
 
 -- no more survives than all
-survival-within : {count : ℕ} {edges survivals : List ℕ} {retained : ℕ} → TiersLent count edges survivals retained → (c r n : ℕ)
-    → lent_survival count edges survivals retained c r n ≤ par
+survival-within : (t : WithdrawalTiers) → Usable t → (c r n : ℕ) → lent_survival t c r n ≤ par
 unfolding early_survival
-survival-within t c r n = rw (lent-survival (lent_tiers t) t.usable c r n) (survival-le _)
+survival-within t u c r n = rw (lent-survival t u c r n) (survival-le _)
 
-module _ (cell : RetailCell) (scenario : ℕ) (rates : List ℕ) (count : ℕ) (edges survivals : List ℕ) (retained : ℕ) (fit : RollingCell cell)
-    (rates-fit : RatesFit rates) (tiers : TiersLent count edges survivals retained) (hs : scenario < scenario_count) where
-  pub cell-bounded : RollingBounded rolled_coupon_limit (lent_terms cell scenario rates count edges survivals retained)
+module _ (cell : RetailCell) (scenario : ℕ) (rates : List ℕ) (t : WithdrawalTiers) (fit : RollingCell cell) (rates-fit : RatesFit rates) (usable : Usable t)
+    (hs : scenario < scenario_count) where
+  pub cell-bounded : RollingBounded rolled_coupon_limit (lent_terms cell scenario rates t)
   unfolding lent_terms
   cell-bounded =
       record {
         coupon-limit =
-            coupons-within (lent_terms cell scenario rates count edges survivals retained) rolled_coupon_limit (le_trans fit.coupon-le (lit≤ tt))
-            (λ t. mul-le-mul_left 10 (rate-within rates cell.column scenario t rates-fit.rate-le hs));
+            coupons-within (lent_terms cell scenario rates t) rolled_coupon_limit (le_trans fit.coupon-le (lit≤ tt))
+            (λ month. mul-le-mul_left 10 (rate-within rates cell.column scenario month rates-fit.rate-le hs));
         months-pos = fit.months-pos;
         months-limit = fit.months-le;
         share-limit = fit.share-le;
         servicing-limit = servicing-le retail;
-        survival-limit = survival-within tiers;
+        survival-limit = survival-within t usable;
         horizon-is = refl;
       }
 
   pub cell-walkable : (lower upper : List ℕ) → AtMostPar lower → AtMostPar upper
-      → Walkable (lent_terms cell scenario rates count edges survivals retained) cell.column scenario rates count edges lower upper
+      → Walkable (lent_terms cell scenario rates t) cell.column scenario rates t lower upper
   unfolding lent_terms
   cell-walkable lower upper hl hu =
       let term = rollover-within cell.column fit.column-pos fit.column-le in
@@ -80,7 +79,7 @@ module _ (cell : RetailCell) (scenario : ℕ) (rates : List ℕ) (count : ℕ) (
         term-le = rw fit.term_is term.1;
         rates-fit = record { within = rates-fit.rate-le; first-le = fit.column-pos; last-le = fit.column-le; long = rates-fit.long };
         scenario-lt = hs;
-        edges_fit = tiers.usable.edges_fit;
+        edges_fit = usable.edges_fit;
         lower-par = hl;
         upper-par = hu;
       }
@@ -115,11 +114,11 @@ with_survival k q =
     }
 
 -- its terms by usable tiers are those of the definitions
-module _ (cells yields long rates shares : List ℕ) {count : ℕ} {edges survivals : List ℕ} {retained : ℕ} (t : TiersLent count edges survivals retained) where
+module _ (cells yields long rates shares : List ℕ) (t : WithdrawalTiers) (u : Usable t) where
   pub terms-are : (scenario i : ℕ)
-      → lent_terms (retail_cell cells shares (position_at i)) scenario rates count edges survivals retained
-      ≡ cell_terms cells (sheets_of yields long rates shares (tier_table (lent_tiers t))) scenario i
+      → lent_terms (retail_cell cells shares (position_at i)) scenario rates t
+      ≡ cell_terms cells (sheets_of yields long rates shares (tier_table t)) scenario i
   unfolding lent_terms retail_cell cell_terms
   terms-are scenario i =
-      ap (with_survival (cell_terms cells (sheets_of yields long rates shares (tier_table (lent_tiers t))) scenario i))
-      (fun_ext (λ c. fun_ext (λ r. fun_ext (λ n. lent-survival (lent_tiers t) t.usable c r n))))
+      ap (with_survival (cell_terms cells (sheets_of yields long rates shares (tier_table t)) scenario i))
+      (fun_ext (λ c. fun_ext (λ r. fun_ext (λ n. lent-survival t u c r n))))

@@ -11,22 +11,17 @@ use form::limits::SHEET_MONTHS;
 use intangible::LAST_MONTH;
 use intangible_walk::LongFactors;
 use price_factors::fill_month;
+use pricing::Bounds;
 
 // The lower and the upper factors of the yields of months 1 to 120 and 121 to 360, written into tables of zeros.
-pub(crate) fn fill_long(
-    yields: &[u16],
-    long: &[u16],
-    lower: &mut LongFactors,
-    upper: &mut LongFactors,
-)
+pub(crate) fn fill_long(yields: &[u16], long: &[u16], factors: &mut Bounds<LongFactors>)
     requires within_rates { WithinRates yields.now × WithinRates long.now × (sheet_months ≤ length yields.now) × (long_months ≤ length long.now) }
-    requires lower_value { (lower.old ≡ replicate long_factor_count 0) × (upper.old ≡ replicate long_factor_count 0) }
-    ensures { (lower.new ≡ long_factors down yields.now long.now) × (upper.new ≡ long_factors up yields.now long.now) }
+    requires zeros { (factors.old.lower ≡ replicate long_factor_count 0) × (factors.old.upper ≡ replicate long_factor_count 0) }
+    ensures { (factors.new.lower ≡ long_factors down yields.now long.now) × (factors.new.upper ≡ long_factors up yields.now long.now) }
 {
-    let mut month: usize = 0;
-    while (month as u64) < LAST_MONTH {
-        fill_month(yield_in(yields, long, month), month, lower, upper);
-        month += 1;
+    for month in 0..LAST_MONTH as usize {
+        let rate = yield_in(yields, long, month);
+        fill_month(rate, month, &mut factors.lower, &mut factors.upper);
     }
 }
 

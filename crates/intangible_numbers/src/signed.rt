@@ -7,10 +7,5 @@ pub(crate) fn write_signed(list: &mut [i64], at: usize, run: &[i64])
     requires { at + length run.now ≤ length list.old }
     ensures { list.new ≡ written list.old at run.now }
 {
-    let mut i: usize = 0;
-    while i < run.len() {
-        let x = run[i];
-        list[at + i] = x;
-        i += 1;
-    }
+    list[at..at + run.len()].copy_from_slice(run);
 }

@@ -8,6 +8,7 @@ use Rattle.form.specs.Limits.{months_limit}
 use Rattle.pricing.specs.Scales.{par}
 use Rattle.pricing.specs.Rounding.{down, up}
 use Rattle.price_factors.specs.Inner.Factors.{factor_in, AtMostPar}
+use Rattle.withdrawal.specs.declared.WithdrawalTiers.{WithdrawalTiers}
 use Rattle.intangible.specs.RollingTerms.{RollingTerms, last_month}
 use Rattle.intangible.specs.RolledMonths.{term_opened, term_coupon, term_end, month_survival, month_growth}
 use Rattle.intangible.specs.Inner.Month.{rolled_at}
@@ -36,7 +37,7 @@ module _ (k : RollingTerms) (scenario : ℕ) (lower upper : List ℕ) where
   factor-le factors h t = h _
 
   -- its sizes
-  pub standing-small : {column count : ℕ} {rates edges : List ℕ} (c : ℕ) {w : Walk} → Walkable k column scenario rates count edges lower upper
+  pub standing-small : {column : ℕ} {rates : List ℕ} {tiers : WithdrawalTiers} (c : ℕ) {w : Walk} → Walkable k column scenario rates tiers lower upper
       → Standing k scenario lower upper w → c ≡ term_coupon k (suc w.month) → SmallWalk c scenario lower upper w
   unfolding walk_at rolled_at
   standing-small c {w} a s e =
@@ -46,26 +47,26 @@ module _ (k : RollingTerms) (scenario : ℕ) (lower upper : List ℕ) where
         coupon-le = rw e (a.bounded.coupon-limit (suc w.month));
         scenario-lt = a.scenario-lt;
         month-lt = within;
-        lower-balance-le = rw (ap (λ (x : Walk). x.lower.balance) at) (opening-limit k a.bounded down w.month (le_of_lt within));
+        lower-balance-le = rw (ap (λ (x : Walk). x.runs.lower.balance) at) (opening-limit k a.bounded down w.month (le_of_lt within));
         lower-sum-le =
-            rw (ap (λ (x : Walk). x.lower.sum) at)
+            rw (ap (λ (x : Walk). x.runs.lower.sum) at)
             (sum-limit k a.bounded down (factor_in lower scenario) (factor-le lower a.lower-par) w.month (le_of_lt within));
-        upper-balance-le = rw (ap (λ (x : Walk). x.upper.balance) at) (opening-limit k a.bounded up w.month (le_of_lt within));
+        upper-balance-le = rw (ap (λ (x : Walk). x.runs.upper.balance) at) (opening-limit k a.bounded up w.month (le_of_lt within));
         upper-sum-le =
-            rw (ap (λ (x : Walk). x.upper.sum) at)
+            rw (ap (λ (x : Walk). x.runs.upper.sum) at)
             (sum-limit k a.bounded up (factor_in upper scenario) (factor-le upper a.upper-par) w.month (le_of_lt within));
         lower-par = a.lower-par;
         upper-par = a.upper-par;
       }
 
 -- a cell in a scenario, month t + 1 after the filed term
-module _ (cell : RetailCell) (scenario : ℕ) (rates : List ℕ) (count : ℕ) (edges survivals : List ℕ) (retained : ℕ) (lower upper : List ℕ) where
+module _ (cell : RetailCell) (scenario : ℕ) (rates : List ℕ) (tiers : WithdrawalTiers) (lower upper : List ℕ) where
   abbrev k : RollingTerms
-  k = lent_terms cell scenario rates count edges survivals retained
+  k = lent_terms cell scenario rates tiers
 
-  -- what survives it by the tiers that are lent
+  -- what survives it by the tiers
   abbrev pub survival_in : ℕ → ℕ → ℕ → ℕ
-  survival_in c end month = lent_survival count edges survivals retained c (rolling_rate rates cell.column scenario month) (end - month)
+  survival_in c end month = lent_survival tiers c (rolling_rate rates cell.column scenario month) (end - month)
 
   survives : (t : ℕ) → suc t < term_end k (suc t) → suc t < k.horizon → survival_in (term_coupon k (suc t)) (term_end k (suc t)) (suc t) ≡ month_survival k (suc t)
   unfolding lent_terms
@@ -93,7 +94,7 @@ module _ (cell : RetailCell) (scenario : ℕ) (rates : List ℕ) (count : ℕ) (
   opened-term t h o {r} c e = rw (later-coupon k t h, later-end k t h, o, ← c, ← e)
 
   -- where the walk stands within a term
-  module _ (a : Walkable k cell.column scenario rates count edges lower upper) {term : Term} {w : Walk} (i : InTerm k scenario lower upper term w) where
+  module _ (a : Walkable k cell.column scenario rates tiers lower upper) {term : Term} {w : Walk} (i : InTerm k scenario lower upper term w) where
     pub coupon-is : term.coupon ≡ term_coupon k (suc w.month)
     unfolding term_of
     coupon-is = ap (λ (x : Term). x.coupon) i.term_is

@@ -1,3 +1,4 @@
+pub mod ChainLaws
 pub mod EachLaws
 pub mod FillLaws
 pub mod OrderLaws

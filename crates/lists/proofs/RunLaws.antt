@@ -4,6 +4,7 @@ use mathlib.Core.Path.{◌≡◌, refl, ap, sym, ◌∙◌}
 use mathlib.Core.List.{List, [], ◌++◌, append_assoc}
 use native.Mathlib.Omega.{arith}
 use lib.ListN.{length, take, drop, length-append, length-drop, take-append-drop}
+use borrow.Rule.Slice.PartMut.{put_mid}
 use lib.Seq.{length-take-le, length_front, take_all, take_at, take-append-le, take-append_seam, drop_at, drop-drop, drop-append-le, drop-append-add}
 use Rattle.lists.specs.Runs.{written}
 use Rattle.lists.specs.Tables.{table, joined}
@@ -73,3 +74,8 @@ module _ {ℓ} {A : Type ℓ} where
   pub overwritten-all : (front : List A) (n : ℕ) (before after : List A) → Overwritten front n before after → length before ≤ n → after ≡ front
   overwritten-all front n before after w h =
       sym (take_all n after (rw w.as_long h)) ∙ ap (take n) w.is ∙ take_at front (drop n before) n w.long
+
+-- a part of a list that is replaced by a run as long as the part
+pub run-replaced : {A : Type 0} (at n : ℕ) (l new run : List A) → n ≡ length run → new ≡ run → put_mid at n l new ≡ written l at run
+unfolding written
+run-replaced at n l new run k e = rw (e, k, drop-drop, append_assoc)

@@ -9,9 +9,5 @@ pub fn write(list: &mut [u64], at: usize, run: &[u64])
     requires { at + length run.now ≤ length list.old }
     ensures { list.new ≡ written list.old at run.now }
 {
-    let mut i: usize = 0;
-    while i < run.len() {
-        list[at + i] = run[i];
-        i += 1;
-    }
+    list[at..at + run.len()].copy_from_slice(run);
 }

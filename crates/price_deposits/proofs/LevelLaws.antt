@@ -17,33 +17,28 @@ use Rattle.pricing.specs.Scales.{coupon_growth}
 use Rattle.price_deposits.specs.declared.Deposit.{Deposit}
 use Rattle.price_deposits.specs.DepositTerms.{servicing_cost}
 use Rattle.price_deposits.specs.Inner.Prices.{shifted_path, DepositLimits}
-use Rattle.price_deposits.specs.Inner.Levels.{TiersLent, Levelled}
+use Rattle.price_deposits.specs.Inner.Levels.{Levelled}
 use Rattle.withdrawal_months.specs.Levels.{level_at, multipliers_at}
-
--- what is lent of usable tiers
-abbrev pub lent : (t : WithdrawalTiers) → Usable t → TiersLent t.count t.edges t.survivals t.retained
-lent t u = record { withdrawals = t.withdrawals; otherwise = t.otherwise; usable = u }
 
 -- a month before the last, counted from 0, in a scenario
 module _ (t : WithdrawalTiers) (d : Deposit) (rates : List ℕ) (column : ℕ) (levels : List (List ℕ)) (scenario month : ℕ) (u : Usable t)
     (levelled : Levelled t d rates column levels) (hs : scenario < scenario_count) (hm : suc month < d.months) where
   -- its level
-  level-here : LevelFor d.brokered t.count t.edges
+  level-here : LevelFor d.brokered t
       (incentive_from (parts_of d.coupon d.penalty) (shifted_path scenario rates column (suc month)) (d.months - suc month)) (level_at levels month scenario)
   unfolding level_at shifted_path
   level-here = levelled month hm scenario hs
 
   -- is one that the account may have
-  pub level-within : level_at levels month scenario ≤ last_level d.brokered t.count
-  level-within = level-last d.brokered t.count t.edges _ (level_at levels month scenario) level-here
+  pub level-within : level_at levels month scenario ≤ last_level d.brokered t
+  level-within = level-last d.brokered t _ (level_at levels month scenario) level-here
 
   pub level-at-le : level_at levels month scenario ≤ tier_limit
-  level-at-le = le_trans level-within (last-le d.brokered t.count u.edges_fit.count-le)
+  level-at-le = le_trans level-within (last-le d.brokered t u)
 
   -- its multipliers are those of the month's survival
   pub multipliers-here : DepositLimits d
-      → multipliers_at d.brokered (coupon_growth * d.coupon) (servicing_cost (account_of d.brokered)) t.count t.survivals t.retained
-      (level_at levels month scenario)
+      → multipliers_at d.brokered (coupon_growth * d.coupon) (servicing_cost (account_of d.brokered)) t (level_at levels month scenario)
       ≡ multipliers_of (coupon_growth * d.coupon) (servicing_cost (account_of d.brokered))
       (month_survival (tier_table t) (account_of d.brokered) d.coupon d.penalty (shifted_path scenario rates column (suc month)) d.months (suc month))
   unfolding multipliers_at

@@ -1,7 +1,6 @@
 -- The months that are walked by multipliers are the months of the run. Assumes nothing.
 use Prim.Native.Nat.{ℕ, zero, suc, ◌+◌, ◌*◌, ◌≤◌, ◌<◌}
 use mathlib.Core.Path.{◌≡◌, refl, sym, ap, ◌∙◌}
-use mathlib.Core.Bool.{Bool}
 use mathlib.Core.List.{List}
 use native.Mathlib.Nat.{le_refl, le_of_lt}
 use native.Mathlib.Omega.{arith}
@@ -13,8 +12,9 @@ use Rattle.withdrawal.specs.MonthSurvival.{account_of, month_survival}
 use Rattle.withdrawal.specs.Inner.TierArrays.{tier_table, Usable}
 use Rattle.withdrawal.proofs.MonthSurvivalLaws.{month_survival-le}
 use Rattle.price_multipliers.specs.declared.MonthMultipliers.{MonthMultipliers}
-use Rattle.price_multipliers.specs.Multipliers.{carried_of, multipliers_of, factor_of}
+use Rattle.price_multipliers.specs.Multipliers.{multipliers_of, factor_of}
 use Rattle.price_multipliers.proofs.StepLaws.{step_is, last-is, paid-pos}
+use Rattle.pricing.specs.declared.Bounds.{Bounds}
 use Rattle.pricing.specs.declared.Run.{Run}
 use Rattle.pricing.specs.Scales.{par, coupon_growth, amount_limit}
 use Rattle.pricing.specs.Rounding.{Rounding, down, up}
@@ -29,13 +29,18 @@ use Rattle.price_multipliers.specs.Inner.Tables.{factors_of, Discounting}
 use Rattle.price_deposits.specs.Inner.Walked.{walked_prices, values_at, Priceable}
 use Rattle.price_deposits.specs.Inner.Levels.{Levelled, Multiplied}
 use Rattle.withdrawal_months.specs.Levels.{level_at, held_at}
-use Rattle.price_months.specs.Walks.{walked_by, priced_by, Walkable}
+use Rattle.price_months.specs.Walks.{walked_by, priced_by, Raised, Walkable}
 use Rattle.price_deposits.proofs.TermsLaws.{servicing-pos}
 use Rattle.price_deposits.proofs.LevelLaws.{level-within, level-at-le, multipliers-here}
 use Rattle.price_deposits.proofs.PriceLaws.{tabled-price-limit, early-on, last_on, month-small, last-survival, last-price, no-price}
 
-module _ (ρ : Rounding) (t : WithdrawalTiers) (d : Deposit) (rates : List ℕ) (column : ℕ) (paid left carried : List ℕ) (whole : List Bool) (levels : List (List ℕ))
-    (discounts : List ℕ) (scenario : ℕ) (l : DepositLimits d) (u : Usable t) (levelled : Levelled t d rates column levels) (multiplied : Multiplied t d paid left carried whole)
+-- the multipliers of a month with some servicing cost
+raised-of : (growth q : ℕ) {servicing : ℕ} → 0 < servicing → q ≤ par → Raised (multipliers_of growth servicing q)
+unfolding multipliers_of
+raised-of growth q {servicing} h l = record { paid-pos = paid-pos growth servicing q h l; carried-is = refl }
+
+module _ (ρ : Rounding) (t : WithdrawalTiers) (d : Deposit) (rates : List ℕ) (column : ℕ) (multipliers : List MonthMultipliers) (levels : List (List ℕ))
+    (discounts : List ℕ) (scenario : ℕ) (l : DepositLimits d) (u : Usable t) (levelled : Levelled t d rates column levels) (multiplied : Multiplied t d multipliers)
     (hs : scenario < scenario_count) (table_of : Discounting ρ d.months discounts) where
   -- the factors of the table, and the run of the definitions with them
   abbrev factors : List ℕ
@@ -68,22 +73,22 @@ module _ (ρ : Rounding) (t : WithdrawalTiers) (d : Deposit) (rates : List ℕ) 
 
   -- the multipliers of a month
   here : (month : ℕ) → suc month < d.months
-      → held_at paid left carried whole (level_at levels month scenario)
+      → held_at multipliers (level_at levels month scenario)
       ≡ multipliers_of (coupon_growth * d.coupon) (servicing_cost (account_of d.brokered))
       (month_survival (tier_table t) (account_of d.brokered) d.coupon d.penalty (shifted_path scenario rates column (suc month)) d.months (suc month))
   here month h =
       multiplied (level_at levels month scenario) (level-within t d rates column levels scenario month u levelled hs h)
       ∙ multipliers-here t d rates column levels scenario month u levelled hs h l
 
-  -- what they carry
-  carried_here : (month : ℕ) → suc month < d.months
-      → get_or carried (level_at levels month scenario) 0 ≡ carried_of (get_or left (level_at levels month scenario) 0)
-  unfolding multipliers_of
-  carried_here month h =
-      ap (λ (m : MonthMultipliers). m.carried) (here month h) ∙ sym (ap (λ (m : MonthMultipliers). carried_of m.left) (here month h))
+  -- which are those of the upper run too
+  raised-here : (month : ℕ) → suc month < d.months
+      → Raised (held_at multipliers (level_at levels month scenario))
+  raised-here month h =
+      rw (here month h)
+      (raised-of _ _ (servicing-pos (account_of d.brokered)) (month_survival-le (tier_table t) (account_of d.brokered) d.coupon d.penalty _ d.months (suc month)))
 
   -- after every number of months below all
-  walked-is : (month : ℕ) → month < d.months → walked_by ρ paid left carried whole levels discounts scenario month ≡ run month
+  walked-is : (month : ℕ) → month < d.months → walked_by ρ multipliers levels discounts scenario month ≡ run month
   unfolding walked_by run_by balance_by discounted_sum
   walked-is zero h = refl
   walked-is (suc month) h =
@@ -94,7 +99,7 @@ module _ (ρ : Rounding) (t : WithdrawalTiers) (d : Deposit) (rates : List ℕ) 
 
   -- the price after the last month, in which nothing is withdrawn early
   priced-at : (n : ℕ) → n ≡ d.months
-      → priced_by ρ paid left carried whole levels (multipliers_of (coupon_growth * d.coupon) (servicing_cost (account_of d.brokered)) par) discounts scenario n
+      → priced_by ρ multipliers levels (multipliers_of (coupon_growth * d.coupon) (servicing_cost (account_of d.brokered)) par) discounts scenario n
       ≡ tabled_price ρ (tier_table t) d (shifted_path scenario rates column) factors scenario
   unfolding priced_by
   priced-at zero e = no-price ρ (tier_table t) d (shifted_path scenario rates column) factors scenario e
@@ -106,7 +111,7 @@ module _ (ρ : Rounding) (t : WithdrawalTiers) (d : Deposit) (rates : List ℕ) 
       ∙ ap (λ (r : Run). r.price) (last_on ρ (tier_table t) d (shifted_path scenario rates column) factors scenario month refl refl all (factor-here month within) refl e)
       ∙ last-price ρ (tier_table t) d (shifted_path scenario rates column) factors scenario month e)
 
-  pub priced-is : priced_by ρ paid left carried whole levels (multipliers_of (coupon_growth * d.coupon) (servicing_cost (account_of d.brokered)) par) discounts scenario d.months
+  pub priced-is : priced_by ρ multipliers levels (multipliers_of (coupon_growth * d.coupon) (servicing_cost (account_of d.brokered)) par) discounts scenario d.months
       ≡ tabled_price ρ (tier_table t) d (shifted_path scenario rates column) factors scenario
   priced-is = priced-at d.months refl
 
@@ -114,55 +119,50 @@ module _ (ρ : Rounding) (t : WithdrawalTiers) (d : Deposit) (rates : List ℕ) 
   priced-le = tabled-price-limit ρ (tier_table t) d (shifted_path scenario rates column) factors scenario l within-par
 
   -- the walk stays in range: levels below their limit, each month's multiplier above 0, and the run's balances and prices within those of the run by the table
-  pub walkable : Walkable ρ paid left carried whole levels discounts scenario d.months
+  pub walkable : Walkable ρ multipliers levels discounts scenario d.months
   walkable =
       record {
         level-le = λ month h. level-at-le t d rates column levels scenario month u levelled hs h;
-        paid-pos = λ month h.
-            rw (ap (λ (m : MonthMultipliers). m.paid) (here month h))
-            (paid-pos _ _ _ (servicing-pos (account_of d.brokered)) (month_survival-le (tier_table t) (account_of d.brokered) d.coupon d.penalty _ d.months (suc month)));
-        carried-is = carried_here;
+        raised = raised-here;
         balance-le = λ month h. rw (walked-is month h) (small month _ h refl).balance-le;
         price-le = λ month h. rw (walked-is month h) (small month _ h refl).price-le;
       }
 
 -- a deposit in a scenario, at both roundings
-module _ (t : WithdrawalTiers) (d : Deposit) (rates : List ℕ) (column : ℕ) (paid left carried : List ℕ) (whole : List Bool) (levels : List (List ℕ))
-    (lower upper : List ℕ) (scenario : ℕ) (l : DepositLimits d) (u : Usable t) (levelled : Levelled t d rates column levels) (multiplied : Multiplied t d paid left carried whole)
-    (hs : scenario < scenario_count) (below : Discounting down d.months lower) (above : Discounting up d.months upper) {last : MonthMultipliers}
+module _ (t : WithdrawalTiers) (d : Deposit) (rates : List ℕ) (column : ℕ) (multipliers : List MonthMultipliers) (levels : List (List ℕ))
+    (discounts : Bounds (List ℕ)) (scenario : ℕ) (l : DepositLimits d) (u : Usable t) (levelled : Levelled t d rates column levels) (multiplied : Multiplied t d multipliers)
+    (hs : scenario < scenario_count) (below : Discounting down d.months discounts.lower) (above : Discounting up d.months discounts.upper) {last : MonthMultipliers}
     (last-is : last ≡ multipliers_of (coupon_growth * d.coupon) (servicing_cost (account_of d.brokered)) par) where
-  pub priceable : Priceable paid left carried whole levels last lower upper scenario d.months
-  unfolding multipliers_of
+  pub priceable : Priceable multipliers levels last discounts scenario d.months
   priceable =
       record {
-        lower-walk = walkable down t d rates column paid left carried whole levels lower scenario l u levelled multiplied hs below;
-        upper-walk = walkable up t d rates column paid left carried whole levels upper scenario l u levelled multiplied hs above;
-        last-paid-pos = rw last-is (paid-pos (coupon_growth * d.coupon) (servicing_cost (account_of d.brokered)) par (servicing-pos (account_of d.brokered)) (le_refl par));
-        last-carried-is = rw last-is;
+        lower-walk = walkable down t d rates column multipliers levels discounts.lower scenario l u levelled multiplied hs below;
+        upper-walk = walkable up t d rates column multipliers levels discounts.upper scenario l u levelled multiplied hs above;
+        last-raised = rw last-is (raised-of (coupon_growth * d.coupon) par (servicing-pos (account_of d.brokered)) (le_refl par));
       }
 
   -- the prices that are walked are those of the definitions, within the limit
-  prices-are : walked_prices paid left carried whole levels last lower upper scenario d.months
-      ≡ tabled_prices (tier_table t) d (shifted_path scenario rates column) (factors_of down d.months lower) (factors_of up d.months upper) scenario
+  prices-are : walked_prices multipliers levels last discounts scenario d.months
+      ≡ tabled_prices (tier_table t) d (shifted_path scenario rates column) (factors_of down d.months discounts.lower) (factors_of up d.months discounts.upper) scenario
   unfolding walked_prices tabled_prices
   prices-are =
       rw (
         last-is,
-        priced-is down t d rates column paid left carried whole levels lower scenario l u levelled multiplied hs below,
-        priced-is up t d rates column paid left carried whole levels upper scenario l u levelled multiplied hs above,
+        priced-is down t d rates column multipliers levels discounts.lower scenario l u levelled multiplied hs below,
+        priced-is up t d rates column multipliers levels discounts.upper scenario l u levelled multiplied hs above,
       )
 
-  pub prices-le : ((walked_prices paid left carried whole levels last lower upper scenario d.months).lower ≤ amount_limit)
-      × ((walked_prices paid left carried whole levels last lower upper scenario d.months).upper ≤ amount_limit)
+  pub prices-le : ((walked_prices multipliers levels last discounts scenario d.months).lower ≤ amount_limit)
+      × ((walked_prices multipliers levels last discounts scenario d.months).upper ≤ amount_limit)
   unfolding tabled_prices
   prices-le =
       rw prices-are (
-        priced-le down t d rates column paid left carried whole levels lower scenario l u levelled multiplied hs below,
-        priced-le up t d rates column paid left carried whole levels upper scenario l u levelled multiplied hs above,
+        priced-le down t d rates column multipliers levels discounts.lower scenario l u levelled multiplied hs below,
+        priced-le up t d rates column multipliers levels discounts.upper scenario l u levelled multiplied hs above,
       )
 
   -- and so the values
-  pub bounds-are : (balance : ℕ) → values_at balance (walked_prices paid left carried whole levels last lower upper scenario d.months)
-      ≡ value_bounds (tier_table t) balance d (shifted_path scenario rates column) (factors_of down d.months lower) (factors_of up d.months upper) scenario
+  pub bounds-are : (balance : ℕ) → values_at balance (walked_prices multipliers levels last discounts scenario d.months)
+      ≡ value_bounds (tier_table t) balance d (shifted_path scenario rates column) (factors_of down d.months discounts.lower) (factors_of up d.months discounts.upper) scenario
   unfolding values_at value_bounds tabled_value tabled_prices
   bounds-are balance = rw prices-are

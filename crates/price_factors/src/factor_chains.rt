@@ -5,7 +5,6 @@ ghost use Rattle.pricing.specs.Rounding.{rounding_of};
 ghost use Rattle.pricing.specs.Inner.Multipliers.{next_by, next_all_by, first_by, chained_by, AtMost};
 
 use form::sub_balances::SCENARIOS;
-use form_scenarios::Scenario;
 use price_rounding::products::upper_half;
 use pricing::PAR;
 
@@ -39,13 +38,7 @@ fn next_in_chain(
     requires { AtMost par chain.now }
     ensures { result ≡ next_all_by (rounding_of up) chain.now multipliers.now }
 {
-    let mut next = [0; SCENARIOS];
-    let mut i: usize = 0;
-    while (i as u64) < Scenario::COUNT {
-        next[i] = next_factor(chain[i], multipliers[i], up);
-        i += 1;
-    }
-    next
+    std::array::from_fn(|i| next_factor(chain[i], multipliers[i], up))
 }
 
 // The floor of a factor times a multiplier. For an upper factor that is one less than the next: its multiplier is too low by less than a factor can bring out.

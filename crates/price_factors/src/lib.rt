@@ -32,13 +32,11 @@ pub fn fill_factors(yields: &[u16], longest: u64, lower: &mut FactorTable, upper
     requires { WithinRates yields.now × (months_limit ≤ length yields.now) × (lower.old ≡ replicate factor_count 0) × (upper.old ≡ replicate factor_count 0) }
     ensures { (lower.new ≡ factors_by down yields.now longest) × (upper.new ≡ factors_by up yields.now longest) }
 {
-    let mut month: usize = 0;
-    while month < TERM_MONTHS {
+    for month in 0..TERM_MONTHS {
         if longest <= month as u64 {
             return;
         }
         fill_month(yields[month], month, lower, upper);
-        month += 1;
     }
 }
 

@@ -9,7 +9,6 @@ ghost use Rattle.pricing.specs.Inner.Multipliers.{multipliers_by, chained_by, fa
 use crate::factor_chains::chained;
 use crate::rate_multipliers::lower_multipliers;
 use form::sub_balances::SCENARIOS;
-use form_scenarios::Scenario;
 use pricing::PAR;
 
 // The lower discount factors of seven rates after n monthly factors each, in billionths, from the multipliers of the upper ones. The rates, CD yields, are in
@@ -24,28 +23,17 @@ pub(crate) fn lower_factors(
 {
     let below = lower_multipliers(rates, above);
     let chain = chained(&below, n, false);
-    let mut factors = [0; SCENARIOS];
-    let mut i: usize = 0;
-    while (i as u64) < Scenario::COUNT {
-        factors[i] = lower_factor(rates[i], chain[i]);
-        i += 1;
-    }
-    factors
+    std::array::from_fn(|i| lower_factor(rates[i], chain[i]))
 }
 
-// The upper discount factors of seven rates after n monthly factors each, in billionths, from their multipliers: 1 more than their chains.
+// The upper discount factors of seven rates after n monthly factors each, in billionths, from their multipliers: 1 more than their chains. Not one function
+// with `lower_factors`, which makes multipliers of its own and reads the rates.
 pub(crate) fn upper_factors(above: &[u64; SCENARIOS], n: u64) -> [u64; SCENARIOS]
     requires { (i : ℕ) → AtMost par (chained_by up above.now i) }
     ensures { result ≡ table scenario_count (λ i. suc (get_or (chained_by up above.now n) i 0)) }
 {
     let chain = chained(above, n, true);
-    let mut factors = [0; SCENARIOS];
-    let mut i: usize = 0;
-    while (i as u64) < Scenario::COUNT {
-        factors[i] = chain[i] + 1;
-        i += 1;
-    }
-    factors
+    std::array::from_fn(|i| chain[i] + 1)
 }
 
 // A lower factor, from its chain: a rate of 0 leaves par.

@@ -5,7 +5,6 @@ ghost use Rattle.pricing.specs.Rounding.{down, up};
 ghost use Rattle.pricing.specs.Inner.Multipliers.{multiplier_by, multipliers_by, AtMost};
 
 use form::sub_balances::SCENARIOS;
-use form_scenarios::Scenario;
 
 // The scale of a yield as a month's rate (01:58).
 const RATE_SCALE: u64 = 120_000;
@@ -18,13 +17,7 @@ pub(crate) fn upper_multipliers(rates: &[u64; SCENARIOS]) -> [u64; SCENARIOS]
     requires { AtMost shifted_limit rates.now }
     ensures { result ≡ multipliers_by up rates.now }
 {
-    let mut multipliers = [0; SCENARIOS];
-    let mut i: usize = 0;
-    while (i as u64) < Scenario::COUNT {
-        multipliers[i] = upper_multiplier(rates[i]);
-        i += 1;
-    }
-    multipliers
+    std::array::from_fn(|i| upper_multiplier(rates[i]))
 }
 
 // The multiplier of a rate for its upper factors.
@@ -35,7 +28,7 @@ fn upper_multiplier(rate: u64) -> u64
     RATE_SCALE * (LARGEST / (RATE_SCALE + rate))
 }
 
-// The multipliers for the lower factors, from those for the upper ones.
+// The multipliers for the lower factors, from those for the upper ones: not one function for both, so that each rate is divided by once.
 pub(crate) fn lower_multipliers(
     rates: &[u64; SCENARIOS],
     above: &[u64; SCENARIOS],
@@ -43,13 +36,7 @@ pub(crate) fn lower_multipliers(
     requires { AtMost shifted_limit rates.now × (above.now ≡ multipliers_by up rates.now) }
     ensures { result ≡ multipliers_by down rates.now }
 {
-    let mut multipliers = [0; SCENARIOS];
-    let mut i: usize = 0;
-    while (i as u64) < Scenario::COUNT {
-        multipliers[i] = lower_multiplier(rates[i], above[i]);
-        i += 1;
-    }
-    multipliers
+    std::array::from_fn(|i| lower_multiplier(rates[i], above[i]))
 }
 
 // The multiplier of a rate for its lower factors: one part more, too high by less than a factor can bring out. That of a rate of 0 would be 2^64, and is not used.

@@ -1,111 +1,79 @@
-// The run one month on, by multipliers. `discount` is what a table holds of the month's discount factor.
-ghost use Rattle.std.specs.Prelude.{◌≡◌, cond, ◌*◌, ◌<◌, ◌≤◌};
+// The run one month on, by multipliers: the lower run, or the upper one where `UP`. `discount` is what a table holds of the month's discount factor.
+ghost use Rattle.std.specs.Prelude.{◌≡◌, cond, true, ◌*◌, ◌<◌, ◌≤◌};
 ghost use Rattle.pricing.specs.Scales.{amount_limit};
-ghost use Rattle.pricing.specs.Rounding.{down, up};
+ghost use Rattle.pricing.specs.Rounding.{rounding_of};
+ghost use Rattle.price_months.specs.Walks.{Raised};
 ghost use Rattle.price_multipliers.specs.Multipliers.{carried_of, paid_by, left_by, product_by, step_by, last_by, month_limit};
 
 use price_multipliers::MonthMultipliers;
 use price_rounding::products::upper_half;
 use pricing::Run;
 
-// The lower run after a month in which the balance is not yet paid.
-pub(crate) fn next_lower(run: Run, m: MonthMultipliers, discount: u64) -> Run
-    requires { (run.balance ≤ amount_limit) × (run.price ≤ amount_limit) }
-    ensures { result ≡ step_by down m discount run }
+// The run after a month in which the balance is not yet paid.
+pub(crate) fn next<const UP: bool>(run: Run, m: MonthMultipliers, discount: u64) -> Run
+    requires within { (run.balance ≤ amount_limit) × (run.price ≤ amount_limit) }
+    requires raised { UP ≡ true → Raised m }
+    ensures { result ≡ step_by (rounding_of UP) m discount run }
 {
-    let left = lower_left(run.balance, m);
-    let paid = lower_paid(run.balance, m);
-    Run {
-        balance: left,
-        price: run.price + lower_product(paid, discount),
-    }
-}
-
-// The lower price after the last month, in which what is left is paid.
-pub fn last_lower(run: Run, m: MonthMultipliers, discount: u64) -> u64
-    requires { (run.balance ≤ amount_limit) × (run.price ≤ amount_limit) }
-    ensures { result ≡ last_by down m discount run }
-{
-    let outflow = lower_paid(run.balance, m);
-    let left = lower_left(run.balance, m);
-    run.price + lower_product(outflow + left, discount)
-}
-
-// The upper run after a month in which the balance is not yet paid.
-pub(crate) fn next_upper(run: Run, m: MonthMultipliers, discount: u64) -> Run
-    requires balance_le_amount_limit { (run.balance ≤ amount_limit) × (run.price ≤ amount_limit) }
-    requires paid_nonzero { (0 < m.paid) × (m.carried ≡ carried_of m.left) }
-    ensures { result ≡ step_by up m discount run }
-{
-    if run.balance == 0 {
+    if UP && run.balance == 0 {
         return run;
     }
-    let left = upper_left(run.balance, m);
-    let paid = upper_paid(run.balance, m);
+    let left = left_of::<UP>(run.balance, m);
+    let paid = paid_of::<UP>(run.balance, m);
     Run {
         balance: left,
-        price: run.price + upper_product(paid, discount),
+        price: run.price + product_of::<UP>(paid, discount),
     }
 }
 
-// The upper price after the last month, in which what is left is paid.
-pub fn last_upper(run: Run, m: MonthMultipliers, discount: u64) -> u64
-    requires balance_le_amount_limit { (run.balance ≤ amount_limit) × (run.price ≤ amount_limit) }
-    requires paid_nonzero { (0 < m.paid) × (m.carried ≡ carried_of m.left) }
-    ensures { result ≡ last_by up m discount run }
+// The price after the last month, in which what is left is paid.
+pub fn last<const UP: bool>(run: Run, m: MonthMultipliers, discount: u64) -> u64
+    requires within { (run.balance ≤ amount_limit) × (run.price ≤ amount_limit) }
+    requires raised { UP ≡ true → Raised m }
+    ensures { result ≡ last_by (rounding_of UP) m discount run }
 {
-    if run.balance == 0 {
+    if UP && run.balance == 0 {
         return run.price;
     }
-    let outflow = upper_paid(run.balance, m);
-    let left = upper_left(run.balance, m);
-    run.price + upper_product(outflow + left, discount)
+    let outflow = paid_of::<UP>(run.balance, m);
+    let left = left_of::<UP>(run.balance, m);
+    run.price + product_of::<UP>(outflow + left, discount)
 }
 
-// What a month pays of a balance, and what it leaves.
-fn lower_paid(balance: u64, m: MonthMultipliers) -> u64
-    requires { balance ≤ amount_limit }
-    ensures { (result ≡ paid_by down m balance) × (result ≤ month_limit) }
+// What a month pays of a balance, and what it leaves. In the upper run a part of something is 1 more than by one less.
+fn paid_of<const UP: bool>(balance: u64, m: MonthMultipliers) -> u64
+    requires { (balance ≤ amount_limit) × (UP ≡ true → (0 < balance) × (0 < m.paid)) }
+    ensures { (result ≡ paid_by (rounding_of UP) m balance) × (result ≤ month_limit) × (UP ≡ true → 0 < result) }
 {
-    upper_half(2 * balance, m.paid)
+    if UP {
+        upper_half(2 * balance, m.paid - 1) + 1
+    } else {
+        upper_half(2 * balance, m.paid)
+    }
 }
 
-fn lower_left(balance: u64, m: MonthMultipliers) -> u64
-    requires { balance ≤ amount_limit }
-    ensures { (result ≡ left_by down m balance) × (result ≤ month_limit) }
+fn left_of<const UP: bool>(balance: u64, m: MonthMultipliers) -> u64
+    requires { (balance ≤ amount_limit) × (UP ≡ true → (0 < balance) × (m.carried ≡ carried_of m.left)) }
+    ensures { (result ≡ left_by (rounding_of UP) m balance) × (result ≤ month_limit) }
 {
-    kept_of(balance, m.whole) + upper_half(balance, m.left)
+    let kept = kept_of(balance, m.whole);
+    if UP {
+        kept + (upper_half(balance, m.left - m.carried) + m.carried)
+    } else {
+        kept + upper_half(balance, m.left)
+    }
 }
 
-// The same of the upper run, where a part of something is 1 more than by one less.
-fn upper_paid(balance: u64, m: MonthMultipliers) -> u64
-    requires { (balance ≤ amount_limit) × (0 < balance) × (0 < m.paid) }
-    ensures { (result ≡ paid_by up m balance) × (result ≤ month_limit) × (0 < result) }
+// A flow times a discount factor. An upper table holds one less.
+fn product_of<const UP: bool>(flow: u64, discount: u64) -> u64
+    requires { (flow ≤ 2 * month_limit) × (UP ≡ true → 0 < flow) }
+    ensures { (result ≡ product_by (rounding_of UP) discount flow) × (result ≤ 5 * month_limit) }
 {
-    upper_half(2 * balance, m.paid - 1) + 1
-}
-
-fn upper_left(balance: u64, m: MonthMultipliers) -> u64
-    requires { (balance ≤ amount_limit) × (0 < balance) × (m.carried ≡ carried_of m.left) }
-    ensures { (result ≡ left_by up m balance) × (result ≤ month_limit) }
-{
-    kept_of(balance, m.whole) + (upper_half(balance, m.left - m.carried) + m.carried)
-}
-
-// A flow times a discount factor.
-fn lower_product(flow: u64, discount: u64) -> u64
-    requires { flow ≤ 2 * month_limit }
-    ensures { (result ≡ product_by down discount flow) × (result ≤ 4 * month_limit) }
-{
-    upper_half(2 * flow, discount)
-}
-
-// The same of the upper run: an upper table holds one less, and a part of something is 1 more.
-fn upper_product(flow: u64, discount: u64) -> u64
-    requires { (0 < flow) × (flow ≤ 2 * month_limit) }
-    ensures { (result ≡ product_by up discount flow) × (result ≤ 5 * month_limit) }
-{
-    upper_half(2 * flow, discount) + 1
+    if UP {
+        upper_half(2 * flow, discount) + 1
+    } else {
+        upper_half(2 * flow, discount)
+    }
 }
 
 // The balance where it stays whole beside a part of it.

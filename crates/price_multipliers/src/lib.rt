@@ -34,6 +34,16 @@ pub struct MonthMultipliers {
     pub whole: bool,
 }
 
+impl MonthMultipliers {
+    // Nothing is paid and nothing left.
+    pub const NONE: Self = Self {
+        paid: 0,
+        left: 0,
+        carried: 0,
+        whole: false,
+    };
+}
+
 // The multipliers of a month, from the growth of its coupon, its servicing cost and its survival.
 pub fn multipliers_of(growth: u64, servicing: u64, survival: u64) -> MonthMultipliers
     requires { (growth ≤ growth_limit) × (servicing ≤ servicing_limit) × (survival ≤ par) }
@@ -83,14 +93,11 @@ pub(crate) fn discount_multiplier(factor: u64, up: bool) -> u64
     ensures { result ≡ discount_multiplier (rounding_of up) factor }
 {
     let multiplier = par_multiplier(factor);
-    if up { one_less(multiplier) } else { multiplier }
-}
-
-// One less than a number, or 0.
-fn one_less(n: u64) -> u64
-    ensures { result ≡ n - 1 }
-{
-    if n == 0 { 0 } else { n - 1 }
+    if up {
+        multiplier.saturating_sub(1)
+    } else {
+        multiplier
+    }
 }
 
 // n / 10^9 in units of 1 / 2^63, rounded up.

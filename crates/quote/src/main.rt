@@ -17,23 +17,13 @@ fn main(rt: HostRuntime) -> io::Result<()> {
     let scenario_size = read_argument(&rt, 2, &mut scenario);
     let mut input = [0u8; 65537];
     let n = read_full(&mut rt.stdin(), &mut input);
-    let mut text = [0u8; 50];
-    let size = write_read(
-        &input,
-        n,
-        &month[..month_size],
-        &scenario[..scenario_size],
-        &mut text,
-    );
-    rt.write_all(&text[..size])
+    let text = write_read(&input, n, &month[..month_size], &scenario[..scenario_size]);
+    rt.write_all(text.as_slice())
 }
 
 // Puts an argument at the front of the bytes and answers how many it has, 0 where it is missing or there is no room for it.
 fn read_argument(rt: &impl Env, i: usize, bytes: &mut [u8]) -> usize
     ensures { result ≤ length bytes.new }
 {
-    match rt.arg(i, bytes) {
-        Ok(size) => size,
-        Err(_) => 0,
-    }
+    rt.arg(i, bytes).unwrap_or(0)
 }

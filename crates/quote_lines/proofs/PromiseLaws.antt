@@ -1,21 +1,21 @@
 -- The promise of a query: every price that accepted lines reply is sound, and the record of the promise. Assumes nothing.
 use Prim.Native.Nat.{ℕ, zero, suc, ◌+◌, ◌-◌, ◌*◌, ◌^◌, ◌<◌}
 use native.Mathlib.Omega.{arith}
-use mathlib.Core.Path.{◌≡◌, refl, sym, ap, ◌∙◌, subst}
+use mathlib.Core.Path.{◌≡◌, refl, sym, ap, subst}
 use mathlib.Core.Logic.{⊎_elim}
 use mathlib.Core.Bool.{Bool, true, false}
 use mathlib.Core.List.{List}
-use borrow.Author.Tests.{eq-eqb, ne_eqb, eqb-true, eqb-false}
+use borrow.Author.Tests.{eqb-true, eqb-false}
 use lib.Dec.{T, eqb}
 use lib.Ieee.{Float, nan, binary64, fits}
 use lib.ListN.{length, get_or}
 use Rattle.lists.proofs.OrderLaws.{lt-or-le}
 use Rattle.lists.proofs.TableLaws.{table-get_or}
 use Rattle.form.specs.Shift.{scenario_count}
-use Rattle.answers.specs.declared.Answer.{Answer}
-use Rattle.answers.specs.declared.Answer.TheVariants.{Accepted}
-use Rattle.answers.specs.Verdict.{Verdict, accepted}
-use Rattle.answers.specs.Answers.{number_of, verdict_of}
+use Rattle.std.specs.Prelude.{Ok, Err}
+use Rattle.answers.specs.declared.Refusal.{Refusal}
+use Rattle.answers.specs.Verdict.{Verdict, accepted, refused}
+use Rattle.answers.specs.Answers.{number_of, location_of}
 use Rattle.quote_prices.specs.declared.PriceLine.{PriceLine}
 use Rattle.quote_prices.specs.PriceLines.{price_in, faulty_price}
 use Rattle.quote_lines.specs.declared.Reply.{Reply}
@@ -86,24 +86,12 @@ accepted-sound lines taken format month scenario =
 -- ---- the promise
 module _ (lines : List PriceLine) (month scenario : ℕ) where
   -- refused lines
-  pub quoted-refused : (answer : Answer) → verdict_of answer ≡ lines_verdict lines → (number_of answer ≡ 0 → ⊥)
-      → QuotedAs lines month scenario (record { answer = answer; reply = Outside })
-  unfolding verdict_of
-  quoted-refused answer e n =
-      record {
-        answer-is = e;
-        reply-is = rw (ne_eqb (lines_verdict lines).number 0 (λ z. n (ap (λ (v : Verdict). v.number) e ∙ z)));
-        price-is = sound-outside;
-      }
+  pub quoted-refused : (r : Refusal) → refused (number_of r) (location_of r) ≡ lines_verdict lines → QuotedAs lines month scenario (Err r)
+  quoted-refused r e = record { answer-is = e; reply-is = tt; price-is = tt }
 
   -- accepted lines
-  pub quoted-accepted : (reply : Reply) → lines_verdict lines ≡ accepted → InFormat lines → reply ≡ reply_of lines month scenario
-      → QuotedAs lines month scenario (record { answer = Accepted; reply = reply })
-  unfolding verdict_of accepted
+  pub quoted-accepted : (reply : Reply) → accepted ≡ lines_verdict lines → InFormat lines → reply ≡ reply_of lines month scenario
+      → QuotedAs lines month scenario (Ok reply)
+  unfolding accepted
   quoted-accepted reply e format r =
-      let none : (lines_verdict lines).number ≡ 0 = ap (λ (v : Verdict). v.number) e in
-      record {
-        answer-is = sym e;
-        reply-is = r ∙ rw (eq-eqb (lines_verdict lines).number 0 none);
-        price-is = rw r (accepted-sound lines none format month scenario);
-      }
+      record { answer-is = e; reply-is = r; price-is = rw r (accepted-sound lines (ap (λ (v : Verdict). v.number) (sym e)) format month scenario) }

@@ -1,6 +1,6 @@
 -- The search for the first line that reaches a month, step by step; and what is known of the line that it finds. Assumes nothing.
-use Prim.Native.Nat.{ℕ, ◌+◌, ◌-◌, ◌≤◌, ◌<◌}
-use native.Mathlib.Nat.{sub-zero, not-le_of_lt}
+use Prim.Native.Nat.{ℕ, ◌≤◌, ◌<◌}
+use native.Mathlib.Nat.{not-le_of_lt}
 use native.Mathlib.Omega.{arith}
 use mathlib.Core.Path.{◌≡◌, sym, ◌∙◌}
 use mathlib.Core.Logic.{⊎_elim}
@@ -8,36 +8,22 @@ use mathlib.Core.Bool.{Bool}
 use mathlib.Core.List.{List}
 use borrow.Author.Tests.{le-leb, lt-leb, leb-true, leb-false}
 use lib.Dec.{leb}
-use lib.ListN.{length}
-use Rattle.lists.specs.Ranges.{first_from}
+use lib.Ieee.{Float}
+use lib.ListN.{length, get_or, take}
+use Rattle.std.specs.Prelude.{Option, None, Some, MatchOption}
+use Rattle.std.specs.List.{AllWithin, HoldsAt}
+use Rattle.std.proofs.lemmas.List.{length-take-le, get_or-take}
 use Rattle.lists.proofs.OrderLaws.{lt-or-le}
-use Rattle.lists.proofs.RangeLaws.{search-here, search-next, search-end, least-is, least-passes, least-fails}
+use Rattle.lists.proofs.RangeLaws.{least-is, least-passes, least-fails}
 use Rattle.quote_prices.specs.declared.PriceLine.{PriceLine}
-use Rattle.quote_lines.specs.Lines.{months_at}
+use Rattle.quote_lines.specs.Lines.{months_at, line_count, lines_of}
 use Rattle.quote_lines.specs.Replies.{reached_line}
+use Rattle.quote_lines.proofs.LineLaws.{count-within, lines-length, month-is}
 
 module _ (lines : List PriceLine) (month : ℕ) where
   -- line i reaches the month
   abbrev reaches : ℕ → Bool
   reaches i = leb month (months_at lines i)
-
-  -- none of the first i lines reaches it: what is left to search gives the answer
-  pub record Reaching (i : ℕ) : Type 0 where
-    rest : reached_line lines month ≡ first_from i (length lines - i) reaches
-
-  pub reach-start : Reaching 0
-  unfolding reached_line
-  reach-start = record { rest = rw sub-zero }
-
-  module _ (i : ℕ) (r : Reaching i) where
-    pub reach_here : i < length lines → month ≤ months_at lines i → i ≡ reached_line lines month
-    reach_here h l = sym (r.rest ∙ search-here reaches i (length lines) h (le-leb _ _ l))
-
-    pub reach-next : i < length lines → months_at lines i < month → Reaching (i + 1)
-    reach-next h l = record { rest = r.rest ∙ search-next reaches i (length lines) h (lt-leb _ _ l) }
-
-    pub reach-none : length lines ≤ i → i ≡ reached_line lines month
-    reach-none h = sym (r.rest ∙ search-end reaches i (length lines) h)
 
   -- the line found reaches the month, and no line before it does
   pub reached-months : reached_line lines month < length lines → month ≤ months_at lines (reached_line lines month)
@@ -56,3 +42,32 @@ module _ (lines : List PriceLine) (month : ℕ) where
   pub reached-none : ((i : ℕ) → i < length lines → months_at lines i < month) → length lines ≤ reached_line lines month
   reached-none all =
       ⊎_elim (λ h. absurd (not-le_of_lt (all (reached_line lines month) h) (reached-months h))) (λ h. h) (lt-or-le (reached_line lines month) (length lines))
+
+-- the first of the months of two lists' lines that is at least the month
+module _ (months : List ℕ) (prices : List Float) (month : ℕ) where
+  abbrev lines : List PriceLine
+  lines = lines_of months prices
+
+  abbrev listed : List ℕ
+  listed = take (line_count months prices) months
+
+  counted : length listed ≡ line_count months prices
+  counted = length-take-le (line_count months prices) months (count-within months prices)
+
+  listed-is : (i : ℕ) → i < line_count months prices → get_or listed i 0 ≡ months_at lines i
+  listed-is i h = get_or-take (line_count months prices) months i 0 h ∙ sym (month-is months prices i h)
+
+  pub position-reached : (r : Option ℕ)
+      → MatchOption r (AllWithin (λ (m : ℕ). m < month) listed 0 (length listed))
+      (λ i. (i < length listed) × HoldsAt (λ (m : ℕ). month ≤ m) listed i × AllWithin (λ (m : ℕ). m < month) listed 0 i)
+      → MatchOption r (line_count months prices ≤ reached_line lines month) (λ i. (i < line_count months prices) × (i ≡ reached_line lines month))
+  position-reached None all =
+      rw (sym (lines-length months prices))
+      (reached-none lines month (λ i h. let l : i < line_count months prices = rw (lines-length months prices) at h in
+      rw (sym (listed-is i l)) (all i 0 (omega arith) (rw counted l))))
+  position-reached (Some i) (within, reaches, before) =
+      let l : i < line_count months prices = rw counted at within in (
+        l,
+        reached-is lines month i (rw (lines-length months prices) l) (rw (sym (listed-is i l)) (reaches 0))
+            (λ j u. rw (sym (listed-is j (omega arith))) (before j 0 (omega arith) u)),
+      )

@@ -5,14 +5,16 @@ use mathlib.Core.Path.{◌≡◌, refl, sym, ap, ◌∙◌}
 use mathlib.Core.List.{List}
 use borrow.Author.Tests.{le-leb, lt-leb, eq-eqb, ne_eqb}
 use lib.Arith.{lt_of_le-ne}
+use lib.Ieee.{Float}
 use lib.ListN.{length}
 use Rattle.form.specs.Shift.{scenario_count}
 use Rattle.quote_prices.specs.declared.PriceLine.{PriceLine}
 use Rattle.quote_prices.specs.PriceLines.{price_in}
 use Rattle.quote_prices.specs.Interpolation.{price_between}
 use Rattle.quote_lines.specs.declared.Reply.TheVariants.{Listed, Between, Outside}
-use Rattle.quote_lines.specs.Lines.{line_at, months_at}
+use Rattle.quote_lines.specs.Lines.{line_at, months_at, line_count, line_in, lines_of}
 use Rattle.quote_lines.specs.Replies.{reached_line, reply_short, reply_at, reply_of}
+use Rattle.quote_lines.proofs.LineLaws.{lines-length, line_read}
 use Rattle.quote_lines.proofs.ReachLaws.{reached-months, before-reached}
 
 -- a month that no line lists, short of line i
@@ -57,6 +59,15 @@ pub record Found (lines : List PriceLine) (month scenario i : ℕ) (line : Price
   pub within : i < length lines
   pub there : scenario < scenario_count
   pub is : line ≡ line_at lines i
+
+-- read from two lists
+pub found-line : (months : List ℕ) (prices : List Float) (month scenario i : ℕ) (line : PriceLine)
+    → (i < line_count months prices) × (i ≡ reached_line (lines_of months prices) month)
+    → scenario < scenario_count
+    → line ≡ line_in months prices i
+    → Found (lines_of months prices) month scenario i line
+found-line months prices month scenario i line r s e =
+    record { reached = r.1; within = rw (lines-length months prices) r.0; there = s; is = line_read months prices i r.0 e }
 
 module _ (lines : List PriceLine) (month scenario i : ℕ) (line : PriceLine) (f : Found lines month scenario i line) where
   months-are : line.months ≡ months_at lines i

@@ -4,51 +4,38 @@ ghost use Rattle.answers.specs.Answers.{verdict_of};
 ghost use Rattle.quote_lines.specs.Lines.{line_count, lines_of};
 ghost use Rattle.quote_lines.specs.Faults.{not_rising, faulty_line, lines_verdict};
 
-use crate::{line_at, line_count};
-use answers::Answer;
-use quote_prices::faulty_prices;
+use crate::Lines;
+use answers::Refusal;
 
 // The most lines that a list may have.
 const LINE_LIMIT: usize = 64;
 
-// The lines in turn.
-pub(crate) fn check_lines(months: &[u16], prices: &[f64]) -> Answer
-    ensures { verdict_of result ≡ lines_verdict (lines_of months.now prices.now) }
-{
-    let count = line_count(months, prices);
-    let mut i: usize = 0;
-    while i < count {
-        if faulty_line(months, prices, i) {
-            return Answer::LineFaulty(i);
+impl Lines<'_> {
+    // The lines in turn.
+    pub(crate) fn check(&self) -> Result<(), Refusal>
+        ensures { verdict_of result ≡ lines_verdict (lines_of self.now.months.now self.now.prices.now) }
+    {
+        for i in 0..self.count() {
+            if self.is_faulty(i) {
+                return Err(Refusal::LineFaulty(i));
+            }
         }
-        i += 1;
+        Ok(())
     }
-    Answer::Accepted
-}
 
-// A 65th line, months that do not rise, or a faulty price.
-fn faulty_line(months: &[u16], prices: &[f64], i: usize) -> bool
-    requires { i < line_count months.now prices.now }
-    ensures { result ≡ faulty_line (lines_of months.now prices.now) i }
-{
-    if LINE_LIMIT <= i {
-        return true;
+    // A 65th line, months that do not rise, or a faulty price.
+    fn is_faulty(&self, i: usize) -> bool
+        requires { i < line_count self.now.months.now self.now.prices.now }
+        ensures { result ≡ faulty_line (lines_of self.now.months.now self.now.prices.now) i }
+    {
+        LINE_LIMIT <= i || self.is_not_rising(i) || self.line(i).has_faulty_price()
     }
-    if not_rising(months, prices, i) {
-        return true;
-    }
-    faulty_prices(line_at(months, prices, i))
-}
 
-// No more months than the line before has.
-fn not_rising(months: &[u16], prices: &[f64], i: usize) -> bool
-    requires { i < line_count months.now prices.now }
-    ensures { result ≡ not_rising (lines_of months.now prices.now) i }
-{
-    if i == 0 {
-        return false;
+    // No more months than the line before has.
+    fn is_not_rising(&self, i: usize) -> bool
+        requires { i < line_count self.now.months.now self.now.prices.now }
+        ensures { result ≡ not_rising (lines_of self.now.months.now self.now.prices.now) i }
+    {
+        i != 0 && self.months[i] <= self.months[i - 1]
     }
-    let before = line_at(months, prices, i - 1);
-    let line = line_at(months, prices, i);
-    line.months <= before.months
 }

@@ -1,46 +1,39 @@
 // The reply of lines that are not faulty.
-ghost use Rattle.std.specs.Prelude.{◌≡◌, ◌<◌};
+ghost use Rattle.std.specs.Prelude.{◌≡◌, ◌≤◌, ◌<◌, MatchOption, length};
 ghost use Rattle.quote_lines.specs.Lines.{line_count, lines_of};
 ghost use Rattle.quote_lines.specs.Replies.{reached_line, reply_of};
 
-use crate::{Reply, line_at, line_count};
+use crate::{Lines, Reply};
 use form::sub_balances::SCENARIOS;
-use quote_prices::price_between;
 
-// By the first line that reaches the month: its own price, or that between it and the line before.
-pub(crate) fn reply_of(months: &[u16], prices: &[f64], month: u64, scenario: u64) -> Reply
-    ensures { result ≡ reply_of (lines_of months.now prices.now) month scenario }
-{
-    if SCENARIOS as u64 <= scenario {
-        return Reply::Outside;
-    }
-    let i = reached_line(months, prices, month);
-    if line_count(months, prices) <= i {
-        return Reply::Outside;
-    }
-    let line = line_at(months, prices, i);
-    if line.months as u64 == month {
-        return Reply::Listed(line.prices[scenario as usize]);
-    }
-    if i == 0 {
-        return Reply::Outside;
-    }
-    let before = line_at(months, prices, i - 1);
-    Reply::Between(price_between(before, line, month as u16, scenario as usize))
-}
-
-// The first line whose months are at least the month; the count of lines where there is none.
-fn reached_line(months: &[u16], prices: &[f64], month: u64) -> usize
-    ensures { result ≡ reached_line (lines_of months.now prices.now) month }
-{
-    let count = line_count(months, prices);
-    let mut i: usize = 0;
-    while i < count {
-        let line = line_at(months, prices, i);
-        if month <= line.months as u64 {
-            return i;
+impl Lines<'_> {
+    // By the first line that reaches the month: its own price, or that between it and the line before.
+    pub(crate) fn reply(&self, month: u64, scenario: u64) -> Reply
+        ensures { result ≡ reply_of (lines_of self.now.months.now self.now.prices.now) month scenario }
+    {
+        if SCENARIOS as u64 <= scenario {
+            return Reply::Outside;
         }
-        i += 1;
+        let Some(i) = self.reached(month) else {
+            return Reply::Outside;
+        };
+        let line = self.line(i);
+        if u64::from(line.months) == month {
+            return Reply::Listed(line.prices[scenario as usize]);
+        }
+        if i == 0 {
+            return Reply::Outside;
+        }
+        let before = self.line(i - 1);
+        Reply::Between(before.price_between(&line, month as u16, scenario as usize))
     }
-    count
+
+    // The first line whose months are at least the month.
+    fn reached(&self, month: u64) -> Option<usize>
+        ensures { MatchOption result (line_count self.now.months.now self.now.prices.now ≤ reached_line (lines_of self.now.months.now self.now.prices.now) month) (λ i. (i < line_count self.now.months.now self.now.prices.now) × (i ≡ reached_line (lines_of self.now.months.now self.now.prices.now) month)) }
+    {
+        self.months[..self.count()]
+            .iter()
+            .position(|months| month <= u64::from(*months))
+    }
 }

@@ -1,22 +1,23 @@
 -- The scan over the records: its state before each of them, what a record makes of it, and what it answers at the end.
 -- Assumes nothing.
 use Prim.Native.Nat.{ℕ, ◌≤◌, ◌<◌}
-use native.Mathlib.Nat.{le_refl, le_antisymm}
+use native.Mathlib.Nat.{le_antisymm}
 use native.Mathlib.Omega.{arith}
 use mathlib.Core.Path.{◌≡◌, refl, sym, ap, ◌∙◌}
 use mathlib.Core.Bool.{Bool, true, false, cond, not}
 use mathlib.Core.List.{List}
-use borrow.Author.Tests.{ltb-true, ltb-false, lt-ltb, le-ltb, eqb-false, eq-eqb, ne_eqb, not-true}
+use borrow.Author.Tests.{ltb-true, ltb-false, eqb-false, eq-eqb, ne_eqb, not-true}
 use lib.Dec.{ltb, eqb}
 use lib.ListN.{length}
-use Rattle.answers.specs.declared.Answer.{Answer}
-use Rattle.answers.specs.declared.Answer.TheVariants.{Accepted}
+use Rattle.std.specs.Prelude.{Result, Ok, is_err}
+use Rattle.answers.specs.declared.Refusal.{Refusal}
 use Rattle.answers.specs.Verdict.{Verdict, accepted}
 use Rattle.answers.specs.Answers.{verdict_of}
+use Rattle.answers.proofs.AnswerLaws.{refused-number, accepted-number}
 use Rattle.record_fields.specs.Records.{next_record}
 use Rattle.record_kinds.specs.Items.{record_item}
 use Rattle.record_verdicts.specs.RecordVerdicts.{first_refused, verdict_by, first_faulty, record_verdict, records_verdict}
-use Rattle.record_verdicts.specs.Inner.PlainVerdicts.{plain_verdict, first_plain, plains_verdict}
+use Rattle.record_verdicts.specs.Inner.PlainVerdicts.{plain_verdict, first_plain}
 use Rattle.record_verdicts.specs.Inner.SoundRecords.{sound_named}
 use Rattle.record_verdicts.proofs.NamedLaws.{passes, sound-told}
 use Rattle.record_offsets.specs.Inner.Notes.{Noted, noted_before, nothing_noted, note_item}
@@ -36,9 +37,8 @@ pub record Scanning (s : List ℕ) (noted : Noted) (at : ℕ) : Type 0 where
   pub ahead : Ahead s (faulty s) (length s) at
   pub noted-is : noted ≡ noted_before s at
 
--- what the scan answers: the verdict on the records, with what is noted of those before the first faulty one
-pub record Scanned (s : List ℕ) (noted : Noted) (end : ℕ) (verdict : Verdict) : Type 0 where
-  pub verdict-is : verdict ≡ plains_verdict s
+-- what the scan answers: what is noted of the records before the first faulty one, and where that stands
+pub record Scanned (s : List ℕ) (noted : Noted) (end : ℕ) : Type 0 where
   pub noted-is : noted ≡ noted_before s (first_plain s)
   pub end_is : end ≡ first_plain s
 
@@ -64,44 +64,42 @@ module _ (s : List ℕ) (noted : Noted) (at : ℕ) (state : Scanning s noted at)
         noted-is = rw state.noted-is (noted-next s at state.reached f.single);
       }
 
-  -- here: a faulty record ends the scan with its verdict
-  pub scanning-faulty : at < length s → ((plain_verdict s at).number ≡ 0 → ⊥) → Scanned s noted at (plain_verdict s at)
-  unfolding first_refused verdict_by
+  -- here: a faulty record ends the scan
+  pub scanning-faulty : at < length s → ((plain_verdict s at).number ≡ 0 → ⊥) → Scanned s noted at
+  unfolding first_refused
   scanning-faulty l h =
       let found : first_plain s ≡ at =
       ahead-here s (faulty s) (length s) at state.ahead l (simp (ne_eqb (plain_verdict s at).number 0 h)) in
       record {
-        verdict-is = rw (found, lt-ltb at (length s) l);
         noted-is = rw found state.noted-is;
         end_is = sym found;
       }
 
   -- done: all records are read, and none is faulty
-  pub scanning-done : length s ≤ at → Scanned s noted at accepted
-  unfolding first_refused verdict_by
+  pub scanning-done : length s ≤ at → Scanned s noted at
+  unfolding first_refused
   scanning-done l =
       let found : first_plain s ≡ length s = ahead-done s (faulty s) (length s) at state.ahead l in
       let e : at ≡ length s = omega (arith, state.within) in
       record {
-        verdict-is = rw (found, le-ltb (length s) (length s) (le_refl (length s)));
         noted-is = rw (found, ← e) state.noted-is;
         end_is = e ∙ sym found;
       }
 
   -- the record at hand is visited: a faulty one ends the scan, and after a sound one it goes on
-  module _ (within : at < length s) (answer : Answer) (after : Noted) (visited : Visited s at answer after) where
-    pub visited-ends : ((verdict_of answer).number ≡ 0 → ⊥) → Scanned s after at (verdict_of answer)
+  module _ {A : Type 0} (within : at < length s) (answer : Result A Refusal) (after : Noted) (visited : Visited s at answer after) where
+    pub visited-ends : is_err answer ≡ true → Scanned s after at
     visited-ends h =
-        let faulty : (plain_verdict s at).number ≡ 0 → ⊥ = λ e. h (ap (λ (v : Verdict). v.number) visited.verdict-is ∙ e) in
-        rw (visited.verdict-is, visited.faulty-left faulty, ← state.noted-is) (scanning-faulty within faulty)
+        let faulty : (plain_verdict s at).number ≡ 0 → ⊥ = λ e. refused-number answer h (ap (λ (v : Verdict). v.number) visited.verdict-is ∙ e) in
+        rw (visited.faulty-left faulty, ← state.noted-is) (scanning-faulty within faulty)
 
-    pub visited-next : (verdict_of answer).number ≡ 0 → Scanning s after (next_record s at)
+    pub visited-next : is_err answer ≡ false → Scanning s after (next_record s at)
     visited-next h =
-        let sound = sym (ap (λ (v : Verdict). v.number) visited.verdict-is) ∙ h in
+        let sound = sym (ap (λ (v : Verdict). v.number) visited.verdict-is) ∙ accepted-number answer h in
         rw (visited.sound-noted sound, ← state.noted-is) (scanning-next within sound)
 
 module _ (s : List ℕ) (at : ℕ) where
-  module _ (answer : Answer) (noted : Noted) (verdict : verdict_of answer ≡ plain_verdict s at) (before : noted ≡ noted_before s at) where
+  module _ {A : Type 0} (answer : Result A Refusal) (noted : Noted) (verdict : verdict_of answer ≡ plain_verdict s at) (before : noted ≡ noted_before s at) where
     -- a record without a fault is noted, and one with a fault is not
     pub visited-sound : (after : Noted) → (plain_verdict s at).number ≡ 0 → after ≡ note_item s noted (record_item s at) at → Visited s at answer after
     visited-sound after h e = record { verdict-is = verdict; sound-noted = λ z. rw (e, before); faulty-left = λ f. absurd (f h) }
@@ -111,11 +109,11 @@ module _ (s : List ℕ) (at : ℕ) where
 
   -- a record that is told to be sound is noted
   pub visited-named : (noted after : Noted) → sound_named s at ≡ true → noted ≡ noted_before s at → after ≡ note_item s noted (record_item s at) at
-      → Visited s at Accepted after
-  unfolding verdict_of accepted
+      → Visited {A = Unit {0}} s at (Ok tt) after
+  unfolding accepted
   visited-named noted after h before e =
       let sound = passes s at (sound-told s at h).fault-free in
-      visited-sound Accepted noted (sym sound) before after (ap (λ (v : Verdict). v.number) sound) e
+      visited-sound (Ok tt) noted (sym sound) before after (ap (λ (v : Verdict). v.number) sound) e
 
 -- no refusal of the records: none of them is faulty
 module _ (s : List ℕ) (verdict : ℕ → Verdict) where

@@ -1,5 +1,6 @@
 -- Repeated amendments, block by block of their numbers: where the numbers of a block rise none is repeated, and the blocks together have all of them.
 -- Assumes nothing.
+use Rattle.std.specs.Prelude.{Option, Some, None}
 use Prim.Native.Nat.{ℕ, zero, suc, ◌≤◌, ◌<◌}
 use native.Mathlib.Nat.{le_refl, le_trans}
 use native.Mathlib.Omega.{arith}
@@ -11,7 +12,7 @@ use lib.Dec.{ltb}
 use Rattle.lists.specs.Tables.{any_below}
 use Rattle.lists.proofs.TestLaws.{and-true, any_here}
 use Rattle.record_kinds.specs.declared.items.Item.{Item}
-use Rattle.record_kinds.specs.declared.items.Item.TheVariants.{Cell, Sheet, Amendment, Nothing}
+use Rattle.record_kinds.specs.declared.items.Item.TheVariants.{Cell, Sheet, Amendment}
 use Rattle.record_fields.specs.Records.{first_record}
 use Rattle.record_kinds.specs.Items.{same_item, record_item, first_with}
 use Rattle.record_offsets.specs.Counting.{item_rank, rank, counting_before}
@@ -33,7 +34,7 @@ any-never test zero none = refl
 any-never test (suc n) none = rw (any-never test n none) (none n)
 
 module _ (s : List ℕ) where
-  earlier-reached : (item : Item) (end : ℕ) → first_with s item end < end → Reached s 0 (first_with s item end)
+  earlier-reached : (item : Option Item) (end : ℕ) → first_with s item end < end → Reached s 0 (first_with s item end)
   unfolding first_with
   earlier-reached item end l = first-reached s (λ (j : ℕ). same_item (record_item s j) item) end l
 
@@ -44,15 +45,15 @@ module _ (s : List ℕ) where
       let parts = and-true (amends_in block (record_item s at)) (ltb (first_with s (record_item s at) at) at) h in
       by (record_item s at) refl parts.0 (ltb-true (first_with s (record_item s at) at) at parts.1)
     where
-      by : (item : Item) → record_item s at ≡ item → amends_in block item ≡ true → first_with s (record_item s at) at < at → falls_as s block at item ≡ true
-      by (Cell n) e a l = a
-      by (Sheet kind) e a l = a
-      by (Amendment cell number) e a l =
+      by : (item : Option Item) → record_item s at ≡ item → amends_in block item ≡ true → first_with s (record_item s at) at < at → falls_as s block at item ≡ true
+      by (Some (Cell n)) e a l = a
+      by (Some (Sheet kind)) e a l = a
+      by (Some (Amendment cell number)) e a l =
           let i = first_with s (record_item s at) at in
           let same : rank s cell i ≡ rank s cell at = ap (item_rank cell) (with-passes s (record_item s at) at l) in
           let most = counting-most s cell at i (earlier-reached (record_item s at) at l) l in
           rw a (le-leb (rank s cell at) (rank s cell (counting_before s cell at)) (omega (arith, same, most)))
-      by Nothing e a l = a
+      by None e a l = a
 
   -- where none falls before `end`, none is repeated before a record up to it
   pub rising-single : (block end first : ℕ) → falls_before s block end ≡ false → first ≤ end → first_record s (repeats s block) first ≡ first
@@ -71,17 +72,17 @@ module _ (s : List ℕ) where
   unfolding repeats amends_in
   repeated-any at = by (record_item s at) refl
     where
-      stands : (cell number : ℕ) → record_item s at ≡ Amendment cell number → (b : Bool) → stands_before s at ≡ b
+      stands : (cell number : ℕ) → record_item s at ≡ Some (Amendment cell number) → (b : Bool) → stands_before s at ≡ b
           → b ≡ any_below (λ (i : ℕ). amends_in i (record_item s at) && stands_before s at) block_count
       stands cell number e true h =
           sym (any_here _ block_count (block_of number) (block-lt number) (rw (e, h) (simp (eq-eqb (block_of number) (block_of number) refl))))
       stands cell number e false h = sym (any-never _ block_count (λ i. rw h (and-false (amends_in i (record_item s at)))))
 
-      by : (item : Item) → record_item s at ≡ item → amendment_repeated s at ≡ any_below (λ (i : ℕ). amends_in i (record_item s at) && stands_before s at) block_count
-      by (Cell cell) e = plain-single s at (Cell cell) e refl ∙ sym (any-never _ block_count (λ i. rw e))
-      by (Sheet kind) e = plain-single s at (Sheet kind) e refl ∙ sym (any-never _ block_count (λ i. rw e))
-      by (Amendment cell number) e = amendment-stands s at cell number e ∙ stands cell number e (stands_before s at) refl
-      by Nothing e = plain-single s at Nothing e refl ∙ sym (any-never _ block_count (λ i. rw e))
+      by : (item : Option Item) → record_item s at ≡ item → amendment_repeated s at ≡ any_below (λ (i : ℕ). amends_in i (record_item s at) && stands_before s at) block_count
+      by (Some (Cell cell)) e = plain-single s at (Some (Cell cell)) e refl ∙ sym (any-never _ block_count (λ i. rw e))
+      by (Some (Sheet kind)) e = plain-single s at (Some (Sheet kind)) e refl ∙ sym (any-never _ block_count (λ i. rw e))
+      by (Some (Amendment cell number)) e = amendment-stands s at cell number e ∙ stands cell number e (stands_before s at) refl
+      by None e = plain-single s at None e refl ∙ sym (any-never _ block_count (λ i. rw e))
 
   -- the search block by block is the search for all of the numbers
   blocks-first : (n end : ℕ) → repetitions_below s n end ≡ first_record s (λ (at : ℕ). any_below (λ (i : ℕ). repeats s i at) n) end

@@ -11,8 +11,13 @@ use lib.Dec.{eqb}
 use lib.ListN.{length}
 use Rattle.record_offsets.specs.Inner.Notes.{block_count}
 use Rattle.record_fields.proofs.RecordLaws.{first-le, first_passes}
+use Rattle.std.specs.Prelude.{Result, Ok, Err}
+use Rattle.answers.specs.declared.Refusal.{Refusal}
+use Rattle.answers.specs.Answers.{verdict_of}
+use Rattle.record_verdicts.proofs.FaultLaws.{record-located}
+use Rattle.record_checks.specs.Inner.Scans.{end_of}
 use Rattle.answers.specs.Verdict.{Verdict, accepted, refused, refused_if, first_refusal}
-use Rattle.answers.proofs.VerdictLaws.{first-passed, first-refused, first-none, condition-holds, condition-refuses, condition-none}
+use Rattle.answers.proofs.VerdictLaws.{number-of, first-passed, first-refused, first-none, condition-holds, condition-refuses, condition-none}
 use Rattle.record_shape.specs.Faults.{amendment_repeated}
 use Rattle.record_verdicts.specs.RecordVerdicts.{shape_verdict, body_verdict, record_verdict, first_refused, verdict_by, first_faulty, records_verdict}
 use Rattle.record_verdicts.specs.Inner.PlainVerdicts.{plain_verdict, first_plain}
@@ -102,6 +107,18 @@ module _ (s : List ℕ) where
   pub here-verdict : first_plain s ≤ found → first_plain s < length s → records_verdict s ≡ record_verdict s (first_plain s)
   unfolding verdict_by
   here-verdict h l = rw (here-first h, lt-ltb (first_plain s) (length s) l)
+
+  there-faulty : first_plain s ≤ found → first_plain s < length s → (record_verdict s (first_plain s)).number ≡ 0 → ⊥
+  there-faulty h l z =
+      let passed = records-passed s (ap number-of (here-verdict h l) ∙ z) in
+      absurd (omega (arith, here-first h, passed))
+
+  -- that record is refused, at its offset: the records end there
+  pub refused-end : {A : Type 0} → first_plain s ≤ found → first_plain s < length s → (r : Result A Refusal) → verdict_of r ≡ record_verdict s (first_plain s)
+      → end_of s r ≡ first_faulty s
+  unfolding accepted refused
+  refused-end h l (Ok x) e = absurd (there-faulty h l (ap number-of (sym e)))
+  refused-end h l (Err r) e = ap (λ (v : Verdict). v.location) e ∙ record-located s (first_plain s) (there-faulty h l) ∙ sym (here-first h)
 
   -- no record is faulty: none is faulty but for 16 either
   pub plain-passed : (records_verdict s).number ≡ 0 → first_plain s ≡ length s

@@ -12,59 +12,57 @@ ghost use Rattle.record_offsets.specs.Inner.Notes.{noted_as, noted_before};
 ghost use Rattle.record_shape.specs.Faults.{amendment_repeated};
 ghost use Rattle.record_verdicts.specs.RecordVerdicts.{record_verdict, first_faulty, records_verdict};
 ghost use Rattle.record_verdicts.specs.Inner.PlainVerdicts.{first_plain};
+ghost use Rattle.record_checks.specs.Inner.Scans.{end_of};
 
 use crate::repetitions::first_repetition;
 use crate::repetitions::pass::amended_before;
-use crate::scan::{Scanned, scan};
-use answers::Answer;
-use answers::first_refusals::first_refusal;
+use crate::scan::scan;
+use answers::Refusal;
 use form::CELLS;
 use record_kinds::KINDS;
 use record_kinds::items::{Item, record_item};
 use record_offsets::BLOCKS;
-use record_verdicts::{check_body, check_shape, refused_if};
+use record_verdicts::{check_body, check_shape};
 
-// The answer on the records, with the offset of the first faulty one. Those before the first that is faulty but for 16 are noted.
+// The answer on the records. Those before the first that is faulty but for 16 are noted.
 pub fn check_records(
     s: &[u8],
     sheets: &mut [usize; KINDS],
     cells: &mut [usize; CELLS],
     counting: &mut [usize; CELLS],
     falling: &mut [bool; BLOCKS],
-) -> Scanned
-    ensures { (verdict_of result.answer ≡ records_verdict s.now)
-        × (noted_as sheets.new cells.new counting.new falling.new
-        ≡ noted_before s.now (first_plain s.now))
-        × (result.end ≡ first_faulty s.now) }
+) -> Result<(), Refusal>
+    ensures verdict { verdict_of result ≡ records_verdict s.now }
+    ensures noted { noted_as sheets.new cells.new counting.new falling.new
+        ≡ noted_before s.now (first_plain s.now) }
+    ensures end { end_of s.now result ≡ first_faulty s.now }
 {
-    let scanned = scan(s, sheets, cells, counting, falling);
-    let end = scanned.end;
+    let end = scan(s, sheets, cells, counting, falling);
     let first = first_repetition(s, falling, end);
     if first < end {
-        return Scanned {
-            answer: Answer::AmendmentRepeated(first),
-            end: first,
-        };
+        return Err(Refusal::AmendmentRepeated(first));
     }
     if s.len() <= end {
-        return Scanned {
-            answer: Answer::Accepted,
-            end,
-        };
+        return Ok(());
     }
-    let answer = check_fully(s, end, sheets, cells);
-    Scanned { answer, end }
+    check_fully(s, end, sheets, cells)
 }
 
 // The answer on the record at an offset by all tests.
-fn check_fully(s: &[u8], at: usize, sheets: &[usize; KINDS], cells: &[usize; CELLS]) -> Answer
+fn check_fully(
+    s: &[u8],
+    at: usize,
+    sheets: &[usize; KINDS],
+    cells: &[usize; CELLS],
+) -> Result<(), Refusal>
     requires { (at < length s.now) × (sheets.now ≡ (noted_before s.now at).sheets) × (cells.now ≡ (noted_before s.now at).cells) }
     ensures { verdict_of result ≡ record_verdict s.now at }
 {
-    let shape = check_shape(s, at, sheets, cells);
-    let again = refused_if(amendment_repeated(s, at), Answer::AmendmentRepeated(at));
-    let body = check_body(s, at);
-    first_refusal(shape, first_refusal(again, body))
+    check_shape(s, at, sheets, cells)?;
+    if amendment_repeated(s, at) {
+        return Err(Refusal::AmendmentRepeated(at));
+    }
+    check_body(s, at)
 }
 
 // 16: the amendment of the same cell and number stands in an earlier record.
@@ -73,9 +71,9 @@ fn amendment_repeated(s: &[u8], at: usize) -> bool
     ensures { result ≡ amendment_repeated s.now at }
 {
     match record_item(s, at) {
-        Item::Cell(_) => false,
-        Item::Sheet(_) => false,
-        Item::Amendment(cell, number) => amended_before(s, cell, number, at),
-        Item::Nothing => false,
+        Some(Item::Amendment(cell, number)) => amended_before(s, cell, number, at),
+        Some(Item::Cell(_)) => false,
+        Some(Item::Sheet(_)) => false,
+        None => false,
     }
 }

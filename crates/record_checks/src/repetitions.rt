@@ -17,10 +17,8 @@ pub(crate) fn first_repetition(s: &[u8], falling: &[bool; BLOCKS], end: usize) -
     ensures { result ≡ repetitions_below s.now block_count end }
 {
     let mut first = end;
-    let mut i: usize = 0;
-    while i < BLOCKS {
+    for i in 0..BLOCKS {
         first = block_repetition(s, i, falling[i], first);
-        i += 1;
     }
     first
 }

@@ -11,10 +11,8 @@ pub(crate) fn number_at(s: &[u8], at: usize, width: usize) -> u64
         return 0;
     }
     let mut value: u64 = 0;
-    let mut left = width;
-    while 0 < left {
-        left -= 1;
-        value = value * 256 + byte_at(s, at + left);
+    for i in (0..width).rev() {
+        value = value * 256 + byte_at(s, at + i);
     }
     value
 }
@@ -36,10 +34,8 @@ fn run_within(s: &[u8], at: usize, width: usize) -> u64
     ensures { (result ≡ number_at s.now at width) × (result < 256 ^ width) }
 {
     let mut value: u64 = 0;
-    let mut left = width;
-    while 0 < left {
-        left -= 1;
-        value = value * 256 + wide(s[at + left]);
+    for i in (0..width).rev() {
+        value = value * 256 + u64::from(s[at + i]);
     }
     value
 }
@@ -48,11 +44,5 @@ fn run_within(s: &[u8], at: usize, width: usize) -> u64
 pub(crate) fn byte_at(s: &[u8], i: usize) -> u64
     ensures { result ≡ get_or s.now i 0 }
 {
-    if i < s.len() { s[i] as u64 } else { 0 }
-}
-
-fn wide(byte: u8) -> u64
-    ensures { result ≡ byte }
-{
-    byte as u64
+    if i < s.len() { u64::from(s[i]) } else { 0 }
 }

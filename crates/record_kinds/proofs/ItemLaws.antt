@@ -1,5 +1,6 @@
 -- What a record is one of: which records are of a cell, of an amendment and of a sheet, and when two items are the same.
 -- Assumes nothing.
+use Rattle.std.specs.Prelude.{Option, Some, None}
 use Prim.Native.Nat.{ℕ, ◌+◌, ◌≤◌, ◌<◌}
 use native.Mathlib.Omega.{arith}
 use mathlib.Core.Path.{◌≡◌, refl, sym, ap, ◌∙◌}
@@ -14,7 +15,7 @@ use Rattle.form.specs.Limits.{coupon_class}
 use Rattle.form.specs.Classes.{cell_class}
 use Rattle.form.proofs.ClassLaws.{class-listed}
 use Rattle.record_kinds.specs.declared.items.Item.{Item}
-use Rattle.record_kinds.specs.declared.items.Item.TheVariants.{Cell, Sheet, Amendment, Nothing}
+use Rattle.record_kinds.specs.declared.items.Item.TheVariants.{Cell, Sheet, Amendment}
 use Rattle.record_fields.specs.Records.{record_kind, record_cell, amendment_number}
 use Rattle.record_kinds.specs.Kinds.{kind_count, cell_kind, fine_coupon_kind, amendment_kind, gives_cell, sheet_of, sheet_kinds, sheet_kind, sheet_length, tiers_kind, due_length}
 use Rattle.record_kinds.specs.Items.{same_item, record_class, record_item, first_with}
@@ -22,50 +23,50 @@ use Rattle.record_fields.proofs.ByteLaws.{number_past}
 use Rattle.record_fields.proofs.RecordLaws.{first_passes}
 
 -- the same item is the one item: items of two sorts are never the same, and of one sort they are where their numbers are equal
-pub same_item_lem : (a b : Item) → same_item a b ≡ true → a ≡ b
+pub same_item_lem : (a b : Option Item) → same_item a b ≡ true → a ≡ b
 unfolding same_item
-same_item_lem (Cell m) (Cell n) e = ap Cell (eqb-true m n e)
-same_item_lem (Cell m) (Sheet n) e = absurd (true≢false (sym e))
-same_item_lem (Cell m) (Amendment n b) e = absurd (true≢false (sym e))
-same_item_lem (Cell m) Nothing e = absurd (true≢false (sym e))
-same_item_lem (Sheet m) (Cell n) e = absurd (true≢false (sym e))
-same_item_lem (Sheet m) (Sheet n) e = ap Sheet (eqb-true m n e)
-same_item_lem (Sheet m) (Amendment n b) e = absurd (true≢false (sym e))
-same_item_lem (Sheet m) Nothing e = absurd (true≢false (sym e))
-same_item_lem (Amendment m a) (Cell n) e = absurd (true≢false (sym e))
-same_item_lem (Amendment m a) (Sheet n) e = absurd (true≢false (sym e))
-same_item_lem (Amendment m a) (Amendment n b) e =
+same_item_lem (Some (Cell m)) (Some (Cell n)) e = ap (λ (c : ℕ). Some (Cell c)) (eqb-true m n e)
+same_item_lem (Some (Cell m)) (Some (Sheet n)) e = absurd (true≢false (sym e))
+same_item_lem (Some (Cell m)) (Some (Amendment n b)) e = absurd (true≢false (sym e))
+same_item_lem (Some (Cell m)) None e = absurd (true≢false (sym e))
+same_item_lem (Some (Sheet m)) (Some (Cell n)) e = absurd (true≢false (sym e))
+same_item_lem (Some (Sheet m)) (Some (Sheet n)) e = ap (λ (c : ℕ). Some (Sheet c)) (eqb-true m n e)
+same_item_lem (Some (Sheet m)) (Some (Amendment n b)) e = absurd (true≢false (sym e))
+same_item_lem (Some (Sheet m)) None e = absurd (true≢false (sym e))
+same_item_lem (Some (Amendment m a)) (Some (Cell n)) e = absurd (true≢false (sym e))
+same_item_lem (Some (Amendment m a)) (Some (Sheet n)) e = absurd (true≢false (sym e))
+same_item_lem (Some (Amendment m a)) (Some (Amendment n b)) e =
     let h = and-true (eqb m n) (eqb a b) e in
-    ap (λ (c : ℕ). Amendment c a) (eqb-true m n h.0) ∙ ap (Amendment n) (eqb-true a b h.1)
-same_item_lem (Amendment m a) Nothing e = absurd (true≢false (sym e))
-same_item_lem Nothing b e = absurd (true≢false (sym e))
+    ap (λ (c : ℕ). Some (Amendment c a)) (eqb-true m n h.0) ∙ ap (λ (c : ℕ). Some (Amendment n c)) (eqb-true a b h.1)
+same_item_lem (Some (Amendment m a)) None e = absurd (true≢false (sym e))
+same_item_lem None b e = absurd (true≢false (sym e))
 
 -- the sort of an item; items of two sorts are not equal
-abbrev sort_of : Item → ℕ
-sort_of (Cell m) = 0
-sort_of (Sheet m) = 1
-sort_of (Amendment m a) = 2
-sort_of Nothing = 3
+abbrev sort_of : Option Item → ℕ
+sort_of (Some (Cell m)) = 0
+sort_of (Some (Sheet m)) = 1
+sort_of (Some (Amendment m a)) = 2
+sort_of None = 3
 
-not-same-sort : (a b : Item) → eqb (sort_of a) (sort_of b) ≡ false → a ≡ b → ⊥
+not-same-sort : (a b : Option Item) → eqb (sort_of a) (sort_of b) ≡ false → a ≡ b → ⊥
 not-same-sort a b d e = eqb-false (sort_of a) (sort_of b) d (ap sort_of e)
 
 -- nothing is the same as no item
-pub same-nothing : (a : Item) → same_item a Nothing ≡ false
+pub same-nothing : (a : Option Item) → same_item a None ≡ false
 unfolding same_item
-same-nothing (Cell m) = refl
-same-nothing (Sheet m) = refl
-same-nothing (Amendment m a) = refl
-same-nothing Nothing = refl
+same-nothing (Some (Cell m)) = refl
+same-nothing (Some (Sheet m)) = refl
+same-nothing (Some (Amendment m a)) = refl
+same-nothing None = refl
 
 -- a record that is found by its item is of that item
-pub with-passes : (s : List ℕ) (item : Item) (end : ℕ) → first_with s item end < end → record_item s (first_with s item end) ≡ item
+pub with-passes : (s : List ℕ) (item : Option Item) (end : ℕ) → first_with s item end < end → record_item s (first_with s item end) ≡ item
 unfolding first_with
 with-passes s item end h =
     same_item_lem (record_item s (first_with s item end)) item (first_passes s (λ (at : ℕ). same_item (record_item s at) item) end h)
 
 -- no record stands past the end
-pub item-past : (s : List ℕ) (at : ℕ) → length s ≤ at → record_item s at ≡ Nothing
+pub item-past : (s : List ℕ) (at : ℕ) → length s ≤ at → record_item s at ≡ None
 unfolding record_item gives_cell sheet_kinds sheet_kind sheet_of sheet_length due_length
 item-past s at h = simp (number_past s (at + 2) 2 (omega arith))
 
@@ -121,10 +122,10 @@ listed-class class false coupon e h = (h, λ f. absurd (true≢false (sym f)))
 
 module _ (s : List ℕ) (at : ℕ) where
   -- the item by the tests: the kind gives a cell, the cell is not listed, the kind is an amendment's, it is not known
-  abbrev item_by : Bool → Bool → Bool → Bool → Item
+  abbrev item_by : Bool → Bool → Bool → Bool → Option Item
   item_by gives off amends none =
-      cond gives (cond off Nothing (Cell (record_cell s at)))
-      (cond amends (cond off Nothing (Amendment (record_cell s at) (amendment_number s at))) (cond none Nothing (Sheet (record_kind s at))))
+      cond gives (cond off None (Some (Cell (record_cell s at))))
+      (cond amends (cond off None (Some (Amendment (record_cell s at) (amendment_number s at)))) (cond none None (Some (Sheet (record_kind s at)))))
 
   class-is : (record_class s at ≡ 0 → ⊥)
       → (cell_class (record_cell s at) ≡ 0 → ⊥) × (eqb (record_kind s at) fine_coupon_kind ≡ true → cell_class (record_cell s at) ≡ coupon_class)
@@ -138,7 +139,7 @@ module _ (s : List ℕ) (at : ℕ) where
   -- An item is a cell only where the kind gives one and its cell is listed; in every other case it is of another sort. There the cell is the
   -- record's, a listed cell lies from the first to the last, and for kind 6 the listed class is a coupon's
   of-cell : (cell : ℕ) (gives off amends none : Bool) → gives_cell (record_kind s at) ≡ gives → eqb (record_class s at) 0 ≡ off
-      → item_by gives off amends none ≡ Cell cell → OfCell s at cell
+      → item_by gives off amends none ≡ Some (Cell cell) → OfCell s at cell
   of-cell cell true true amends none a b e = absurd (not-same-sort _ _ refl e)
   of-cell cell true false amends none a b e =
       let is : record_cell s at ≡ cell = cc in
@@ -158,7 +159,7 @@ module _ (s : List ℕ) (at : ℕ) where
   -- an item is an amendment only where the kind is 7 and its cell is listed; in every other case it is of another sort. There cell and number
   -- are the record's, and a listed cell lies from the first to the last
   of-amendment : (cell number : ℕ) (gives off amends none : Bool) → eqb (record_kind s at) amendment_kind ≡ amends → eqb (record_class s at) 0 ≡ off
-      → item_by gives off amends none ≡ Amendment cell number → OfAmendment s at cell number
+      → item_by gives off amends none ≡ Some (Amendment cell number) → OfAmendment s at cell number
   of-amendment cell number true true amends none a b e = absurd (not-same-sort _ _ refl e)
   of-amendment cell number true false amends none a b e = absurd (not-same-sort _ _ refl e)
   of-amendment cell number false true true none a b e = absurd (not-same-sort _ _ refl e)
@@ -179,7 +180,7 @@ module _ (s : List ℕ) (at : ℕ) where
   -- A kind that has a length is one of the kinds
   of-sheet : (kind : ℕ) (gives off amends none : Bool) → gives_cell (record_kind s at) ≡ gives → eqb (record_kind s at) amendment_kind ≡ amends
       → eqb (due_length s at) 0 ≡ none
-      → item_by gives off amends none ≡ Sheet kind → OfSheet s at kind
+      → item_by gives off amends none ≡ Some (Sheet kind) → OfSheet s at kind
   of-sheet kind true true amends none a b d e = absurd (not-same-sort _ _ refl e)
   of-sheet kind true false amends none a b d e = absurd (not-same-sort _ _ refl e)
   of-sheet kind false true true none a b d e = absurd (not-same-sort _ _ refl e)
@@ -194,17 +195,17 @@ module _ (s : List ℕ) (at : ℕ) where
         known = rw (← is) (kind-known s at (eqb-false (due_length s at) 0 d));
       }
 
-  pub record-of-cell : (cell : ℕ) → record_item s at ≡ Cell cell → OfCell s at cell
+  pub record-of-cell : (cell : ℕ) → record_item s at ≡ Some (Cell cell) → OfCell s at cell
   unfolding record_item
   record-of-cell cell e =
       of-cell cell (gives_cell (record_kind s at)) (eqb (record_class s at) 0) (eqb (record_kind s at) amendment_kind) (eqb (due_length s at) 0) refl refl e
 
-  pub record-of-amendment : (cell number : ℕ) → record_item s at ≡ Amendment cell number → OfAmendment s at cell number
+  pub record-of-amendment : (cell number : ℕ) → record_item s at ≡ Some (Amendment cell number) → OfAmendment s at cell number
   unfolding record_item
   record-of-amendment cell number e =
       of-amendment cell number (gives_cell (record_kind s at)) (eqb (record_class s at) 0) (eqb (record_kind s at) amendment_kind) (eqb (due_length s at) 0) refl refl e
 
-  pub record-of-sheet : (kind : ℕ) → record_item s at ≡ Sheet kind → OfSheet s at kind
+  pub record-of-sheet : (kind : ℕ) → record_item s at ≡ Some (Sheet kind) → OfSheet s at kind
   unfolding record_item
   record-of-sheet kind e =
       of-sheet kind (gives_cell (record_kind s at)) (eqb (record_class s at) 0) (eqb (record_kind s at) amendment_kind) (eqb (due_length s at) 0) refl refl refl e

@@ -6,8 +6,8 @@ use crate::{AMENDMENT_KIND, FINE_COUPON_KIND, due_length, gives_cell};
 use form::tables::{COUPON_CLASS, cell_class};
 use record_fields::{amendment_number, record_cell, record_kind};
 
-// What a record is one of.
-#[derive(Clone, Copy)]
+// What a record is one of, if it may stand only once.
+#[derive(Clone, Copy, Debug, PartialEq, Eq)]
 pub enum Item {
     // A cell, by its number.
     Cell(u64),
@@ -15,31 +15,29 @@ pub enum Item {
     Sheet(usize),
     // An amendment of a cell, by the cell's number and its own.
     Amendment(u64, u16),
-    // Nothing that may stand only once.
-    Nothing,
 }
 
 // The item of a record: of its cell, or an amendment of it, where that is listed; another kind that is known of its kind.
-pub fn record_item(s: &[u8], at: usize) -> Item
+pub fn record_item(s: &[u8], at: usize) -> Option<Item>
     ensures { result ≡ record_item s.now at }
 {
     let kind = record_kind(s, at);
     if gives_cell(kind) {
         if record_class(s, at) == 0 {
-            return Item::Nothing;
+            return None;
         }
-        return Item::Cell(record_cell(s, at));
+        return Some(Item::Cell(record_cell(s, at)));
     }
     if kind == AMENDMENT_KIND {
         if record_class(s, at) == 0 {
-            return Item::Nothing;
+            return None;
         }
-        return Item::Amendment(record_cell(s, at), amendment_number(s, at));
+        return Some(Item::Amendment(record_cell(s, at), amendment_number(s, at)));
     }
     if due_length(s, at) == 0 {
-        return Item::Nothing;
+        return None;
     }
-    Item::Sheet(kind)
+    Some(Item::Sheet(kind))
 }
 
 // The class of a record's cell, 0 where it is not listed: for a coupon in thousandths a coupon alone is.

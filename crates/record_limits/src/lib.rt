@@ -73,10 +73,8 @@ fn number_over(s: &[u8], at: usize, limit: u16, n: usize) -> bool
     ensures { result ≡ number_over s.now at limit n }
 {
     let within = holds_numbers(s, at, n);
-    let mut i = 0;
-    while i < n {
-        i += 1;
-        if limit < number_of(s, at, i, within) {
+    for i in 0..n {
+        if limit < number_of(s, at, i + 1, within) {
             return true;
         }
     }

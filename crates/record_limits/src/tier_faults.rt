@@ -33,14 +33,7 @@ fn some_unfit(s: &[u8], at: usize, n: usize) -> bool
     requires { n ≤ tier_limit }
     ensures { result ≡ any_below (unfit_tier s.now at) n }
 {
-    let mut i: usize = 0;
-    while i < n {
-        if unfit_tier(s, at, i) {
-            return true;
-        }
-        i += 1;
-    }
-    false
+    (0..n).any(|i| unfit_tier(s, at, i))
 }
 
 // The i-th tier, from 0, does not load.

@@ -1,5 +1,6 @@
 -- The record that counts for a cell, and whether its amendments rise, once one record more is read; it ranks as high as each record.
 -- Assumes nothing.
+use Rattle.std.specs.Prelude.{Option, Some, None}
 use Prim.Native.Nat.{ℕ, zero, suc, ◌+◌, ◌≤◌, ◌<◌}
 use native.Mathlib.Nat.{le_refl}
 use native.Mathlib.Omega.{arith}
@@ -11,7 +12,7 @@ use lib.Dec.{eqb, leb, ltb}
 use lib.ListN.{length}
 use Rattle.record_fields.specs.Records.{next_record}
 use Rattle.record_kinds.specs.declared.items.Item.{Item}
-use Rattle.record_kinds.specs.declared.items.Item.TheVariants.{Cell, Sheet, Amendment, Nothing}
+use Rattle.record_kinds.specs.declared.items.Item.TheVariants.{Cell, Sheet, Amendment}
 use Rattle.record_kinds.specs.Items.{record_item}
 use Rattle.record_offsets.specs.Counting.{item_rank, rank, counting, counts_from, counting_before}
 use Rattle.record_offsets.specs.Inner.Notes.{amends_in, falls_as, falls, falls_before}
@@ -132,8 +133,8 @@ module _ (s : List ℕ) (block : ℕ) where
   unfolding falls amends_in falls_as
   falls-stays {at} r none = sym (falls-next r ∙ rw (not-falling (record_item s at) none) (or-false (falls_before s block at)))
     where
-      not-falling : (item : Item) → amends_in block item ≡ false → falls_as s block at item ≡ false
-      not-falling (Cell n) e = refl
-      not-falling (Sheet kind) e = refl
-      not-falling (Amendment n number) e = simp e
-      not-falling Nothing e = refl
+      not-falling : (item : Option Item) → amends_in block item ≡ false → falls_as s block at item ≡ false
+      not-falling (Some (Cell n)) e = refl
+      not-falling (Some (Sheet kind)) e = refl
+      not-falling (Some (Amendment n number)) e = simp e
+      not-falling None e = refl

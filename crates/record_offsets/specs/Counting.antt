@@ -1,16 +1,16 @@
 -- The record that counts for a cell (02:CR 6): its amendment with the highest number, a record of kind 1 or 6 counting as number 0. Definitions only.
-use Rattle.std.specs.Prelude.{ℕ, zero, suc, ◌+◌, cond, List, leb, ltb, eqb, length}
+use Rattle.std.specs.Prelude.{ℕ, zero, suc, ◌+◌, cond, List, leb, ltb, eqb, length, Option, Some, None}
 use Rattle.record_kinds.specs.declared.items.Item.{Item}
-use Rattle.record_kinds.specs.declared.items.Item.TheVariants.{Cell, Sheet, Amendment, Nothing}
+use Rattle.record_kinds.specs.declared.items.Item.TheVariants.{Cell, Sheet, Amendment}
 use Rattle.record_fields.specs.Records.{next_record}
 use Rattle.record_kinds.specs.Items.{record_item}
 
 -- the rank of an item for a cell: one more than its number, and 0 where it is not of the cell
-unfoldable pub item_rank : ℕ → Item → ℕ
-item_rank cell (Cell n) = cond (eqb n cell) 1 0
-item_rank cell (Sheet kind) = 0
-item_rank cell (Amendment n number) = cond (eqb n cell) (number + 1) 0
-item_rank cell Nothing = 0
+unfoldable pub item_rank : ℕ → Option Item → ℕ
+item_rank cell (Some (Cell n)) = cond (eqb n cell) 1 0
+item_rank cell (Some (Sheet kind)) = 0
+item_rank cell (Some (Amendment n number)) = cond (eqb n cell) (number + 1) 0
+item_rank cell None = 0
 
 abbrev pub rank : List ℕ → ℕ → ℕ → ℕ
 rank s cell at = item_rank cell (record_item s at)

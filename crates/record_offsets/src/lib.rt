@@ -1,7 +1,7 @@
 // What is noted of the records of a filing.
 #![tactic(auto)]
 
-ghost use Rattle.std.specs.Prelude.{◌≡◌, true, false, cond, ◌||◌, List, ℕ, ◌+◌, ◌-◌, ◌≤◌, ltb, length, get_or, set};
+ghost use Rattle.std.specs.Prelude.{◌≡◌, true, false, cond, ◌||◌, List, ℕ, ◌+◌, ◌-◌, ◌≤◌, ltb, length, get_or, set, Some};
 ghost use Rattle.form.specs.Cells.{first_cell};
 ghost use Rattle.record_fields.specs.Records.{record_kind};
 ghost use Rattle.record_kinds.specs.declared.items.Item.TheVariants.{Cell, Amendment};
@@ -36,16 +36,16 @@ pub fn note(
         (record_item s.now at) at }
 {
     match record_item(s, at) {
-        Item::Cell(cell) => {
+        Some(Item::Cell(cell)) => {
             note_cell(s, at, cell, cells, counting);
         }
-        Item::Sheet(kind) => {
+        Some(Item::Sheet(kind)) => {
             sheets[kind] = at;
         }
-        Item::Amendment(cell, number) => {
+        Some(Item::Amendment(cell, number)) => {
             note_amendment(s, at, cell, number, counting, falling);
         }
-        Item::Nothing => {}
+        None => {}
     }
 }
 
@@ -78,7 +78,7 @@ fn note_cell(
     cells: &mut [usize; CELLS],
     counting: &mut [usize; CELLS],
 )
-    requires { record_item s.now at ≡ Cell cell }
+    requires { record_item s.now at ≡ Some (Cell cell) }
     ensures { (cells.new ≡ set cells.old (cell - first_cell) at)
         × (counting.new ≡ notes.note_counting s.now counting.old cell at) }
 {
@@ -97,7 +97,7 @@ fn note_amendment(
     counting: &mut [usize; CELLS],
     falling: &mut [bool; BLOCKS],
 )
-    requires { record_item s.now at ≡ Amendment cell number }
+    requires { record_item s.now at ≡ Some (Amendment cell number) }
     ensures { (counting.new ≡ notes.note_counting s.now counting.old cell at)
         × (falling.new ≡ set falling.old (notes.block_of number) (get_or falling.old (notes.block_of number) false
         || notes.outranked s.now cell (get_or counting.old (cell - first_cell) 0) at)) }
@@ -126,9 +126,9 @@ fn rank(s: &[u8], cell: u64, at: usize) -> u64
         return 0;
     }
     match record_item(s, at) {
-        Item::Cell(n) => { if n == cell { 1 } else { 0 } }
-        Item::Amendment(n, number) => { if n == cell { (number as u64) + 1 } else { 0 } }
-        Item::Sheet(_) => 0,
-        Item::Nothing => 0,
+        Some(Item::Cell(n)) => { if n == cell { 1 } else { 0 } }
+        Some(Item::Amendment(n, number)) => { if n == cell { u64::from(number) + 1 } else { 0 } }
+        Some(Item::Sheet(_)) => 0,
+        None => 0,
     }
 }

@@ -9,17 +9,8 @@ ghost use Rattle.record_reader.specs.Inner.Steps.{step_at};
 
 use crate::steps::record_at;
 
-// What stands at an offset of a filing.
-#[derive(Clone, Copy)]
-pub enum Step {
-    // A record, with the offset of the record after it.
-    Record(usize),
-    // Nothing: the offset is at the end, or past it.
-    End,
-}
-
 // The bytes of a filing, and the offset of the record that the reader stands at.
-#[derive(Clone, Copy)]
+#[derive(Clone, Copy, Debug)]
 pub struct Reader<'a> {
     pub bytes: &'a [u8],
     pub offset: usize,
@@ -33,8 +24,8 @@ impl<'a> Reader<'a> {
         Reader { bytes, offset: 0 }
     }
 
-    // What stands at the reader's offset.
-    pub(crate) fn step(self) -> Step
+    // The offset of the record after the one at the reader's offset: none where the reader is at the end, or past it.
+    pub(crate) fn step(self) -> Option<usize>
         ensures { result ≡ step_at self.entry.bytes.now self.entry.offset }
     {
         record_at(self.bytes, self.offset)
@@ -51,8 +42,8 @@ impl<'a> Reader<'a> {
     }
 }
 
-// What stands at an offset: a reader of the bytes is moved there, and says it.
-fn step_at(s: &[u8], at: usize) -> Step
+// The same of the record at an offset: a reader of the bytes is moved there, and says it.
+fn step_at(s: &[u8], at: usize) -> Option<usize>
     ensures { result ≡ step_at s.now at }
 {
     Reader::new(s).moved(at).step()
@@ -63,8 +54,5 @@ pub fn next_of(s: &[u8], at: usize) -> usize
     requires { at < length s.now }
     ensures { result ≡ next_record s.now at }
 {
-    match step_at(s, at) {
-        Step::Record(next) => next,
-        Step::End => at,
-    }
+    step_at(s, at).unwrap_or(at)
 }

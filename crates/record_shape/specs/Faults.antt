@@ -1,6 +1,6 @@
 -- What can be wrong with one record before its body is looked at: refusals 1 to 4 (01:31-34; 02:CR 4), 12 (02:CR 3) and 16
 -- (02:CR 6), in that order. Definitions only.
-use Rattle.std.specs.Prelude.{ℕ, ◌+◌, Bool, false, cond, not, ◌||◌, ◌&&◌, List, length, ltb, eqb}
+use Rattle.std.specs.Prelude.{ℕ, ◌+◌, Bool, false, cond, not, ◌||◌, ◌&&◌, List, length, ltb, eqb, Some}
 use Rattle.record_fields.specs.Records.{record_length, record_kind, next_record}
 use Rattle.record_kinds.specs.declared.items.Item.TheVariants.{Sheet}
 use Rattle.record_kinds.specs.Kinds.{names_cell, amendment_kind, flat_rates_kind, rate_path_kind, due_length}
@@ -32,7 +32,7 @@ amendment_repeated s at = eqb (record_kind s at) amendment_kind && stands_before
 
 -- a sheet of a kind stands in an earlier record
 unfoldable pub sheet_before : List ℕ → ℕ → ℕ → Bool
-sheet_before s at kind = ltb (first_with s (Sheet kind) at) at
+sheet_before s at kind = ltb (first_with s (Some (Sheet kind)) at) at
 
 -- 12: retail rates by month beside flat ones, at the later record
 unfoldable pub path_beside_flat : List ℕ → ℕ → Bool

@@ -42,13 +42,13 @@ pub fn repeated(s: &[u8], at: usize, sheets: &[usize; KINDS], cells: &[usize; CE
     ensures { result ≡ faults.repeated s.now at }
 {
     match record_item(s, at) {
-        Item::Cell(cell) => {
+        Some(Item::Cell(cell)) => {
             let i = (cell - FIRST_CELL) as usize;
             cells[i] < s.len()
         }
-        Item::Sheet(kind) => sheets[kind] < s.len(),
-        Item::Amendment(_, _) => false,
-        Item::Nothing => false,
+        Some(Item::Sheet(kind)) => sheets[kind] < s.len(),
+        Some(Item::Amendment(_, _)) => false,
+        None => false,
     }
 }
 

@@ -1,15 +1,14 @@
 -- The verdict on one record, and what holds of a record that has none of the faults but perhaps 16.
 -- Assumes nothing.
-use Prim.Native.Nat.{ℕ, suc, ◌+◌, ◌≤◌}
-use native.Mathlib.Omega.{arith}
-use mathlib.Core.Path.{◌≡◌, refl, ap, ◌∙◌}
-use mathlib.Core.Bool.{Bool, true, false, ◌||◌}
+use Prim.Native.Nat.{ℕ, ◌+◌, ◌≤◌}
+use mathlib.Core.Path.{◌≡◌, ap, ◌∙◌}
+use mathlib.Core.Bool.{true, false, ◌||◌}
 use mathlib.Core.List.{List}
-use borrow.Author.Tests.{ltb-false, eqb-true, eqb-false, ne_eqb, not-false}
+use borrow.Author.Tests.{ltb-false, eqb-true, not-false}
 use lib.Dec.{ltb, eqb}
 use lib.ListN.{length}
-use Rattle.answers.specs.Verdict.{Verdict, accepted, refused, refused_if, first_refusal, first_of}
-use Rattle.answers.proofs.VerdictLaws.{first-passed, first-refused, first-none, condition-fails}
+use Rattle.answers.specs.Verdict.{Verdict, first_of}
+use Rattle.answers.proofs.VerdictLaws.{LocatedAt, located-accepted, located-row, located-first, first-passed, first-none, condition-fails}
 use Rattle.record_fields.specs.Records.{record_length, record_kind, record_value, sheet_number, next_record}
 use Rattle.record_kinds.specs.Kinds.{gives_cell, amendment_kind, sheet_kind, tiers_kind, due_length}
 use Rattle.record_limits.specs.Bodies.{value_limit, over_limit}
@@ -41,38 +40,20 @@ pub record Sound (s : List ℕ) (at : ℕ) : Type 0 where
   pub amendment : record_kind s at ≡ amendment_kind → FitAmendment s at
   pub tiers : record_kind s at ≡ tiers_kind → SoundTiers s at
 
--- rows in turn: what the first two give, then the third
-first-assoc : (a b c : Verdict) → first_refusal (first_refusal a b) c ≡ first_refusal a (first_refusal b c)
-first-assoc a b c = by (eqb a.number 0) refl
-  where
-    by : (z : Bool) → eqb a.number 0 ≡ z → first_refusal (first_refusal a b) c ≡ first_refusal a (first_refusal b c)
-    by true e = let h = eqb-true a.number 0 e in rw (first-passed a b h, first-passed a (first_refusal b c) h)
-    by false e = let h = eqb-false a.number 0 e in rw (first-refused a b h, first-refused a (first_refusal b c) h, first-refused a c h)
-
--- the last row alone
-last_row : (b : Bool) (n at : ℕ) → first_refusal (refused_if b (suc n) at) accepted ≡ refused_if b (suc n) at
-unfolding first_refusal refused_if refused accepted
-last_row true n at = simp (ne_eqb (suc n) 0 (λ e. omega arith))
-last_row false n at = refl
-
 module _ (s : List ℕ) (at : ℕ) where
-  -- the verdicts before and after 16, row by row
-  pub shape-rows :
-      shape_verdict s at
-      ≡ first_refusal
-      (first_refusal
-      (first_refusal
-      (first_refusal (refused_if (incomplete s at) 1 at)
-      (refused_if (misshapen s at) 2 at))
-      (refused_if (unlisted s at) 3 at))
-      (refused_if (repeated s at) 4 at))
-      (refused_if (path_beside_flat s at) 12 at)
-  unfolding shape_verdict first_of
-  shape-rows = rw (last_row (path_beside_flat s at) 11 at) (simp first-assoc)
-
-  pub body-rows : body_verdict s at ≡ first_refusal (refused_if (over_limit s at) 5 at) (refused_if (unsound_tiers s at) 11 at)
-  unfolding body_verdict first_of
-  body-rows = rw (last_row (unsound_tiers s at) 10 at)
+  -- a faulty record is refused at its offset
+  pub record-located : LocatedAt at (record_verdict s at)
+  unfolding record_verdict shape_verdict body_verdict first_of
+  record-located =
+      located-first at _ _
+      (located-first at _ _ (located-row _ 1 at)
+      (located-first at _ _ (located-row _ 2 at)
+      (located-first at _ _ (located-row _ 3 at)
+      (located-first at _ _ (located-row _ 4 at)
+      (located-first at _ _ (located-row _ 12 at) (located-accepted at))))))
+      (located-first at _ _ (located-row _ 16 at)
+      (located-first at _ _ (located-row _ 5 at)
+      (located-first at _ _ (located-row _ 11 at) (located-accepted at))))
 
   -- 1 does not hold: the record ends within the bytes
   pub complete-ends : incomplete s at ≡ false → next_record s at ≤ length s

@@ -1,5 +1,6 @@
 -- When a record that names a cell has no fault but perhaps 16: of kind 1 or 6, and an amendment.
 -- Assumes nothing.
+use Rattle.std.specs.Prelude.{Some}
 use Prim.Native.Nat.{ℕ, ◌+◌, ◌-◌, ◌≤◌}
 use native.Mathlib.Omega.{arith}
 use mathlib.Core.Path.{◌≡◌, refl, sym, subst, ◌∙◌}
@@ -114,7 +115,7 @@ module _ (s : List ℕ) (at : ℕ) where
     unfolding due_length
     cell-due = simp gives
 
-    cell-item : (record_class s at ≡ 0 → ⊥) → record_item s at ≡ Cell (record_cell s at)
+    cell-item : (record_class s at ≡ 0 → ⊥) → record_item s at ≡ Some (Cell (record_cell s at))
     unfolding record_item
     cell-item h = simp (gives, ne_eqb (record_class s at) 0 h)
 

@@ -1,3 +1,1 @@
-pub mod OverwriteLaws
 pub mod SplitLaws
-pub mod OutcomeLaws

@@ -3,10 +3,13 @@ ghost use Rattle.std.specs.Prelude.{◌≡◌, ◌+◌, ◌≤◌};
 ghost use Rattle.form.specs.Limits.{column_limit};
 ghost use Rattle.shares.specs.Apportion.{cumulative_share, share_behind};
 ghost use Rattle.shares.specs.Inner.ShareRows.{RowWithin, row_shares};
+ghost use Rattle.shares.specs.Inner.Rows.{row_place};
+
+use form::sub_balances::{PLACE_VALUES, SubBalance};
 
 // A row of a column: the column's sum, the sum of the rows above it, its balance, the column's brokered balance and balance subject to penalty, all
 // in thousands of dollars, its cells' WAC in thousandths of a percent a year and WARM in months, and the column's penalty in hundredths of a month.
-#[derive(Clone, Copy)]
+#[derive(Clone, Copy, Debug, PartialEq, Eq)]
 pub struct Row {
     pub total: u64,
     pub above: u64,
@@ -18,21 +21,41 @@ pub struct Row {
     pub penalty: u64,
 }
 
-// The four sub-balances of a row.
-pub(crate) fn row_shares(row: Row) -> [u64; 4]
-    requires { RowWithin row }
-    ensures { result ≡ row_shares row }
-{
-    let held = share_behind(row.brokered, row.total, row.above, row.balance);
-    let retail = row.balance - held;
-    let retail_penalized = share_behind(row.penalized, row.total, row.above, retail);
-    let brokered_penalized = share_behind(row.penalized, row.total, row.above + retail, held);
-    [
-        retail_penalized,
-        retail - retail_penalized,
-        brokered_penalized,
-        held - brokered_penalized,
-    ]
+impl Row {
+    // The four sub-balances of the row.
+    pub(crate) fn shares(self) -> [u64; 4]
+        requires { RowWithin self }
+        ensures { result ≡ row_shares self }
+    {
+        let held = share_behind(self.brokered, self.total, self.above, self.balance);
+        let retail = self.balance - held;
+        let retail_penalized = share_behind(self.penalized, self.total, self.above, retail);
+        let brokered_penalized = share_behind(
+            self.penalized,
+            self.total,
+            self.above + retail,
+            held,
+        );
+        [
+            retail_penalized,
+            retail - retail_penalized,
+            brokered_penalized,
+            held - brokered_penalized,
+        ]
+    }
+
+    // A place of the row, with its balance and its penalty. Its values are 0: the shares are not valued.
+    pub(crate) fn place(self, balance: u64, penalty: u64) -> SubBalance
+        ensures { result ≡ row_place self balance penalty }
+    {
+        SubBalance {
+            balance,
+            coupon: self.coupon,
+            remaining_months: self.remaining_months,
+            penalty,
+            values: [0; PLACE_VALUES],
+        }
+    }
 }
 
 // The share of a part that stands behind a sum of `before`.

@@ -2,14 +2,14 @@
 ghost use Rattle.std.specs.Prelude.{◌≡◌, ◌<◌};
 ghost use Rattle.filing_cells.specs.ValidCells.{ValidCells};
 ghost use Rattle.filing_cells.specs.Inner.Sums.{column_sums};
-ghost use Rattle.shares.specs.Inner.Rows.{row_at, row_place};
+ghost use Rattle.shares.specs.Inner.Rows.{row_at};
 ghost use Rattle.shares.specs.Places.{places_of};
 
-use crate::apportion::{Row, row_shares};
+use crate::apportion::Row;
 use filing_cells::column_sums::ColumnSums;
 use filing_cells::column_sums::cells::cell_value;
 use form::positions::position;
-use form::sub_balances::{NO_PLACE, PLACE_VALUES, SUB_BALANCES, SubBalance};
+use form::sub_balances::{NO_PLACE, SUB_BALANCES, SubBalance};
 use form::{BROKERED_CELLS, CELLS, PENALTY_BALANCE_CELLS, PENALTY_MONTHS_CELLS};
 
 // The thirty-six places of a filing, by its cells and the sums of their columns: nine positions ascending, four places each.
@@ -18,31 +18,16 @@ pub fn places_of(cells: &[u64; CELLS], sums: ColumnSums) -> [SubBalance; SUB_BAL
     ensures { result ≡ places_of cells.now }
 {
     let mut places = [NO_PLACE; SUB_BALANCES];
-    let mut i = 0;
-    while i < 9 {
+    for i in 0..9 {
         let row = row_at(cells, sums, i);
-        let four = row_shares(row);
+        let four = row.shares();
         let at = 4 * i;
-        places[at] = place_in(row, four[0], row.penalty);
-        places[at + 1] = place_in(row, four[1], 0);
-        places[at + 2] = place_in(row, four[2], row.penalty);
-        places[at + 3] = place_in(row, four[3], 0);
-        i += 1;
+        places[at] = row.place(four[0], row.penalty);
+        places[at + 1] = row.place(four[1], 0);
+        places[at + 2] = row.place(four[2], row.penalty);
+        places[at + 3] = row.place(four[3], 0);
     }
     places
-}
-
-// A place of a row, with its balance and its penalty. Its values are 0: the shares are not valued.
-fn place_in(row: Row, balance: u64, penalty: u64) -> SubBalance
-    ensures { result ≡ row_place row balance penalty }
-{
-    SubBalance {
-        balance,
-        coupon: row.coupon,
-        remaining_months: row.remaining_months,
-        penalty,
-        values: [0; PLACE_VALUES],
-    }
 }
 
 // The row of a position.

@@ -23,11 +23,9 @@ pub fn print_left(rt: &impl Print, list: &[u64], is_accepted: bool) -> io::Resul
 
 // The lower and the upper total of each scenario, behind its shift.
 fn print_totals(rt: &impl Print, list: &[u64]) -> io::Result<()> {
-    for scenario in 0..SCENARIOS {
-        let from = TOTALS_START + 2 * scenario;
-        let end = from + 2;
-        if end <= list.len() {
-            scenario_line(rt, b"borrowings ", scenario as u64, &list[from..end])?;
+    if let Some(totals) = list.get(TOTALS_START..) {
+        for (scenario, two) in totals.chunks_exact(2).take(SCENARIOS).enumerate() {
+            scenario_line(rt, b"borrowings ", scenario as u64, two)?;
         }
     }
     Ok(())

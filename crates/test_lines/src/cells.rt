@@ -1,22 +1,30 @@
 // The cells that come back for certificates.
 use crate::output::{end_line, next_number, text};
-use crate::verdicts::print_answer;
+use crate::verdicts::{print_accepted, print_refused};
+use answers::Refusal;
 use certificate_cells::filled_cells::{CellValue, Cells};
 use std::io;
 
-// The answer, the count and the cells with their values.
-pub fn print_cells(rt: &impl Print, made: Cells) -> io::Result<()> {
-    let answer = made.answer;
-    let count = made.count;
-    let cells = made.cells;
-    print_answer(rt, answer)?;
-    text(rt, b"cells")?;
-    next_number(rt, count as u64)?;
-    end_line(rt)?;
-    for i in 0..28usize {
-        if i < count {
-            print_cell(rt, cells[i])?;
+// The answer, the count and the cells with their values: none for a refusal.
+pub fn print_cells(rt: &impl Print, made: Result<Cells, Refusal>) -> io::Result<()> {
+    match made {
+        Ok(cells) => {
+            print_accepted(rt)?;
+            print_list(rt, cells.as_slice())
         }
+        Err(refusal) => {
+            print_refused(rt, refusal)?;
+            print_list(rt, &[])
+        }
+    }
+}
+
+fn print_list(rt: &impl Print, cells: &[CellValue]) -> io::Result<()> {
+    text(rt, b"cells")?;
+    next_number(rt, cells.len() as u64)?;
+    end_line(rt)?;
+    for cell in cells {
+        print_cell(rt, *cell)?;
     }
     Ok(())
 }

@@ -40,12 +40,8 @@ pub(crate) fn scenario_lines(rt: &impl Print, name: &[u8], numbers: &[u64]) -> i
 
 // The same from a list of totals, four for each scenario.
 pub fn total_lines(rt: &impl Print, name: &[u8], totals: &[u64]) -> io::Result<()> {
-    for scenario in 0..SCENARIOS {
-        let from = 4 * scenario;
-        let end = from + 4;
-        if end <= totals.len() {
-            scenario_line(rt, name, scenario as u64, &totals[from..end])?;
-        }
+    for (scenario, four) in totals.chunks_exact(4).take(SCENARIOS).enumerate() {
+        scenario_line(rt, name, scenario as u64, four)?;
     }
     Ok(())
 }
@@ -64,10 +60,8 @@ pub(crate) fn scenario_line(
 
 // The numbers of a list, each behind a space, and the line's end.
 pub(crate) fn rest_of_line(rt: &impl Print, list: &[u64]) -> io::Result<()> {
-    let mut i: usize = 0;
-    while i < list.len() {
-        next_number(rt, list[i])?;
-        i += 1;
+    for n in list {
+        next_number(rt, *n)?;
     }
     end_line(rt)
 }

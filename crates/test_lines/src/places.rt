@@ -1,6 +1,6 @@
 // Places: a list of 40 that hold 7s before the call, after the split, and a place of a book.
 use crate::output::{end_line, next_number, rest_of_line, text};
-use crate::verdicts::{count_if, print_counts};
+use crate::verdicts::print_counts;
 use form::sub_balances::{PLACE_VALUES, SUB_BALANCES, SubBalance};
 use std::io;
 
@@ -15,7 +15,7 @@ pub const SEVENS: SubBalance = SubBalance {
 // On acceptance the 36 places; and how many of those that were lent past them, or on a refusal of all that were lent, still hold 7s.
 pub fn print_left(
     rt: &impl Print,
-    list: [SubBalance; 40],
+    list: &[SubBalance; 40],
     lent: usize,
     is_accepted: bool,
 ) -> io::Result<()> {
@@ -30,41 +30,32 @@ pub fn print_left(
 // How many of the lent places are past the first `written`, and how many of them still hold 7s.
 fn print_rest(
     rt: &impl Print,
-    list: [SubBalance; 40],
+    list: &[SubBalance; 40],
     written: usize,
     lent: usize,
 ) -> io::Result<()> {
-    let mut rest = 0;
-    let mut kept = 0;
-    for i in 0..40usize {
-        let is_left = (written <= i) & (i < lent);
-        rest = count_if(rest, is_left);
-        kept = count_if(kept, is_left & holds_sevens(list[i]));
-    }
-    print_counts(rt, rest, kept)
+    let end = lent.min(list.len());
+    let rest = &list[written.min(end)..end];
+    let kept = rest.iter().filter(|place| holds_sevens(**place)).count();
+    print_counts(rt, rest.len() as u64, kept as u64)
 }
 
 fn holds_sevens(place: SubBalance) -> bool {
-    let values = place.values;
-    (place.balance == 7)
-        & (place.coupon == 7)
-        & (place.remaining_months == 7)
-        & (place.penalty == 7)
-        & (count_of(values, 7) == 14)
+    place.balance == 7
+        && place.coupon == 7
+        && place.remaining_months == 7
+        && place.penalty == 7
+        && count_of(place.values, 7) == PLACE_VALUES
 }
 
 // How many of the values are n.
-fn count_of(values: [u64; PLACE_VALUES], n: u64) -> u64 {
-    let mut count = 0;
-    for i in 0..14usize {
-        count = count_if(count, values[i] == n);
-    }
-    count
+fn count_of(values: [u64; PLACE_VALUES], n: u64) -> usize {
+    values.iter().filter(|value| **value == n).count()
 }
 
-fn print_places(rt: &impl Print, list: [SubBalance; 40]) -> io::Result<()> {
-    for i in 0..36usize {
-        print_share(rt, i as u64, list[i])?;
+fn print_places(rt: &impl Print, list: &[SubBalance; 40]) -> io::Result<()> {
+    for (i, place) in list.iter().take(SUB_BALANCES).enumerate() {
+        print_share(rt, i as u64, *place)?;
     }
     Ok(())
 }
@@ -73,8 +64,7 @@ fn print_places(rt: &impl Print, list: [SubBalance; 40]) -> io::Result<()> {
 fn print_share(rt: &impl Print, i: u64, place: SubBalance) -> io::Result<()> {
     if place.balance | place.coupon | place.remaining_months | place.penalty != 0 {
         print_numbers(rt, b"share", i, place)?;
-        let values = place.values;
-        next_number(rt, count_of(values, 0))?;
+        next_number(rt, count_of(place.values, 0) as u64)?;
         end_line(rt)?;
     }
     Ok(())
@@ -83,8 +73,7 @@ fn print_share(rt: &impl Print, i: u64, place: SubBalance) -> io::Result<()> {
 // A place of a book: its balance, coupon, months, penalty and values.
 pub fn print_held(rt: &impl Print, place: SubBalance, i: u64) -> io::Result<()> {
     print_numbers(rt, b"place", i, place)?;
-    let values = place.values;
-    rest_of_line(rt, &values)
+    rest_of_line(rt, &place.values)
 }
 
 // A word, a place's number, and its balance, coupon, months and penalty.

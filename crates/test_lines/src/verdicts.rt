@@ -1,13 +1,30 @@
 // What the calls have in common: the line of an answer, and the count of what a call leaves as it was.
 use crate::output::{end_line, next_number, text};
-use answers::Answer;
+use answers::Refusal;
 use std::io;
 
-// An answer's number and location.
-pub fn print_answer(rt: &impl Print, answer: Answer) -> io::Result<()> {
+// The number and the location of an acceptance: 0 and 0.
+pub fn print_accepted(rt: &impl Print) -> io::Result<()> {
+    print_numbers(rt, 0, 0)
+}
+
+// The number and the location of a refusal.
+pub fn print_refused(rt: &impl Print, refusal: Refusal) -> io::Result<()> {
+    print_numbers(rt, refusal.number(), refusal.location() as u64)
+}
+
+// Those of an answer.
+pub fn print_answer(rt: &impl Print, answer: Result<(), Refusal>) -> io::Result<()> {
+    match answer {
+        Ok(()) => print_accepted(rt),
+        Err(refusal) => print_refused(rt, refusal),
+    }
+}
+
+fn print_numbers(rt: &impl Print, number: u64, location: u64) -> io::Result<()> {
     text(rt, b"answer")?;
-    next_number(rt, answers::number(answer))?;
-    next_number(rt, answers::locations::location(answer) as u64)?;
+    next_number(rt, number)?;
+    next_number(rt, location)?;
     end_line(rt)
 }
 
@@ -17,13 +34,4 @@ pub(crate) fn print_counts(rt: &impl Print, rest: u64, kept: u64) -> io::Result<
     next_number(rt, rest)?;
     next_number(rt, kept)?;
     end_line(rt)
-}
-
-// One more where a condition holds.
-pub(crate) fn count_if(count: u64, holds: bool) -> u64 {
-    if holds {
-        std::num::wrapping_add_u64(count, 1)
-    } else {
-        count
-    }
 }

@@ -2,82 +2,100 @@
 // the last change of it that was not refused says. A call has six numbers of 8 bytes: 0 to set a
 // place, 1 to clear it, 2 to show it, 3 for the totals; the place; and for a place to set its balance,
 // coupon, months and penalty.
-use crate::arith::{LARGEST, add, chosen, mul};
 use crate::bytes::number;
-use crate::cells::{COLUMN, is_within, known};
-use crate::shares::{SubBalance, sub_balance};
+use crate::cells::{MOST_BALANCE, POSITIONS};
+use crate::refusals::{Fault, Refusal};
+use crate::shares::SubBalance;
 
-pub const SET: u64 = 0;
-
-pub const CLEAR: u64 = 1;
-
-// The fields of a call.
-pub const ACTION: u64 = 0;
-
-pub const PLACE: u64 = 1;
-
-const BALANCE: u64 = 2;
-
-const COUPON: u64 = 3;
-
-const MONTHS: u64 = 4;
-
-const PENALTY: u64 = 5;
-
-// A field of call k, 0 past the last call.
-pub fn field(calls: &[u8], k: u64, field: u64) -> u64 {
-    number(calls, mul(k, 48), field << 3, 8)
+#[derive(Clone, Copy, Debug, PartialEq, Eq)]
+pub enum Action {
+    Set,
+    Clear,
+    Show,
+    Totals,
 }
 
-// Whether a change is refused: a place past the last, or a place to set that is outside its limits.
-pub fn is_refused(calls: &[u8], k: u64) -> bool {
-    let place = field(calls, k, PLACE);
-    let balance = field(calls, k, BALANCE);
-    let most_penalty = chosen(place % 2 == 0, 3600, 0);
-    let is_outside = (balance == 0)
-        | (999999999 < balance)
-        | (15000 < field(calls, k, COUPON))
-        | !is_within(place / 4, field(calls, k, MONTHS))
-        | (most_penalty < field(calls, k, PENALTY));
-    (35 < place) | ((field(calls, k, ACTION) == SET) & is_outside)
+// The bytes of a call.
+pub const CALL: usize = 48;
+
+#[derive(Clone, Copy, Debug)]
+pub struct Call {
+    pub action: Action,
+    pub place: u64,
+    held: SubBalance,
 }
 
-// The sum of the balances of all places after the first `count` calls.
-pub fn balance_total(calls: &[u8], count: u64) -> u64 {
-    let mut sum = 0;
-    for place in 0..36 {
-        sum = add(sum, field(calls, last_set(calls, place, count), BALANCE));
-    }
-    sum
-}
-
-// What a place of the book holds after the first `count` calls; with no call, the place of the filing
-// itself.
-pub fn held(filing: &[u8], calls: &[u8], place: u64, count: u64) -> SubBalance {
-    if count == 0 {
-        return sub_balance(filing, place);
-    }
-    let k = last_set(calls, place, count);
-    SubBalance {
-        balance: field(calls, k, BALANCE),
-        coupon: field(calls, k, COUPON),
-        months: field(calls, k, MONTHS),
-        penalty: field(calls, k, PENALTY),
-        column: known(place / 4, COLUMN),
-        brokered: 2 <= place % 4,
-    }
-}
-
-// The call among the first `count` that set a place as it is; the largest number, past the last call,
-// of which each field is 0, where the place is empty.
-fn last_set(calls: &[u8], place: u64, count: u64) -> u64 {
-    let mut last = LARGEST;
-    for k in 0..count {
-        let action = field(calls, k, ACTION);
-        let is_change = (action <= CLEAR) & (field(calls, k, PLACE) == place);
-        if is_change & !is_refused(calls, k) {
-            last = chosen(action == SET, k, LARGEST);
+impl Call {
+    pub fn read(bytes: &[u8]) -> Call {
+        let place = number(bytes, 8, 8);
+        Call {
+            action: match number(bytes, 0, 8) {
+                0 => Action::Set,
+                1 => Action::Clear,
+                2 => Action::Show,
+                _ => Action::Totals,
+            },
+            place,
+            held: SubBalance {
+                balance: number(bytes, 16, 8),
+                coupon: number(bytes, 24, 8),
+                months: number(bytes, 32, 8),
+                penalty: number(bytes, 40, 8),
+                column: POSITIONS[(place / 4) as usize % 9].column,
+                is_brokered: 2 <= place % 4,
+            },
         }
     }
-    last
+
+    // Refusal 17 of a change: a place past the last, or a place to set that is outside its limits.
+    pub fn check(&self) -> Result<(), Refusal> {
+        if 35 < self.place || self.action == Action::Set && !self.is_within_limits() {
+            return Err(Fault::PlaceOutside.at(self.place));
+        }
+        Ok(())
+    }
+
+    fn is_within_limits(&self) -> bool {
+        let position = POSITIONS[(self.place / 4) as usize % 9];
+        let most_penalty = if self.place % 2 == 0 { 3600 } else { 0 };
+        self.held.balance != 0
+            && self.held.balance <= MOST_BALANCE
+            && self.held.coupon <= 15000
+            && position.is_of_row(self.held.months)
+            && self.held.penalty <= most_penalty
+    }
+
+    // Whether the call changes a place, and is not refused.
+    fn changes(&self, place: u64) -> bool {
+        matches!(self.action, Action::Set | Action::Clear)
+            && self.place == place
+            && self.check().is_ok()
+    }
+}
+
+// The book after some calls.
+#[derive(Clone, Copy)]
+pub struct Book<'a> {
+    pub calls: &'a [u8],
+}
+
+impl Book<'_> {
+    // What a place holds: nothing where no call has set it as it is.
+    pub fn held(self, place: u64) -> SubBalance {
+        let last = self
+            .calls
+            .chunks_exact(CALL)
+            .rev()
+            .map(|bytes| Call::read(bytes))
+            .find(|call| call.changes(place));
+        match last {
+            Some(call) if call.action == Action::Set => call.held,
+            _ => SubBalance::default(),
+        }
+    }
+
+    // What all places hold, from 0 to 35.
+    pub fn sub_balances(self) -> [SubBalance; 36] {
+        std::array::from_fn(|place| self.held(place as u64))
+    }
 }

@@ -1,81 +1,167 @@
 // The cells of Schedule CMR that the valuation reads: the limit of each; and of certificates the nine
-// balances, ascending, each with its WAC (coupon), its WARM (remaining months), its column and the
-// months of its row.
-use crate::arith::{LARGEST, chosen, sub};
-use crate::bytes::letter;
+// positions.
 
-// What is known of a cell, by its line of the table.
-pub const BALANCE: u64 = 0;
+// One of the nine positions: the cell of its balance, its WAC (coupon) and its WARM (remaining
+// months), its column, and the months of its row.
+#[derive(Clone, Copy, Debug)]
+pub struct Position {
+    pub balance: u64,
+    pub wac: u64,
+    pub warm: u64,
+    pub column: u64,
+    first: u64,
+    last: u64,
+}
 
-pub const WAC: u64 = 1;
-
-pub const WARM: u64 = 2;
-
-pub const COLUMN: u64 = 3;
-
-const FIRST_MONTH: u64 = 4;
-
-const LAST_MONTH: u64 = 5;
-
-// The nine, from left to right.
-const NINE: [[u64; 9]; 6] = [
-    [601, 602, 603, 615, 616, 617, 631, 632, 641],
-    [605, 606, 607, 619, 620, 621, 634, 635, 643],
-    [608, 609, 610, 622, 623, 624, 636, 637, 644],
-    [1, 2, 3, 1, 2, 3, 2, 3, 3],
-    [1, 1, 1, 4, 4, 4, 13, 13, 37],
-    [3, 3, 3, 12, 12, 12, 36, 36, 120],
+// The nine, from left to right in each row.
+pub const POSITIONS: [Position; 9] = [
+    Position {
+        balance: 601,
+        wac: 605,
+        warm: 608,
+        column: 1,
+        first: 1,
+        last: 3,
+    },
+    Position {
+        balance: 602,
+        wac: 606,
+        warm: 609,
+        column: 2,
+        first: 1,
+        last: 3,
+    },
+    Position {
+        balance: 603,
+        wac: 607,
+        warm: 610,
+        column: 3,
+        first: 1,
+        last: 3,
+    },
+    Position {
+        balance: 615,
+        wac: 619,
+        warm: 622,
+        column: 1,
+        first: 4,
+        last: 12,
+    },
+    Position {
+        balance: 616,
+        wac: 620,
+        warm: 623,
+        column: 2,
+        first: 4,
+        last: 12,
+    },
+    Position {
+        balance: 617,
+        wac: 621,
+        warm: 624,
+        column: 3,
+        first: 4,
+        last: 12,
+    },
+    Position {
+        balance: 631,
+        wac: 634,
+        warm: 636,
+        column: 2,
+        first: 13,
+        last: 36,
+    },
+    Position {
+        balance: 632,
+        wac: 635,
+        warm: 637,
+        column: 3,
+        first: 13,
+        last: 36,
+    },
+    Position {
+        balance: 641,
+        wac: 643,
+        warm: 644,
+        column: 3,
+        first: 37,
+        last: 120,
+    },
 ];
+
+impl Position {
+    // Whether months are within the position's row.
+    pub fn is_of_row(&self, months: u64) -> bool {
+        (self.first..=self.last).contains(&months)
+    }
+}
 
 // The cell of the total.
 pub const TOTAL: u64 = 645;
 
+// The cell of the borrowings' total.
+pub const BORROWED: u64 = 715;
+
+pub const MOST_BALANCE: u64 = 999999999;
+
 pub const MOST_COUPON: u64 = 1500;
 
-// What is known of the k-th of the nine, from 0 on; past the last it begins anew.
-pub fn known(k: u64, what: u64) -> u64 {
-    NINE[what as usize % 6][k as usize % 9]
+pub const MOST_MONTHS: u64 = 120;
+
+// What a cell of a filing holds: among others the brokered or penalty share of a column, and any value
+// where the cell is not used.
+#[derive(Clone, Copy, Debug, PartialEq, Eq)]
+enum Class {
+    Balance,
+    Coupon,
+    BorrowedCoupon,
+    Months,
+    Total,
+    BorrowedTotal,
+    Share,
+    Penalty,
+    Unused,
 }
 
-// Whether a WARM is within the row of the k-th cell.
-pub fn is_within(k: u64, months: u64) -> bool {
-    (known(k, FIRST_MONTH) <= months) & (months <= known(k, LAST_MONTH))
-}
-
-// What a table has at an index from 0; 0 past its last.
-pub fn entry(table: &[u64], k: u64) -> u64 {
-    let i = k as usize;
-    if i < table.len() { table[i] } else { 0 }
-}
-
-// The largest value that a filing may have in a cell; 0 for a cell that it may not have. A cell has
-// a balance, a coupon (WAC), months (WARM), the total, a brokered or penalty share of a column, a
-// penalty, or any value; borrowings have a WAC of their own kind and a total U. The others are -.
-pub fn limit(cell: u64) -> u64 {
-    match class_of(cell) {
-        b'B' => 999999999,
-        b'C' | b'W' => MOST_COUPON,
-        b'M' => 120,
-        b'T' => 8999999991,
-        b'U' => 23999999976,
-        b'S' => 3999999996,
-        b'P' => 3600,
-        b'X' => LARGEST,
-        _ => 0,
+impl Class {
+    // The class of a cell that a filing may have.
+    fn of(cell: u64) -> Option<Class> {
+        match cell {
+            601..=603 | 615..=617 | 631..=632 | 641 => Some(Class::Balance),
+            605..=607 | 619..=621 | 634..=635 | 643 => Some(Class::Coupon),
+            608..=610 | 622..=624 | 636..=637 | 644 => Some(Class::Months),
+            604 | 618 | 633 | 642 | 659..=661 => Some(Class::Unused),
+            TOTAL => Some(Class::Total),
+            650..=655 => Some(Class::Share),
+            656..=658 => Some(Class::Penalty),
+            678 | 682 | 686 | 690 | 694 | 698 | 702 | 706 => Some(Class::BorrowedCoupon),
+            675..=705 => Some(Class::Balance),
+            711..=713 => Some(Class::Months),
+            BORROWED => Some(Class::BorrowedTotal),
+            _ => None,
+        }
     }
 }
 
-// The largest coupon in thousandths of a percent; 0 for a cell that has no such coupon.
-pub fn fine_limit(cell: u64) -> u64 {
-    chosen(class_of(cell) == b'C', 15000, 0)
+// The largest value that a filing may have in a cell; nothing for a cell that it may not have.
+pub fn limit(cell: u64) -> Option<u64> {
+    let most = match Class::of(cell)? {
+        Class::Balance => MOST_BALANCE,
+        Class::Coupon | Class::BorrowedCoupon => MOST_COUPON,
+        Class::Months => MOST_MONTHS,
+        Class::Total => 8999999991,
+        Class::BorrowedTotal => 23999999976,
+        Class::Share => 3999999996,
+        Class::Penalty => 3600,
+        Class::Unused => u64::MAX,
+    };
+    Some(most)
 }
 
-// The class of a cell: those of certificates from 601 on, those of borrowings from 675 on.
-fn class_of(cell: u64) -> u8 {
-    if cell < 675 {
-        let classes = b"-BBBXCCCMMM----BBBXCCCMMM------BBXCCMM---BXCMT----SSSSSSPPPXXX";
-        letter(classes, sub(cell, 600))
-    } else {
-        letter(b"BBBWBBBWBBBWBBBWBBBWBBBWBBBWBBBW----MMM-U", sub(cell, 675))
+// The largest coupon in thousandths of a percent; nothing for a cell that has no such coupon.
+pub fn fine_limit(cell: u64) -> Option<u64> {
+    match Class::of(cell)? {
+        Class::Coupon => Some(15000),
+        _ => None,
     }
 }

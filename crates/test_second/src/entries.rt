@@ -1,10 +1,7 @@
-// The entries of standard input. An entry is the number of a call, the length of its first list, that
-// of its second list and that of its input, 4 bytes each, and the input.
+// The entries of standard input. An entry is its head and its input.
 ghost use Rattle.std.specs.Prelude.{◌≤◌, length};
 
-use crate::bytes::number;
-use crate::calls::print_call;
-use crate::lines::print_line;
+use crate::calls::{Head, print_call};
 use std::io;
 use std::io::Read;
 
@@ -19,9 +16,9 @@ pub fn print_entry<R: Print, I: Read>(
     if read_full(input, &mut head) < 16 {
         return Ok(false);
     }
-    print_line(rt, b"entry", &[i])?;
+    println!(rt; "entry {i}")?;
     let mut room = [0u8; 65537];
-    print_input(rt, input, &mut room, survivals, &head)?;
+    print_input(rt, input, &mut room, survivals, Head::read(&head))?;
     Ok(true)
 }
 
@@ -31,11 +28,10 @@ fn print_input<R: Print, I: Read>(
     input: &mut I,
     room: &mut [u8],
     survivals: &[u64],
-    head: &[u8],
+    head: Head,
 ) -> io::Result<()> {
-    let length = number(head, 0, 12, 4) as usize;
-    if length <= room.len() {
-        let n = read_full(input, &mut room[..length]);
+    if head.length <= room.len() {
+        let n = read_full(input, &mut room[..head.length]);
         print_call(rt, &room[..n], survivals, head)?;
     }
     Ok(())
@@ -47,10 +43,8 @@ fn read_full<I: Read>(input: &mut I, buf: &mut [u8]) -> usize
     ensures { result ≤ length buf.new }
 {
     let mut done = 0;
-    for _ in 0..u64::MAX {
-        if buf.len() <= done {
-            break;
-        }
+    // What a read gives moves the place, and not a count.
+    while done < buf.len() {
         match input.read(&mut buf[done..]) {
             Ok(0) | Err(_) => break,
             Ok(n) => done += n,

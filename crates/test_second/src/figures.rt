@@ -1,78 +1,51 @@
 // What is printed of sub-balances, of a filing or of a book, and of borrowings.
-use crate::arith::{mul, sub};
-use crate::borrowings::nth_borrowing;
-use crate::cells::entry;
-use crate::lines::{print, print_line, print_numbers};
-use crate::pricing::{borrowed_bounds, bounds_of, totals_of};
+use crate::lines::Spaced;
+use crate::pricing::{SHIFTS, Valuation};
 use crate::shares::SubBalance;
-use std::io;
+use std::{fmt, io};
 
-// A name, a place and its balance, coupon, months and penalty.
-pub fn print_part(rt: &impl Print, name: &[u8], place: u64, part: SubBalance) -> io::Result<()> {
-    print_numbers(
-        rt,
-        name,
-        &[place, part.balance, part.coupon, part.months, part.penalty],
-    )
+// A sub-balance: its balance, coupon, months and penalty.
+impl fmt::Display for SubBalance {
+    fn fmt<W: fmt::Write>(&self, f: &mut fmt::Formatter<W>) -> fmt::Result {
+        let balance = self.balance;
+        let coupon = self.coupon;
+        let months = self.months;
+        let penalty = self.penalty;
+        write!(f, "{balance} {coupon} {months} {penalty}")
+    }
 }
 
-// A sub-balance's lower and upper value in each scenario, and the line's end.
-pub fn print_bounds(
-    rt: &impl Print,
-    s: &[u8],
-    survivals: &[u64],
-    part: SubBalance,
-) -> io::Result<()> {
-    print_line(rt, b"", &bounds_of(s, survivals, part))
-}
-
-// The totals of each scenario, behind a name and the shift in hundredths of a percent. They are of a
-// book after the first `count` of its calls, and of the filing itself before the first.
+// The totals of each scenario, behind a name and the shift in hundredths of a percent.
 pub fn print_totals(
     rt: &impl Print,
-    s: &[u8],
-    survivals: &[u64],
-    name: &[u8],
-    calls: &[u8],
-    count: u64,
+    valuation: Valuation,
+    name: &str,
+    parts: &[SubBalance; 36],
 ) -> io::Result<()> {
-    for scenario in 0..7 {
-        print(rt, name)?;
-        print_shift(rt, scenario)?;
-        print_line(rt, b"", &totals_of(s, survivals, calls, count, scenario))?;
+    for shift in SHIFTS {
+        let totals = valuation.totals(parts, shift);
+        let figures = Spaced(&totals);
+        println!(rt; "{name}{shift}{figures}")?;
     }
     Ok(())
 }
 
 // The balance and the values of each borrowing whose balance is not zero, and their totals.
-pub fn print_borrowings(rt: &impl Print, s: &[u8]) -> io::Result<()> {
-    for k in 0..24 {
-        let balance = nth_borrowing(s, k).balance;
+pub fn print_borrowings(rt: &impl Print, valuation: Valuation) -> io::Result<()> {
+    let parts = valuation.filing.borrowings();
+    for (k, part) in parts.iter().enumerate() {
+        let balance = part.balance;
         if balance != 0 {
-            print_numbers(rt, b"borrowing", &[k, balance])?;
-            print_line(rt, b"", &borrowed_bounds(s, k, 1))?;
+            let bounds = valuation.borrowed_bounds(&[*part]);
+            let figures = Spaced(&bounds);
+            println!(rt; "borrowing {k} {balance}{figures}")?;
         }
     }
-    let totals = borrowed_bounds(s, 0, 24);
-    print_borrowed(rt, &totals)
-}
-
-// The lower and the upper total of each scenario.
-fn print_borrowed(rt: &impl Print, totals: &[u64]) -> io::Result<()> {
-    for scenario in 0..7 {
-        let at = scenario << 1;
-        print(rt, b"borrowings ")?;
-        print_shift(rt, scenario)?;
-        print_line(rt, b"", &[entry(totals, at), entry(totals, at | 1)])?;
+    let totals = valuation.borrowed_bounds(&parts);
+    for (scenario, shift) in SHIFTS.iter().enumerate() {
+        let lower = totals[2 * scenario % 14];
+        let upper = totals[(2 * scenario + 1) % 14];
+        println!(rt; "borrowings {shift} {lower} {upper}")?;
     }
     Ok(())
-}
-
-// The shift of a scenario from 0 to 6.
-fn print_shift(rt: &impl Print, scenario: u64) -> io::Result<()> {
-    if scenario < 3 {
-        print(rt, b"-")?;
-    }
-    let x = mul(100, scenario);
-    rt.print(sub(300, x) | sub(x, 300))
 }

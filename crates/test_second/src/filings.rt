@@ -1,99 +1,103 @@
 // What is printed of a filing: its values, its sub-balances and its listing.
-use crate::arith::{chosen, sub};
-use crate::figures::{print_borrowings, print_bounds, print_part, print_totals};
-use crate::lines::{print, print_answer, print_line, print_numbers};
-use crate::refusals::{refusal_of, refused_if};
-use crate::shares::sub_balance;
+use crate::figures::{print_borrowings, print_totals};
+use crate::lines::{Spaced, print_answer};
+use crate::pricing::Valuation;
+use crate::records::Filing;
+use crate::refusals::check_list;
 use std::io;
 
 // How many numbers the values of a filing are, how many places its sub-balances, and how many numbers
 // the values of its borrowings.
-pub const NUMBERS: u64 = 568;
+const NUMBERS: u64 = 568;
 
-pub const PLACES: u64 = 36;
+const PLACES: u64 = 36;
 
 const BORROWINGS: u64 = 374;
 
-// Values a filing, with a list of `length` numbers of which NUMBERS are needed, or splits it, with a
-// list of `length` places of which PLACES are needed. The rest stands last: how many places of the list
-// are past the written ones, and how many of these are as they were.
-pub fn print_list(
-    rt: &impl Print,
-    s: &[u8],
-    survivals: &[u64],
-    length: u64,
-    needed: u64,
-) -> io::Result<()> {
-    let refusal = refusal_of(s, length, needed);
-    print_answer(rt, refusal.number, refusal.location)?;
-    let written = chosen(refusal.number == 0, needed, 0);
-    match written {
-        NUMBERS => print_values(rt, s, survivals)?,
-        PLACES => print_shares(rt, s)?,
-        _ => {}
+// The most bytes of a listing.
+const LISTING: usize = 65536;
+
+// Values a filing, with a list of `length` numbers.
+pub fn print_valued(rt: &impl Print, valuation: Valuation, length: u64) -> io::Result<()> {
+    let answer = check_list(length, NUMBERS).and_then(|()| valuation.filing.check());
+    print_answer(rt, answer)?;
+    if answer.is_err() {
+        return print_rest(rt, length, 0);
     }
-    print_rest(rt, length, written)
+    print_values(rt, valuation)?;
+    print_rest(rt, length, NUMBERS)
+}
+
+// Splits a filing, with a list of `length` places.
+pub fn print_split(rt: &impl Print, filing: Filing, length: u64) -> io::Result<()> {
+    let answer = check_list(length, PLACES).and_then(|()| filing.check());
+    print_answer(rt, answer)?;
+    if answer.is_err() {
+        return print_rest(rt, length, 0);
+    }
+    print_shares(rt, filing)?;
+    print_rest(rt, length, PLACES)
 }
 
 // Values a filing with a list for its certificates and one for its borrowings, of as many numbers each.
 pub fn print_both(
     rt: &impl Print,
-    s: &[u8],
-    survivals: &[u64],
+    valuation: Valuation,
     numbers: u64,
     borrowings: u64,
 ) -> io::Result<()> {
-    let later = refusal_of(s, borrowings, BORROWINGS);
-    let refusal = refused_if(numbers < NUMBERS, 10, numbers, later);
-    print_answer(rt, refusal.number, refusal.location)?;
-    if refusal.number == 0 {
-        print_values(rt, s, survivals)?;
-        print_rest(rt, numbers, NUMBERS)?;
-        print_borrowings(rt, s)?;
-        print_rest(rt, borrowings, BORROWINGS)
-    } else {
+    let answer = check_list(numbers, NUMBERS)
+        .and_then(|()| check_list(borrowings, BORROWINGS))
+        .and_then(|()| valuation.filing.check());
+    print_answer(rt, answer)?;
+    if answer.is_err() {
         print_rest(rt, numbers, 0)?;
-        print_rest(rt, borrowings, 0)
+        return print_rest(rt, borrowings, 0);
     }
+    print_values(rt, valuation)?;
+    print_rest(rt, numbers, NUMBERS)?;
+    print_borrowings(rt, valuation)?;
+    print_rest(rt, borrowings, BORROWINGS)
 }
 
+// How many entries of a list are past the written ones, and how many of these are as they were.
 fn print_rest(rt: &impl Print, length: u64, written: u64) -> io::Result<()> {
-    let rest = sub(length, written);
-    print_line(rt, b"rest", &[rest, rest])
+    let rest = length.saturating_sub(written);
+    println!(rt; "rest {rest} {rest}")
 }
 
-// The listing of up to 65,536 bytes.
-pub fn print_listing(rt: &impl Print, s: &[u8], survivals: &[u64]) -> io::Result<()> {
-    let refusal = refusal_of(s, 0, 0);
-    if 65536 < s.len() {
-        print(rt, b"too long\n")
-    } else if refusal.number == 0 {
-        print_totals(rt, s, survivals, b"", s, 0)
-    } else {
-        print_line(rt, b"refused", &[refusal.number, refusal.location])
+// The listing.
+pub fn print_listing(rt: &impl Print, valuation: Valuation) -> io::Result<()> {
+    let filing = valuation.filing;
+    if LISTING < filing.bytes.len() {
+        return println!(rt; "too long");
+    }
+    match filing.check() {
+        Ok(()) => print_totals(rt, valuation, "", &filing.sub_balances()),
+        Err(refusal) => println!(rt; "refused {refusal}"),
     }
 }
 
 // The balance and the values of each place whose balance is not zero, and the totals.
-fn print_values(rt: &impl Print, s: &[u8], survivals: &[u64]) -> io::Result<()> {
-    for place in 0..36 {
-        let part = sub_balance(s, place);
-        if part.balance != 0 {
-            print_numbers(rt, b"value", &[place, part.balance])?;
-            print_bounds(rt, s, survivals, part)?;
+fn print_values(rt: &impl Print, valuation: Valuation) -> io::Result<()> {
+    let parts = valuation.filing.sub_balances();
+    for (place, part) in parts.iter().enumerate() {
+        let balance = part.balance;
+        if balance != 0 {
+            let bounds = valuation.bounds(*part);
+            let figures = Spaced(&bounds);
+            println!(rt; "value {place} {balance}{figures}")?;
         }
     }
-    print_totals(rt, s, survivals, b"total ", s, 0)
+    print_totals(rt, valuation, "total ", &parts)
 }
 
 // Each place's balance, coupon, months and penalty, and that its fourteen values are 0, where one of
 // the four is not.
-fn print_shares(rt: &impl Print, s: &[u8]) -> io::Result<()> {
-    for place in 0..36 {
-        let part = sub_balance(s, place);
-        if part.balance | part.coupon | part.months | part.penalty != 0 {
-            print_part(rt, b"share", place, part)?;
-            print_line(rt, b"", &[14])?;
+fn print_shares(rt: &impl Print, filing: Filing) -> io::Result<()> {
+    for (place, part) in filing.sub_balances().iter().enumerate() {
+        if part.balance != 0 || part.coupon != 0 || part.months != 0 || part.penalty != 0 {
+            println!(rt; "share {place} {part} 14")?;
         }
     }
     Ok(())

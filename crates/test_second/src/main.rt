@@ -3,10 +3,10 @@
 // crates.
 #![tactic(auto)]
 
-// Numbers with no failing case, numbers in bytes, and the cells of the form.
-mod arith;
+// Rounded quotients, numbers in bytes, and the cells of the form.
 mod bytes;
 mod cells;
+mod rounding;
 // What a filing says, and why it is refused.
 mod borrowings;
 mod records;
@@ -30,14 +30,13 @@ mod filings;
 mod lines;
 mod searches;
 
-use crate::arith::LARGEST;
 use std::io;
 
 // Prints what each entry's call answers.
 fn main(rt: HostRuntime) -> io::Result<()> {
     let mut input = rt.stdin();
     let survivals = survival::survivals();
-    for i in 0..LARGEST {
+    for i in 0..u64::MAX {
         if !entries::print_entry(&rt, &mut input, &survivals, i)? {
             break;
         }

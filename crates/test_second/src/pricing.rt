@@ -1,129 +1,159 @@
 // The price of a sub-balance, or of a borrowing, in parts of 10^9, and its value in dollars. Each line
 // of the monthly run is rounded once, down for the lower figure and up for the upper one.
-use crate::arith::{add, chosen, mul, scaled, sub};
-use crate::book_calls::held;
-use crate::borrowings::nth_borrowing;
-use crate::records::{LIBOR, YIELDS, retail_rate, sheet_number};
+use crate::borrowings::Borrowing;
+use crate::records::{Filing, Kind};
+use crate::rounding::Rounding;
 use crate::shares::SubBalance;
-use crate::withdrawals::{WHOLE, month_survival};
+use crate::withdrawals::WHOLE;
 
-// The totals of a scenario, of the places as they are held after the first `count` calls: lower and
-// upper of places 0 to 23, of rows 1 and 2 (short), and of the others, of rows 3 and 4 (long).
-pub fn totals_of(s: &[u8], survivals: &[u64], calls: &[u8], count: u64, scenario: u64) -> [u64; 4] {
-    let mut totals = [0u64; 4];
-    for i in 0..72u64 {
-        let place = i / 2;
-        let up = i % 2 == 1;
-        let part = held(s, calls, place, count);
-        let at = (chosen(place < 24, 0, 2) | i % 2) as usize % 4;
-        totals[at] = add(totals[at], value_of(s, survivals, part, scenario, up));
-    }
-    totals
+// The shifts of the seven scenarios, in hundredths of a percent a year.
+pub const SHIFTS: [i64; 7] = [-300, -200, -100, 0, 100, 200, 300];
+
+// The places of rows 1 and 2; the others are of rows 3 and 4.
+const SHORT_PLACES: usize = 24;
+
+// A figure of a scenario: its shift, and which way it is rounded.
+#[derive(Clone, Copy, Debug)]
+struct Figure {
+    shift: i64,
+    rounding: Rounding,
 }
 
-// The lower and the upper value in each scenario.
-pub fn bounds_of(s: &[u8], survivals: &[u64], part: SubBalance) -> [u64; 14] {
-    let mut bounds = [0u64; 14];
-    for i in 0..14usize {
-        let scenario = (i / 2) as u64;
-        bounds[i] = value_of(s, survivals, part, scenario, i % 2 == 1);
+impl Figure {
+    // The i-th of the fourteen: lower and upper of each scenario.
+    fn nth(i: usize) -> Figure {
+        Figure {
+            shift: SHIFTS[i / 2 % 7],
+            rounding: Rounding::BOTH[i % 2],
+        }
     }
-    bounds
+
+    // A yield or a retail rate in the scenario: 0 where the shift takes it below 0.
+    fn shifted(self, rate: u64) -> u64 {
+        rate.saturating_add_signed(self.shift)
+    }
+
+    // 120,000 / (120,000 + z) to the power of the month, z its shifted yield on the sheet of a kind,
+    // rounded after each factor.
+    fn discount_factor(self, filing: Filing, kind: Kind, month: u64) -> u64 {
+        let z = self.shifted(filing.sheet_number(kind, month));
+        (0..month).fold(WHOLE, |factor, _| {
+            self.rounding
+                .scaled(factor, 120000, z.saturating_add(120000))
+        })
+    }
+}
+
+// A filing that is valued, and the survivals of annual withdrawals.
+#[derive(Clone, Copy)]
+pub struct Valuation<'a> {
+    pub filing: Filing<'a>,
+    pub survivals: &'a [u64],
 }
 
 // The run after some months: the balance that is left, and the sum of flow × discount factor.
-#[derive(Clone, Copy)]
+#[derive(Clone, Copy, Debug)]
 struct Run {
     balance: u64,
     price: u64,
 }
 
-// The value in a scenario from 0 to 6, the shifts -300 to 300. The price is run from a balance of
-// 10^9 and month 1 to month T; there is nothing to run for an empty sub-balance.
-fn value_of(s: &[u8], survivals: &[u64], part: SubBalance, scenario: u64, up: bool) -> u64 {
-    let mut run = Run {
-        balance: WHOLE,
-        price: 0,
-    };
-    let months = chosen(part.balance == 0, 0, part.months);
-    for t in 0..months {
-        run = run_month(s, survivals, part, scenario, up, t + 1, run);
+impl Valuation<'_> {
+    // The totals of a scenario: lower and upper of the short places and of the long ones.
+    pub fn totals(self, parts: &[SubBalance; 36], shift: i64) -> [u64; 4] {
+        let (short, long) = parts.split_at(SHORT_PLACES);
+        std::array::from_fn(|i| {
+            let rows = if i < 2 { short } else { long };
+            let rounding = Rounding::BOTH[i % 2];
+            self.total(rows, Figure { shift, rounding })
+        })
     }
-    scaled(part.balance, run.price, 1000000, up)
-}
 
-// The run one month on. B_t is B_(t-1) with the coupon's twelfth added and 1 - q withdrawn, which
-// flows out with the servicing; what is left in the last month is paid out.
-fn run_month(
-    s: &[u8],
-    survivals: &[u64],
-    part: SubBalance,
-    scenario: u64,
-    up: bool,
-    month: u64,
-    run: Run,
-) -> Run {
-    let left = sub(part.months, month);
-    let rate = shifted(retail_rate(s, part.column, month), scenario);
-    let q = month_survival(s, survivals, part, rate, left);
-    let grown = add(mul(2500, part.coupon), mul(3, q));
-    let after = scaled(run.balance, grown, 3000000000, up);
-    let servicing = chosen(part.brokered, 19000, 175000);
-    let out = scaled(run.balance, add(servicing, sub(WHOLE, q)), WHOLE, up);
-    let flow = add(out, chosen(left == 0, after, 0));
-    let factor = discount_factor(s, YIELDS, month, scenario, up);
-    Run {
-        balance: after,
-        price: add(run.price, scaled(flow, factor, WHOLE, up)),
+    fn total(self, parts: &[SubBalance], figure: Figure) -> u64 {
+        parts.iter().fold(0, |sum: u64, part| {
+            sum.saturating_add(self.value(*part, figure))
+        })
     }
-}
 
-// The lower and the upper value in each scenario of `count` borrowings together, from the first one on.
-pub fn borrowed_bounds(s: &[u8], first: u64, count: u64) -> [u64; 14] {
-    let mut bounds = [0u64; 14];
-    for i in 0..14usize {
-        let scenario = (i / 2) as u64;
-        bounds[i] = borrowed_sum(s, first, count, scenario, i % 2 == 1);
+    // The lower and the upper value in each scenario.
+    pub fn bounds(self, part: SubBalance) -> [u64; 14] {
+        std::array::from_fn(|i| self.value(part, Figure::nth(i)))
     }
-    bounds
-}
 
-fn borrowed_sum(s: &[u8], first: u64, count: u64, scenario: u64, up: bool) -> u64 {
-    let mut sum = 0;
-    for i in 0..count {
-        sum = add(sum, borrowed_value(s, add(first, i), scenario, up));
+    // A figure of the value. The price is run from a balance of 10^9 and month 1 to month T; there is
+    // nothing to run for an empty sub-balance.
+    fn value(self, part: SubBalance, figure: Figure) -> u64 {
+        if part.balance == 0 {
+            return 0;
+        }
+        let mut run = Run {
+            balance: WHOLE,
+            price: 0,
+        };
+        for t in 0..part.months {
+            run = self.month(part, figure, t + 1, run);
+        }
+        figure.rounding.scaled(part.balance, run.price, 1000000)
     }
-    sum
-}
 
-// The value of the k-th borrowing: interest each month, and the balance in the last, nothing of it
-// withdrawn and no servicing.
-fn borrowed_value(s: &[u8], k: u64, scenario: u64, up: bool) -> u64 {
-    let part = nth_borrowing(s, k);
-    let interest = scaled(WHOLE, part.coupon, 120000, up);
-    let months = chosen(part.balance == 0, 0, part.months);
-    let mut price = 0;
-    for t in 0..months {
-        let month = t + 1;
-        let flow = add(interest, chosen(month == months, WHOLE, 0));
-        let factor = discount_factor(s, LIBOR, month, scenario, up);
-        price = add(price, scaled(flow, factor, WHOLE, up));
+    // The run one month on. B_t is B_(t-1) with the coupon's twelfth added and 1 - q withdrawn, which
+    // flows out with the servicing; what is left in the last month is paid out.
+    fn month(self, part: SubBalance, figure: Figure, month: u64, run: Run) -> Run {
+        let rounding = figure.rounding;
+        let left = part.months.saturating_sub(month);
+        let rate = figure.shifted(self.filing.retail_rate(part.column, month));
+        let q = self.month_survival(part, rate, left);
+        let grown = part
+            .coupon
+            .saturating_mul(2500)
+            .saturating_add(q.saturating_mul(3));
+        let after = rounding.scaled(run.balance, grown, 3000000000);
+        let servicing: u64 = if part.is_brokered { 19000 } else { 175000 };
+        let withdrawn = servicing.saturating_add(WHOLE.saturating_sub(q));
+        let out = rounding.scaled(run.balance, withdrawn, WHOLE);
+        let flow = if left == 0 {
+            out.saturating_add(after)
+        } else {
+            out
+        };
+        let factor = figure.discount_factor(self.filing, Kind::Yields, month);
+        Run {
+            balance: after,
+            price: run
+                .price
+                .saturating_add(rounding.scaled(flow, factor, WHOLE)),
+        }
     }
-    scaled(part.balance, price, 1000000, up)
-}
 
-// 120,000 / (120,000 + z) to the power of the month, z its shifted yield on the sheet of a kind,
-// rounded after each factor.
-fn discount_factor(s: &[u8], kind: u64, month: u64, scenario: u64, up: bool) -> u64 {
-    let z = shifted(sheet_number(s, kind, month), scenario);
-    let mut factor = WHOLE;
-    for _ in 0..month {
-        factor = scaled(factor, 120000, add(120000, z), up);
+    // The lower and the upper value in each scenario of some borrowings together.
+    pub fn borrowed_bounds(self, parts: &[Borrowing]) -> [u64; 14] {
+        std::array::from_fn(|i| {
+            let figure = Figure::nth(i);
+            parts.iter().fold(0, |sum: u64, part| {
+                sum.saturating_add(self.borrowed_value(*part, figure))
+            })
+        })
     }
-    factor
-}
 
-// A yield or a retail rate in a scenario: 0 where the shift takes it below 0.
-fn shifted(rate: u64, scenario: u64) -> u64 {
-    sub(add(rate, mul(100, scenario)), 300)
+    // A figure of a borrowing's value: interest each month, and the balance in the last, nothing of it
+    // withdrawn and no servicing.
+    fn borrowed_value(self, part: Borrowing, figure: Figure) -> u64 {
+        if part.balance == 0 {
+            return 0;
+        }
+        let rounding = figure.rounding;
+        let interest = rounding.scaled(WHOLE, part.coupon, 120000);
+        let mut price: u64 = 0;
+        for t in 0..part.months {
+            let month = t + 1;
+            let repaid = if month == part.months { WHOLE } else { 0 };
+            let factor = figure.discount_factor(self.filing, Kind::Libor, month);
+            price = price.saturating_add(rounding.scaled(
+                interest.saturating_add(repaid),
+                factor,
+                WHOLE,
+            ));
+        }
+        rounding.scaled(part.balance, price, 1000000)
+    }
 }

@@ -1,167 +1,229 @@
-// Why a filing is refused: the number of the refusal and its location. Number 0 is none.
-use crate::arith::{add, chosen};
-use crate::borrowings::{BORROWED, borrowed, first_outside_class, first_outside_term, wac, warm};
-use crate::bytes::number;
-use crate::cells::{BALANCE, TOTAL, WARM, fine_limit, is_within, known, limit};
-use crate::records::{
-    CELL, FINE, LIBOR, PATH, RATES, TIERS, YIELDS, column_sum, found, next, sheet, value,
-};
-use crate::tiers::are_disordered;
+// Why a filing, a list of certificates or a change of a book is refused: the fault and its location.
+use crate::borrowings::{CLASSES, TERMS};
+use crate::cells::{BORROWED, POSITIONS, TOTAL, fine_limit, limit};
+use crate::records::{Filing, Kind, Record};
+use crate::tiers::Tiers;
+use std::fmt;
 
-#[derive(Clone, Copy)]
+// The faults, each with its number.
+#[derive(Clone, Copy, Debug, PartialEq, Eq)]
+pub enum Fault {
+    CutShort = 1,
+    WrongLength = 2,
+    WrongCell = 3,
+    Repeated = 4,
+    OverLimit = 5,
+    SheetMissing = 6,
+    MonthsOutside = 7,
+    AboveColumn = 8,
+    TotalDiffers = 9,
+    ListTooShort = 10,
+    TiersDisordered = 11,
+    RatesTwice = 12,
+    NoSuchDay = 13,
+    NotOutstanding = 14,
+    TooManyMonths = 15,
+    AmendedTwice = 16,
+    PlaceOutside = 17,
+    LiborMissing = 18,
+    CouponOutside = 19,
+}
+
+#[derive(Clone, Copy, Debug, PartialEq, Eq)]
 pub struct Refusal {
-    pub number: u64,
-    pub location: u64,
+    fault: Fault,
+    location: u64,
 }
 
-// The refusal of a filing whose results go to a list of `length` entries, of which `needed` are needed.
-pub fn refusal_of(s: &[u8], length: u64, needed: u64) -> Refusal {
-    let at = first_faulty(s);
-    let fault = record_fault(s, at);
-    let whole = whole_refusal(s);
-    let later = refused_if(at < s.len() as u64, fault, at, whole);
-    refused_if(length < needed, 10, length, later)
-}
-
-// A refusal where something holds, else one that is tested later.
-pub fn refused_if(holds: bool, number: u64, location: u64, later: Refusal) -> Refusal {
-    Refusal {
-        number: chosen(holds, number, later.number),
-        location: chosen(holds, location, later.location),
-    }
-}
-
-// The offset of the first record that has a fault; the end or an offset past it where none has.
-fn first_faulty(s: &[u8]) -> u64 {
-    let mut at = 0;
-    for _ in 0..s.len() {
-        if record_fault(s, at) != 0 {
-            break;
+impl Fault {
+    // The refusal for a fault at a location.
+    pub fn at(self, location: u64) -> Refusal {
+        Refusal {
+            fault: self,
+            location,
         }
-        at = next(s, at);
     }
-    at
 }
 
-// The first fault of the record at `at`, of 1 to 5, 11, 12 and 16; at the end it is a 1, as where it
-// runs past the end or is too short for a kind.
-fn record_fault(s: &[u8], at: u64) -> u64 {
-    let cell = number(s, at, 4, 2);
-    let fault = match number(s, at, 2, 2) {
-        1 => cell_fault(s, at, limit(cell)),
-        2 => sheet_fault(s, at, YIELDS, 120, YIELDS),
-        3 => sheet_fault(s, at, RATES, 3, PATH),
-        4 => tiers_fault(s, at),
-        5 => sheet_fault(s, at, PATH, 360, RATES),
-        6 => cell_fault(s, at, fine_limit(cell)),
-        7 => amendment_fault(s, at, limit(cell)),
-        8 => sheet_fault(s, at, LIBOR, 120, LIBOR),
-        _ => 2,
-    };
-    let is_broken = (number(s, at, 0, 2) < 2) | ((s.len() as u64) < next(s, at));
-    chosen(is_broken, 1, fault)
-}
-
-// Fault 2, 3, 4 or 5 of a cell of kind 1 or 6, which have their cells in common. A cell that the
-// kind may not have has `most` 0.
-fn cell_fault(s: &[u8], at: u64, most: u64) -> u64 {
-    let cell = number(s, at, 4, 2) << 16;
-    let is_cell = found(s, at, 4, cell | CELL) < at;
-    let is_fine = found(s, at, 4, cell | FINE) < at;
-    let mut fault = chosen(most < number(s, at, 6, 8), 5, 0);
-    fault = chosen(is_cell | is_fine, 4, fault);
-    fault = chosen(most == 0, 3, fault);
-    chosen(number(s, at, 0, 2) != 12, 2, fault)
-}
-
-// Fault 2, 3, 16 or 5 of an amendment. Its number is not 0, its state is 0, or 1 where the cell is
-// withdrawn, and a cell that is withdrawn has the value 0.
-fn amendment_fault(s: &[u8], at: u64, most: u64) -> u64 {
-    let state = number(s, at, 8, 2);
-    let limit = chosen(state == 0, most, 0);
-    let is_over = (1 < state) | (limit < number(s, at, 10, 8));
-    let key = number(s, at, 2, 6);
-    let mut fault = chosen(is_over | (number(s, at, 6, 2) == 0), 5, 0);
-    fault = chosen(found(s, at, 6, key) < at, 16, fault);
-    fault = chosen(most == 0, 3, fault);
-    chosen(number(s, at, 0, 2) != 16, 2, fault)
-}
-
-// Fault 2, 4, 12 or 5 of a sheet of `count` rates, with `other` for the kind that may not stand
-// before it beside its own.
-fn sheet_fault(s: &[u8], at: u64, kind: u64, count: u64, other: u64) -> u64 {
-    let mut fault = chosen(is_rate_over(s, at, count), 5, 0);
-    fault = chosen(found(s, at, 2, other) < at, 12, fault);
-    fault = chosen(found(s, at, 2, kind) < at, 4, fault);
-    chosen(number(s, at, 0, 2) != add(count, 1) << 1, 2, fault)
-}
-
-// Fault 2, 4 or 11 of the tiers.
-fn tiers_fault(s: &[u8], at: u64) -> u64 {
-    let mut fault = chosen(are_disordered(s, at), 11, 0);
-    fault = chosen(found(s, at, 2, TIERS) < at, 4, fault);
-    let length = add(4, number(s, at, 4, 2) << 2);
-    chosen(number(s, at, 0, 2) != length, 2, fault)
-}
-
-// Whether one of the `count` rates of the sheet at `at` is over 2,500.
-fn is_rate_over(s: &[u8], at: u64, count: u64) -> bool {
-    let mut is_over = false;
-    for k in 0..count {
-        is_over = is_over | (2500 < number(s, at, add(k, 2) << 1, 2));
+// The number of the refusal and its location.
+impl fmt::Display for Refusal {
+    fn fmt<W: fmt::Write>(&self, f: &mut fmt::Formatter<W>) -> fmt::Result {
+        let number = self.fault as u64;
+        let location = self.location;
+        write!(f, "{number} {location}")
     }
-    is_over
 }
 
-// Refusals 6, 18, 19 and 7 to 9, of a filing whose records are each in order.
-fn whole_refusal(s: &[u8]) -> Refusal {
-    let none = Refusal {
-        number: 0,
-        location: 0,
-    };
-    let all = borrowed(s, 0, 1, 24);
-    let mut refusal = refused_if(value(s, BORROWED) != all, 9, BORROWED, none);
-    let is_unequal = value(s, TOTAL) != column_sum(s, 0, 9);
-    refusal = refused_if(is_unequal, 9, TOTAL, refusal);
-    let excess = first_excess(s);
-    refusal = refused_if(excess < 656, 8, excess, refusal);
-    let term = first_outside_term(s);
-    refusal = refused_if(term < 3, 7, warm(term), refusal);
-    let k = first_misplaced(s);
-    refusal = refused_if(k < 9, 7, known(k, WARM), refusal);
-    let class = first_outside_class(s);
-    refusal = refused_if(class < 8, 19, wac(class), refusal);
-    let end = s.len() as u64;
-    let lacks_libor = sheet(s, LIBOR) == end;
-    refusal = refused_if(lacks_libor & (all != 0), 18, end, refusal);
-    refused_if(lacks_a_sheet(s), 6, end, refusal)
-}
-
-// Whether the yields are missing, or retail rates of either form.
-fn lacks_a_sheet(s: &[u8]) -> bool {
-    let end = s.len() as u64;
-    (sheet(s, YIELDS) == end) | ((sheet(s, RATES) == end) & (sheet(s, PATH) == end))
-}
-
-// The first of the nine whose WARM is outside its row while its balance is not zero; 9 for none.
-fn first_misplaced(s: &[u8]) -> u64 {
-    let mut first = 9;
-    for i in 0..9 {
-        let k = 8 - i;
-        let balance = value(s, known(k, BALANCE));
-        let months = value(s, known(k, WARM));
-        first = chosen((balance != 0) & !is_within(k, months), k, first);
+// The refusal of a list of `length` entries, of which `needed` are needed.
+pub fn check_list(length: u64, needed: u64) -> Result<(), Refusal> {
+    if length < needed {
+        return Err(Fault::ListTooShort.at(length));
     }
-    first
+    Ok(())
 }
 
-// The first of cells 650 to 655 that is above its column's sum; 656 for none.
-fn first_excess(s: &[u8]) -> u64 {
-    let mut first = 656;
-    for i in 0..6 {
-        let cell = 655 - i;
-        let sum = column_sum(s, 3 - i % 3, 9);
-        first = chosen(sum < value(s, cell), cell, first);
+impl Filing<'_> {
+    // The first refusal: of each record in turn, and then of the whole.
+    pub fn check(self) -> Result<(), Refusal> {
+        let mut end = 0;
+        for record in self.records() {
+            if let Err(fault) = record.check(self.until(record.at)) {
+                return Err(fault.at(record.at as u64));
+            }
+            end = record.end();
+        }
+        if end < self.bytes.len() {
+            return Err(Fault::CutShort.at(end as u64));
+        }
+        self.check_whole()
     }
-    first
+
+    // Refusals 6, 18, 19 and 7 to 9, of a filing whose records are each in order.
+    fn check_whole(self) -> Result<(), Refusal> {
+        let end = self.bytes.len() as u64;
+        if !self.has(Kind::Yields) || !(self.has(Kind::Rates) || self.has(Kind::Path)) {
+            return Err(Fault::SheetMissing.at(end));
+        }
+        let borrowed = self.borrowed();
+        if borrowed != 0 && !self.has(Kind::Libor) {
+            return Err(Fault::LiborMissing.at(end));
+        }
+        for class in CLASSES {
+            if class.is_used(self) && !class.holds(self.value(class.cell)) {
+                return Err(Fault::CouponOutside.at(class.cell));
+            }
+        }
+        for position in POSITIONS {
+            if self.value(position.balance) != 0 && !position.is_of_row(self.value(position.warm)) {
+                return Err(Fault::MonthsOutside.at(position.warm));
+            }
+        }
+        for term in TERMS {
+            if term.is_used(self) && !term.holds(self.value(term.cell)) {
+                return Err(Fault::MonthsOutside.at(term.cell));
+            }
+        }
+        for cell in 650..656 {
+            if self.column_sum((cell - 650) % 3 + 1, 9) < self.value(cell) {
+                return Err(Fault::AboveColumn.at(cell));
+            }
+        }
+        if self.value(TOTAL) != self.balance_sum() {
+            return Err(Fault::TotalDiffers.at(TOTAL));
+        }
+        if self.value(BORROWED) != borrowed {
+            return Err(Fault::TotalDiffers.at(BORROWED));
+        }
+        Ok(())
+    }
+
+    // The sum of the nine balances.
+    fn balance_sum(self) -> u64 {
+        POSITIONS.iter().fold(0, |sum: u64, position| {
+            sum.saturating_add(self.value(position.balance))
+        })
+    }
+}
+
+impl Record<'_> {
+    // The first fault of a record behind others, of 2 to 5, 11, 12 and 16.
+    fn check(self, before: Filing) -> Result<(), Fault> {
+        match self.kind() {
+            None => Err(Fault::WrongLength),
+            Some(Kind::Cell) => self.check_cell(before, limit(self.cell())),
+            Some(Kind::Fine) => self.check_cell(before, fine_limit(self.cell())),
+            Some(Kind::Amendment) => self.check_amendment(before, limit(self.cell())),
+            Some(Kind::Tiers) => self.check_tiers(before),
+            Some(Kind::Yields) => self.check_sheet(before, 120, Kind::Yields, Kind::Yields),
+            Some(Kind::Rates) => self.check_sheet(before, 3, Kind::Rates, Kind::Path),
+            Some(Kind::Path) => self.check_sheet(before, 360, Kind::Path, Kind::Rates),
+            Some(Kind::Libor) => self.check_sheet(before, 120, Kind::Libor, Kind::Libor),
+        }
+    }
+
+    // Fault 2, 3, 4 or 5 of a cell of kind 1 or 6, which have their cells in common. A cell that the
+    // kind may not have has no limit.
+    fn check_cell(self, before: Filing, limit: Option<u64>) -> Result<(), Fault> {
+        if self.length() != 12 {
+            return Err(Fault::WrongLength);
+        }
+        let most = limit.ok_or(Fault::WrongCell)?;
+        let cell = self.cell();
+        if before
+            .records()
+            .any(|other| other.is_cell() && other.cell() == cell)
+        {
+            return Err(Fault::Repeated);
+        }
+        if most < self.value() {
+            return Err(Fault::OverLimit);
+        }
+        Ok(())
+    }
+
+    // A record of kind 1 or 6.
+    fn is_cell(self) -> bool {
+        matches!(self.kind(), Some(Kind::Cell | Kind::Fine))
+    }
+
+    // Fault 2, 3, 16 or 5 of an amendment. Its number is not 0, its state is 0, or 1 where the cell is
+    // withdrawn, and a cell that is withdrawn has the value 0.
+    fn check_amendment(self, before: Filing, limit: Option<u64>) -> Result<(), Fault> {
+        if self.length() != 16 {
+            return Err(Fault::WrongLength);
+        }
+        let most = limit.ok_or(Fault::WrongCell)?;
+        if before.records().any(|other| self.is_amended_by(other)) {
+            return Err(Fault::AmendedTwice);
+        }
+        let is_sound = match self.number(8, 2) {
+            0 => self.value() <= most,
+            1 => self.value() == 0,
+            _ => false,
+        };
+        if !is_sound || self.amendment() == 0 {
+            return Err(Fault::OverLimit);
+        }
+        Ok(())
+    }
+
+    // Whether another record is an amendment of the same cell with the same number.
+    fn is_amended_by(self, other: Record) -> bool {
+        other.kind() == Some(Kind::Amendment)
+            && other.cell() == self.cell()
+            && other.amendment() == self.amendment()
+    }
+
+    // Fault 2, 4, 12 or 5 of a sheet of `count` rates, with `other` for the kind that may not stand
+    // before it beside its own.
+    fn check_sheet(self, before: Filing, count: u64, kind: Kind, other: Kind) -> Result<(), Fault> {
+        if self.length() != count.saturating_add(1).saturating_mul(2) {
+            return Err(Fault::WrongLength);
+        }
+        if before.has(kind) {
+            return Err(Fault::Repeated);
+        }
+        if before.has(other) {
+            return Err(Fault::RatesTwice);
+        }
+        if (0..count).any(|k| 2500 < self.sheet_number(k.saturating_add(1))) {
+            return Err(Fault::OverLimit);
+        }
+        Ok(())
+    }
+
+    // Fault 2, 4 or 11 of the tiers.
+    fn check_tiers(self, before: Filing) -> Result<(), Fault> {
+        let tiers = Tiers::Own(self);
+        if self.length() != (tiers.count() as u64).saturating_mul(4).saturating_add(4) {
+            return Err(Fault::WrongLength);
+        }
+        if before.has(Kind::Tiers) {
+            return Err(Fault::Repeated);
+        }
+        if !tiers.are_in_order() {
+            return Err(Fault::TiersDisordered);
+        }
+        Ok(())
+    }
 }

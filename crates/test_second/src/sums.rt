@@ -1,127 +1,168 @@
 // The cells that certificates make. The input has numbers of 8 bytes: year, month and day of the
 // valuation date; then, for each certificate, those of its issue and of its maturity, its balance and
 // its coupon.
-use crate::arith::{LARGEST, add, chosen, mul, scaled, sub};
-use crate::bytes::number;
-use crate::cells::{TOTAL, entry, known};
-use crate::dates::{date, months_between};
+ghost use Rattle.std.specs.Prelude.{◌<◌};
 
-// The refusal's number and location, number 0 where there is none; and the sums of the certificates:
-// four numbers for each of the nine cells, of which three are used, the balance and the sums of
-// balance × coupon and of balance × remaining months, and at last the balance of all.
-#[derive(Clone, Copy)]
-pub struct Sums {
-    pub number: u64,
-    pub location: u64,
-    pub list: [u64; 37],
+use crate::bytes::number;
+use crate::cells::{MOST_BALANCE, MOST_COUPON, MOST_MONTHS, POSITIONS, Position, TOTAL};
+use crate::dates::Day;
+use crate::refusals::{Fault, Refusal};
+use crate::rounding::Rounding;
+
+// The bytes of a date, and of a certificate.
+const DATE: usize = 24;
+
+const CERTIFICATE: usize = 64;
+
+// The sums of a position: its balance, and its coupons and remaining months weighted by balances.
+#[derive(Clone, Copy, Debug)]
+struct Sum {
+    balance: u64,
+    coupon: u64,
+    months: u64,
 }
 
-const ALL: u64 = 36;
+// The sums of the nine positions, and the balance of all.
+#[derive(Clone, Copy, Debug)]
+pub struct Sums {
+    positions: [Sum; 9],
+    all: u64,
+}
 
-const MOST_BALANCE: u64 = 999999999;
+// A certificate that is outstanding: its balance, coupon and remaining months, and the index of its
+// position.
+#[derive(Clone, Copy, Debug)]
+struct Certificate {
+    balance: u64,
+    coupon: u64,
+    months: u64,
+    position: usize,
+}
 
-const MOST_COUPON: u64 = 1500;
-
-// The sums of all certificates, up to the first that is refused.
-pub fn sums_of(s: &[u8]) -> Sums {
-    let count = sub(s.len() as u64, 24) / 64;
+// The sums of all certificates, or the refusal of the first that is refused.
+pub fn sums_of(s: &[u8]) -> Result<Sums, Refusal> {
+    let count = s.len().saturating_sub(DATE) / CERTIFICATE;
+    if count == 0 || 1000 < count {
+        return Err(Fault::OverLimit.at(0));
+    }
     let mut sums = Sums {
-        number: chosen((count == 0) | (1000 < count), 5, 0),
-        location: 0,
-        list: [0; 37],
+        positions: [Sum {
+            balance: 0,
+            coupon: 0,
+            months: 0,
+        }; 9],
+        all: 0,
     };
     for k in 0..count {
-        if sums.number != 0 {
-            break;
+        let at = k.saturating_mul(CERTIFICATE).saturating_add(DATE);
+        let added = read_certificate(s, at).and_then(|certificate| sums.with(certificate));
+        match added {
+            Ok(with_it) => sums = with_it,
+            Err(fault) => return Err(fault.at(k as u64)),
         }
-        sums = taken(s, k, sums);
     }
-    sums
+    Ok(sums)
 }
 
-// The sums with certificate k, or its refusal.
-fn taken(s: &[u8], k: u64, sums: Sums) -> Sums {
-    let at = add(24, k << 6);
-    let today = date(s, 0);
-    let issue = date(s, at);
-    let maturity = date(s, add(at, 24));
-    let balance = number(s, at, 48, 8);
-    let coupon = number(s, at, 56, 8);
-    let months = months_between(today, maturity);
-    let i = position(months_between(issue, maturity), months) << 2;
-    let before = sums.list;
-    let list = added(before, i, balance, coupon, months);
-    let later = chosen(MOST_BALANCE < entry(&list, i), 5, 0);
-    let dated = date_fault(today, issue, maturity, months, later);
-    let is_over = (MOST_BALANCE < balance) | (MOST_COUPON < coupon);
-    let fault = chosen(is_over, 5, dated);
-    Sums {
-        number: fault,
-        location: chosen(fault == 0, 0, k),
-        list: list,
+// The certificate at a position of the input, or its fault: 5, 13 for dates that are no days, 14 where
+// it is not issued by the valuation date or does not mature after it, 15 where too many months remain.
+fn read_certificate(s: &[u8], at: usize) -> Result<Certificate, Fault> {
+    let balance = number(s, at.saturating_add(2 * DATE), 8);
+    let coupon = number(s, at.saturating_add(2 * DATE + 8), 8);
+    if MOST_BALANCE < balance || MOST_COUPON < coupon {
+        return Err(Fault::OverLimit);
     }
+    let today = Day::read(s, 0).ok_or(Fault::NoSuchDay)?;
+    let issue = Day::read(s, at).ok_or(Fault::NoSuchDay)?;
+    let maturity = Day::read(s, at.saturating_add(DATE)).ok_or(Fault::NoSuchDay)?;
+    if today < issue || maturity <= today {
+        return Err(Fault::NotOutstanding);
+    }
+    let months = today.months_to(maturity);
+    if MOST_MONTHS < months {
+        return Err(Fault::TooManyMonths);
+    }
+    Ok(Certificate {
+        balance,
+        coupon,
+        months,
+        position: position(issue.months_to(maturity), months),
+    })
 }
 
-// Fault 13 of a certificate's dates that are no days, 14 where it is not issued by the valuation date
-// or does not mature after it, 15 where too many months remain; else one that is tested later.
-fn date_fault(today: u64, issue: u64, maturity: u64, months: u64, later: u64) -> u64 {
-    let is_outstanding = (issue <= today) & (today < maturity);
-    let fault = chosen(is_outstanding, chosen(120 < months, 15, later), 14);
-    chosen((today == 0) | (issue == 0) | (maturity == 0), 13, fault)
-}
-
-// Where a certificate belongs among the nine cells: by its remaining months a row, by its original
+// Where a certificate belongs among the nine positions: by its remaining months a row, by its original
 // months a column. Row 3 lacks column 1, and row 4 has column 3 alone.
-fn position(original: u64, remaining: u64) -> u64 {
-    let longer = chosen(36 < remaining, 6, 5);
-    let shorter = chosen(3 < remaining, 3, 0);
-    let row = chosen(12 < remaining, longer, shorter);
-    let column = chosen(12 < original, chosen(36 < original, 2, 1), 0);
-    add(row, column)
+fn position(original: u64, remaining: u64) -> usize
+    ensures { result < 9 }
+{
+    let row = match remaining {
+        0..=3 => 0,
+        4..=12 => 3,
+        13..=36 => 5,
+        _ => 6,
+    };
+    let column = match original {
+        0..=12 => 0,
+        13..=36 => 1,
+        _ => 2,
+    };
+    row + column
 }
 
-// The list with a certificate added to the sums of the cell that stand from index i on.
-fn added(list: [u64; 37], i: u64, balance: u64, coupon: u64, months: u64) -> [u64; 37] {
-    let in_all = raised(list, ALL, balance);
-    let in_cell = raised(in_all, i, balance);
-    let with_coupon = raised(in_cell, i | 1, mul(balance, coupon));
-    raised(with_coupon, i | 2, mul(balance, months))
-}
-
-// The list with one of its numbers raised.
-fn raised(list: [u64; 37], i: u64, by: u64) -> [u64; 37] {
-    let mut raised = list;
-    let at = i as usize % 37;
-    raised[at] = add(raised[at], by);
-    raised
-}
-
-// How many cells are handed back.
-pub fn cell_count(sums: &[u64]) -> u64 {
-    let mut count = 0;
-    for k in 0..45 {
-        let is_held = cell_value(sums, 601 + k) != LARGEST;
-        count = add(count, is_held as u64);
+impl Sums {
+    // The sums with a certificate more; fault 5 where the balance of its position gets too large.
+    fn with(self, certificate: Certificate) -> Result<Sums, Fault> {
+        let mut sums = self;
+        let balance = certificate.balance;
+        let at = certificate.position % 9;
+        let sum = self.positions[at];
+        let raised = sum.balance.saturating_add(balance);
+        if MOST_BALANCE < raised {
+            return Err(Fault::OverLimit);
+        }
+        let coupon = balance.saturating_mul(certificate.coupon);
+        let months = balance.saturating_mul(certificate.months);
+        sums.positions[at] = Sum {
+            balance: raised,
+            coupon: sum.coupon.saturating_add(coupon),
+            months: sum.months.saturating_add(months),
+        };
+        sums.all = self.all.saturating_add(balance);
+        Ok(sums)
     }
-    count
-}
 
-// The value of a cell from 601 to 645; the largest number where it is not among those handed back.
-pub fn cell_value(sums: &[u64], cell: u64) -> u64 {
-    let mut value = chosen(cell == TOTAL, entry(sums, ALL), LARGEST);
-    for i in 0..36 {
-        let is_it = known(i / 4, i % 4) == cell;
-        value = chosen(is_it, made(sums, i), value);
+    // The value of a cell that is handed back.
+    pub fn value(&self, cell: u64) -> Option<u64> {
+        if cell == TOTAL {
+            return Some(self.all);
+        }
+        POSITIONS
+            .iter()
+            .zip(self.positions.iter())
+            .find_map(|(position, sum)| sum.value(*position, cell))
     }
-    value
 }
 
-// What sum i makes of its cell: a balance, or a mean weighted by it, halves up; the largest number
-// where there is no balance.
-fn made(sums: &[u64], i: u64) -> u64 {
-    let weight = entry(sums, (i >> 2) << 2);
-    let doubled = add(entry(sums, i) << 1, weight);
-    let mean = scaled(doubled, 1, weight << 1, false);
-    let made = chosen(i % 4 == 0, weight, mean);
-    chosen(weight == 0, LARGEST, made)
+impl Sum {
+    // What the sums make of a cell of the position: a balance, or a mean weighted by it; nothing where
+    // there is no balance, or the cell is of another position.
+    fn value(&self, position: Position, cell: u64) -> Option<u64> {
+        if self.balance == 0 {
+            None
+        } else if cell == position.balance {
+            Some(self.balance)
+        } else if cell == position.wac {
+            Some(self.mean(self.coupon))
+        } else if cell == position.warm {
+            Some(self.mean(self.months))
+        } else {
+            None
+        }
+    }
+
+    // The mean of what is weighted by the balance, halves up.
+    fn mean(&self, weighted: u64) -> u64 {
+        let doubled = weighted.saturating_mul(2).saturating_add(self.balance);
+        Rounding::Down.scaled(doubled, 1, self.balance.saturating_mul(2))
+    }
 }

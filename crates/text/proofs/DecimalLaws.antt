@@ -6,6 +6,7 @@ use mathlib.Core.List.{[], ◌∷◌, ◌++◌}
 use native.Mathlib.Nat.{pow-suc, pow-zero}
 use native.Mathlib.Omega.{arith}
 use lib.Dec.{ltb}
+use Rattle.std.specs.Int.{abs_diff}
 use lib.IntN.{sub_ℕ}
 use lib.ListN.{length, length-append}
 use borrow.Author.Tests.{lt-ltb, le-ltb, ltb-true, ltb-false}
@@ -34,39 +35,45 @@ decimal-within m zero some h = absurd (omega arith)
 decimal-within m (suc n) some h = within-enough (suc n) m (suc n) (omega arith) h
 
 -- a number of one digit
-pub decimal-one : (n : ℕ) → n < 10 → decimal n ≡ digit n ∷ []
+pub decimal_one : (n : ℕ) → n < 10 → decimal n ≡ digit (n % 10) ∷ []
 unfolding decimal digits_within
-decimal-one zero h = refl
-decimal-one (suc n) h =
+decimal_one zero h = refl
+decimal_one (suc n) h =
     let q : suc n / 10 ≡ 0 = omega arith in
     let r : suc n % 10 ≡ suc n = omega arith in
     rw (q, r, none_within n)
 
 -- a number of more digits
-pub decimal-more : (n : ℕ) → 10 ≤ n → decimal n ≡ decimal (n / 10) ++ (digit (n % 10) ∷ [])
+pub decimal_more : (n : ℕ) → 10 ≤ n → decimal n ≡ decimal (n / 10) ++ (digit (n % 10) ∷ [])
 unfolding decimal digits_within
-decimal-more zero h = absurd (omega arith)
-decimal-more (suc n) h = rw (decimal-within n (suc n / 10) (omega arith) (omega arith))
+decimal_more zero h = absurd (omega arith)
+decimal_more (suc n) h = rw (decimal-within n (suc n / 10) (omega arith) (omega arith))
 
 length-within : (k n : ℕ) → n < 10 ^ suc k → length (decimal n) ≤ suc k
-length-within zero n fits = rw (decimal-one n (omega (arith, pow-suc 10 0, pow-zero 10))) (omega arith)
+length-within zero n fits = rw (decimal_one n (omega (arith, pow-suc 10 0, pow-zero 10))) (omega arith)
 length-within (suc k) n fits = by (ltb n 10) refl (length-within k (n / 10) (omega (arith, pow-suc 10 (suc k))))
   where
     by : (b : Bool) → ltb n 10 ≡ b → length (decimal (n / 10)) ≤ suc k → length (decimal n) ≤ suc (suc k)
-    by true t h = rw (decimal-one n (ltb-true n 10 t)) (omega arith)
-    by false t h = rw (decimal-more n (ltb-false n 10 t), length-append) (omega arith)
+    by true t h = rw (decimal_one n (ltb-true n 10 t)) (omega arith)
+    by false t h = rw (decimal_more n (ltb-false n 10 t), length-append) (omega arith)
 
 -- twenty digits hold a 64-bit number
-pub decimal-length : (n : ℕ) → n < 2 ^ 64 → length (decimal n) ≤ 20
-decimal-length n h = length-within 19 n (omega arith)
+pub decimal_length : (n : ℕ) → n < 2 ^ 64 → length (decimal n) ≤ 20
+decimal_length n h = length-within 19 n (omega arith)
+
+-- and nineteen its digits but the last
+pub decimal_front_length : (n : ℕ) → n < 2 ^ 64 → length (decimal (n / 10)) ≤ 19
+decimal_front_length n h = length-within 18 (n / 10) (omega arith)
 
 -- a difference that is not negative, and one that is
-pub signed-difference : (a b : ℕ) → b ≤ a → signed (sub_ℕ a b) ≡ decimal (a - b)
+pub signed_difference : (a b : ℕ) → b ≤ a → signed (sub_ℕ a b) ≡ decimal (abs_diff a b)
 unfolding signed
-signed-difference a b h = rw (le-ltb a b h)
+signed_difference a b h =
+    let e : abs_diff a b ≡ a - b = grind arith in
+    rw (le-ltb a b h, e)
 
-pub signed-negative : (a b : ℕ) → a < b → signed (sub_ℕ a b) ≡ 45 ∷ decimal (b - a)
+pub signed_negative : (a b : ℕ) → a < b → signed (sub_ℕ a b) ≡ 45 ∷ decimal (abs_diff a b)
 unfolding signed
-signed-negative a b h =
-    let e : suc (b - suc a) ≡ b - a = omega arith in
+signed_negative a b h =
+    let e : suc (b - suc a) ≡ abs_diff a b = grind arith in
     rw (lt-ltb a b h, e)

@@ -1,3 +1,3 @@
-pub mod AppendLaws
+pub mod AnswerLaws
 pub mod DecimalLaws
 pub mod LineLaws

@@ -8,12 +8,12 @@ use lib.ListN.{length, get_or, drop, length-append}
 use lib.Seq.{drop-cons, drop-length}
 use Rattle.text.specs.Decimal.{decimal}
 use Rattle.text.specs.Lines.{spaced, rest_of_line, refused_word, refusal_line}
-use Rattle.text.proofs.DecimalLaws.{decimal-length}
+use Rattle.text.proofs.DecimalLaws.{decimal_length}
 
 -- from number i on
-pub rest-number : (ns : List ℕ) (i : ℕ) → i < length ns → rest_of_line (drop i ns) ≡ (32 ∷ decimal (get_or ns i 0)) ++ rest_of_line (drop (i + 1) ns)
+pub rest_number : (ns : List ℕ) (i : ℕ) → i < length ns → rest_of_line (drop i ns) ≡ (32 ∷ decimal (get_or ns i 0)) ++ rest_of_line (drop (i + 1) ns)
 unfolding rest_of_line spaced
-rest-number ns i h = rw (add-one i, drop-cons ns i 0 h, append_assoc)
+rest_number ns i h = rw (add-one i, drop-cons ns i 0 h, append_assoc)
 
 -- behind the last number
 pub rest_end : (ns : List ℕ) (i : ℕ) → i ≡ length ns → rest_of_line (drop i ns) ≡ 10 ∷ []
@@ -21,15 +21,15 @@ unfolding rest_of_line spaced
 rest_end ns i e = rw (e, drop-length)
 
 -- the line of a refusal: seven letters, and the rest
-pub refusal-length : (number location : ℕ) → length (refusal_line number location) ≡ 7 + length (rest_of_line (number ∷ location ∷ []))
+pub refusal_length : (number location : ℕ) → length (refusal_line number location) ≡ 7 + length (rest_of_line (number ∷ location ∷ []))
 unfolding refusal_line refused_word
-refusal-length number location = length-append refused_word (rest_of_line (number ∷ location ∷ []))
+refusal_length number location = length-append refused_word (rest_of_line (number ∷ location ∷ []))
 
 -- 64-bit numbers, each behind a space
 spaced-length : (ns : List ℕ) → ((i : ℕ) → i < length ns → get_or ns i 0 < 2 ^ 64) → length (spaced ns) ≤ 21 * length ns
 unfolding spaced
 spaced-length [] fits = omega arith
-spaced-length (n ∷ ns) fits = rw length-append (omega (arith, decimal-length n (fits 0 (omega arith)), spaced-length ns (λ i h. fits (suc i) (omega arith))))
+spaced-length (n ∷ ns) fits = rw length-append (omega (arith, decimal_length n (fits 0 (omega arith)), spaced-length ns (λ i h. fits (suc i) (omega arith))))
 
 -- the rest of a line of 64-bit numbers
 pub rest-length : (ns : List ℕ) → ((i : ℕ) → i < length ns → get_or ns i 0 < 2 ^ 64) → length (rest_of_line ns) ≤ 21 * length ns + 1
@@ -37,11 +37,11 @@ unfolding rest_of_line
 rest-length ns fits = rw length-append (omega (arith, spaced-length ns fits))
 
 -- the line of a refusal with 64-bit numbers: 7 bytes of its word, 21 for each of two numbers behind a space, and the line feed
-pub refusal-short : (number location : ℕ) → number < 2 ^ 64 → location < 2 ^ 64 → length (refusal_line number location) ≤ 50
-refusal-short number location hn hp =
+pub refusal_short : (number location : ℕ) → number < 2 ^ 64 → location < 2 ^ 64 → length (refusal_line number location) ≤ 50
+refusal_short number location hn hp =
     omega (
       arith,
-      refusal-length number location,
+      refusal_length number location,
       rest-length (number ∷ location ∷ []) (each_of number location hn hp),
     )
   where

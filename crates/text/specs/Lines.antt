@@ -23,6 +23,10 @@ refusal_line number location = refused_word ++ rest_of_line (number ∷ location
 unfoldable pub unreadable_word : List ℕ
 unreadable_word = 117 ∷ 110 ∷ 114 ∷ 101 ∷ 97 ∷ 100 ∷ 97 ∷ 98 ∷ 108 ∷ 101 ∷ []
 
+-- the line `unreadable`
+unfoldable pub unreadable_line : List ℕ
+unreadable_line = unreadable_word ++ (10 ∷ [])
+
 -- the most bytes that a filing may have
 abbrev pub filing_limit : ℕ
 filing_limit = 65536

@@ -1,17 +1,18 @@
-// The line of an answer that refuses, at the front of lent bytes.
-ghost use Rattle.std.specs.Prelude.{◌≤◌, length};
+// The line of a refusal.
+ghost use Rattle.std.specs.Prelude.{◌≡◌, ◌+◌, ◌≤◌, ◌++◌, length};
 ghost use Rattle.answers.specs.Answers.{number_of, location_of};
-ghost use Rattle.text.specs.Appended.{Appended};
+ghost use Rattle.arrayvec.specs.ArrayVec.{array_vec_len};
 ghost use Rattle.text.specs.Lines.{refusal_line};
 
 use crate::lines::append_refusal;
-use answers::locations::location;
-use answers::{Answer, number};
+use answers::Refusal;
+use arrayvec::ArrayVec;
 
-// The number of a refusal and its location.
-pub fn append_refused(out: &mut [u8], answer: Answer) -> usize
-    requires { 50 ≤ length out.old }
-    ensures { Appended out.old 0 (refusal_line (number_of answer) (location_of answer)) out.new result × (result ≤ 50) }
+// The number of a refusal and its location: 50 bytes at most.
+#[tactic(auto, using(crate::proofs::LineLaws::refusal_short))]
+pub fn append_refused<const CAP: usize>(text: &mut ArrayVec<u8, CAP>, refusal: Refusal)
+    requires { array_vec_len text.old + 50 ≤ CAP }
+    ensures { text.new.items ≡ text.old.items ++ refusal_line (number_of refusal) (location_of refusal) }
 {
-    append_refusal(out, 0, number(answer), location(answer) as u64)
+    append_refusal(text, refusal.number(), refusal.location() as u64);
 }

@@ -1,52 +1,60 @@
-// Text in a list of bytes that the caller lends: each function puts its text at an index, where it must fit, and answers the index behind it.
+// Text that is appended to a vector of bytes, which has room for it.
 #![tactic(auto)]
 
 pub mod answer_lines;
 pub mod lines;
 
-ghost use Rattle.std.specs.Prelude.{◌+◌, ◌≤◌, ◌∷◌, [], length};
-ghost use Rattle.text.specs.Appended.{Appended};
+ghost use Rattle.std.specs.Prelude.{◌≡◌, ◌+◌, ◌≤◌, ◌++◌, length};
+ghost use Rattle.arrayvec.specs.ArrayVec.{array_vec_len};
 ghost use Rattle.text.specs.Decimal.{decimal};
-ghost use Rattle.text.specs.Lines.{too_long};
+ghost use Rattle.text.specs.Lines.{unreadable_line, too_long};
 
-// A number in decimal: the digits but the last, and the last.
-pub fn append_number(out: &mut [u8], at: usize, n: u64) -> usize
-    requires { at + length (decimal n) ≤ length out.old }
-    ensures { Appended out.old at (decimal n) out.new result }
+use arrayvec::ArrayVec;
+
+// A number in decimal.
+pub fn append_number<const CAP: usize>(text: &mut ArrayVec<u8, CAP>, n: u64)
+    requires { array_vec_len text.old + length (decimal n) ≤ CAP }
+    ensures { text.new.items ≡ text.old.items ++ decimal n }
 {
-    if n < 10 {
-        return append_byte(out, at, 48 + n as u8);
-    }
-    let behind = append_number(out, at, n / 10);
-    append_byte(out, behind, 48 + (n % 10) as u8)
+    append(text, digits(n).as_slice());
 }
 
-// A list of bytes as it stands.
-pub fn append(out: &mut [u8], at: usize, bytes: &[u8]) -> usize
-    requires { at + length bytes.now ≤ length out.old }
-    ensures { Appended out.old at bytes.now out.new result }
+// The decimal digits of a number: the digits but the last, and the last.
+#[tactic(auto, using(std::proofs::lemmas::Grind::common_steps, crate::proofs::DecimalLaws::decimal_one, crate::proofs::DecimalLaws::decimal_more, crate::proofs::DecimalLaws::decimal_front_length), unfolding(crate::specs::Decimal::digit))]
+fn digits(n: u64) -> ArrayVec<u8, 20>
+    ensures { result.items ≡ decimal n }
 {
-    let mut i: usize = 0;
-    while i < bytes.len() {
-        out[at + i] = bytes[i];
-        i += 1;
-    }
-    at + i
+    let mut digits = if n < 10 {
+        ArrayVec::new()
+    } else {
+        digits(n / 10)
+    };
+    digits.push(b'0' + (n % 10) as u8);
+    digits
 }
 
-// The line `too long`, at the front.
-pub fn append_too_long(out: &mut [u8]) -> usize
-    requires { 9 ≤ length out.old }
-    ensures { Appended out.old 0 too_long out.new result }
+// Bytes as they stand.
+pub fn append<const CAP: usize>(text: &mut ArrayVec<u8, CAP>, bytes: &[u8])
+    requires { array_vec_len text.old + length bytes.now ≤ CAP }
+    ensures { text.new.items ≡ text.old.items ++ bytes.now }
 {
-    append(out, 0, b"too long\n")
+    text.try_extend_from_slice(bytes).unwrap();
 }
 
-// One byte.
-pub fn append_byte(out: &mut [u8], at: usize, byte: u8) -> usize
-    requires { at + 1 ≤ length out.old }
-    ensures { Appended out.old at (byte ∷ []) out.new result }
+// The line `unreadable`.
+#[tactic(auto, unfolding(crate::specs::Lines::unreadable_line, crate::specs::Lines::unreadable_word))]
+pub fn append_unreadable<const CAP: usize>(text: &mut ArrayVec<u8, CAP>)
+    requires { array_vec_len text.old + 11 ≤ CAP }
+    ensures { text.new.items ≡ text.old.items ++ unreadable_line }
 {
-    out[at] = byte;
-    at + 1
+    append(text, b"unreadable\n");
+}
+
+// The line `too long`.
+#[tactic(auto, unfolding(crate::specs::Lines::too_long))]
+pub fn append_too_long<const CAP: usize>(text: &mut ArrayVec<u8, CAP>)
+    requires { array_vec_len text.old + 9 ≤ CAP }
+    ensures { text.new.items ≡ text.old.items ++ too_long }
+{
+    append(text, b"too long\n");
 }

@@ -1,52 +1,52 @@
-// Lines of numbers in a list of bytes that the caller lends: each function puts its text at an index, where it must fit, and answers the index behind it.
-ghost use Rattle.std.specs.Prelude.{◌+◌, ◌≤◌, ◌∷◌, length};
+// Lines of numbers that are appended to a text, which has room for them.
+ghost use Rattle.std.specs.Prelude.{◌≡◌, ◌+◌, ◌≤◌, ◌∷◌, ◌++◌, length};
 ghost use Rattle.std.proofs.Math.IntN.{sub_ℕ};
-ghost use Rattle.text.specs.Appended.{Appended};
+ghost use Rattle.arrayvec.specs.ArrayVec.{array_vec_len};
 ghost use Rattle.text.specs.Decimal.{decimal, signed};
 ghost use Rattle.text.specs.Lines.{rest_of_line, refusal_line};
 
-use crate::{append, append_byte, append_number};
+use crate::{append, append_number};
+use arrayvec::ArrayVec;
 
 // The line of a refusal: `refused`, number and location.
-pub fn append_refusal(out: &mut [u8], at: usize, number: u64, location: u64) -> usize
-    requires { at + length (refusal_line number location) ≤ length out.old }
-    ensures { Appended out.old at (refusal_line number location) out.new result }
+#[tactic(auto, using(crate::proofs::LineLaws::refusal_length), unfolding(crate::specs::Lines::refusal_line, crate::specs::Lines::refused_word))]
+pub fn append_refusal<const CAP: usize>(text: &mut ArrayVec<u8, CAP>, number: u64, location: u64)
+    requires { array_vec_len text.old + length (refusal_line number location) ≤ CAP }
+    ensures { text.new.items ≡ text.old.items ++ refusal_line number location }
 {
-    let word = append(out, at, b"refused");
-    append_line(out, word, &[number, location])
+    append(text, b"refused");
+    append_line(text, &[number, location]);
 }
 
 // The rest of a line: the numbers of a list, each behind a space, and the line feed.
-pub fn append_line(out: &mut [u8], at: usize, numbers: &[u64]) -> usize
-    requires { at + length (rest_of_line numbers.now) ≤ length out.old }
-    ensures { Appended out.old at (rest_of_line numbers.now) out.new result }
+#[tactic(auto, using(std::proofs::lemmas::Grind::common_steps, crate::proofs::LineLaws::rest_number, crate::proofs::LineLaws::rest_end))]
+pub fn append_line<const CAP: usize>(text: &mut ArrayVec<u8, CAP>, numbers: &[u64])
+    requires { array_vec_len text.old + length (rest_of_line numbers.now) ≤ CAP }
+    ensures { text.new.items ≡ text.old.items ++ rest_of_line numbers.now }
 {
-    let mut end = at;
-    let mut i: usize = 0;
-    while i < numbers.len() {
-        end = append_spaced(out, end, numbers[i]);
-        i += 1;
+    for number in numbers {
+        append_spaced(text, *number);
     }
-    append_byte(out, end, b'\n')
+    text.push(b'\n');
 }
 
 // A space and a number.
-pub fn append_spaced(out: &mut [u8], at: usize, n: u64) -> usize
-    requires { at + length (32 ∷ decimal n) ≤ length out.old }
-    ensures { Appended out.old at (32 ∷ decimal n) out.new result }
+pub fn append_spaced<const CAP: usize>(text: &mut ArrayVec<u8, CAP>, n: u64)
+    requires { array_vec_len text.old + length (32 ∷ decimal n) ≤ CAP }
+    ensures { text.new.items ≡ text.old.items ++ (32 ∷ decimal n) }
 {
-    let behind = append_byte(out, at, b' ');
-    append_number(out, behind, n)
+    text.push(b' ');
+    append_number(text, n);
 }
 
 // The difference of two numbers, with its sign where that is a minus.
-pub fn append_difference(out: &mut [u8], at: usize, a: u64, b: u64) -> usize
-    requires { at + length (signed (sub_ℕ a b)) ≤ length out.old }
-    ensures { Appended out.old at (signed (sub_ℕ a b)) out.new result }
+#[tactic(auto, using(std::proofs::lemmas::Grind::common_steps, crate::proofs::DecimalLaws::signed_difference, crate::proofs::DecimalLaws::signed_negative))]
+pub fn append_difference<const CAP: usize>(text: &mut ArrayVec<u8, CAP>, a: u64, b: u64)
+    requires { array_vec_len text.old + length (signed (sub_ℕ a b)) ≤ CAP }
+    ensures { text.new.items ≡ text.old.items ++ signed (sub_ℕ a b) }
 {
     if a < b {
-        let behind = append_byte(out, at, b'-');
-        return append_number(out, behind, b - a);
+        text.push(b'-');
     }
-    append_number(out, at, a - b)
+    append_number(text, a.abs_diff(b));
 }

@@ -1,54 +1,51 @@
 -- The opening of a book: an input that is too long, and the answer on the filing. Assumes nothing.
 use Prim.Native.Nat.{ℕ, ◌≤◌, ◌<◌}
 use mathlib.Core.Path.{◌≡◌, ap, sym, ◌∙◌}
-use mathlib.Core.Bool.{true, false}
 use mathlib.Core.List.{List}
-use native.Mathlib.Omega.{arith}
-use borrow.Author.Tests.{lt-ltb, le-ltb, lt-leb, le-leb, eqb-true}
-use lib.Dec.{eqb}
+use borrow.Author.Tests.{lt-ltb, le-ltb, lt-leb, le-leb, eq-eqb, ne_eqb}
 use lib.ListN.{length}
-use Rattle.answers.specs.Answers.{number_of, verdict_of}
-use Rattle.answers.specs.Verdict.{Verdict}
-use Rattle.answers.proofs.AnswerLaws.{accepted-answer}
+use Rattle.std.specs.Prelude.{Option, None, Some, Ok, Err}
+use Rattle.answers.specs.declared.Refusal.{Refusal}
+use Rattle.answers.specs.Answers.{number_of, location_of}
+use Rattle.answers.specs.Verdict.{Verdict, accepted, refused}
+use Rattle.answers.proofs.AnswerLaws.{refusal-refuses}
 use Rattle.filing.specs.Verdict.{filing_verdict}
-use Rattle.book_state.specs.declared.Answered.{Answered}
+use Rattle.book_state.specs.declared.Book.{Book}
 use Rattle.book_promise.specs.Promise.{OpenedOf}
-use Rattle.text.specs.Appended.{Appended}
-use Rattle.text.specs.Lines.{too_long, filing_limit}
-use Rattle.text.proofs.AppendLaws.{in-front}
-use Rattle.text_book.specs.declared.Opened.{Opened}
+use Rattle.text.specs.Lines.{too_long, filing_limit, refusal_line}
+use Rattle.text.proofs.AnswerLaws.{printed-refused, printed-accepted}
 use Rattle.text_book.specs.BookLines.{opened_line, answer_line}
 use Rattle.text_book.specs.Replies.{opening_text, opens, OpenedAs}
 
-module _ (s : List ℕ) (a : Answered) (of : OpenedOf s a) (before after : List ℕ) (r : Opened) (book : r.book ≡ a.book) where
-  -- too long
-  pub opened-long : filing_limit < length s → r.is_open ≡ false → length too_long ≤ length before → Appended before 0 too_long after r.size
-      → OpenedAs s before after r
-  unfolding opening_text opens
-  opened-long h shut fits text =
+-- too long
+pub opened-long : (s text : List ℕ) → filing_limit < length s → text ≡ too_long → OpenedAs s None text
+unfolding opening_text opens
+opened-long s text h e =
+    record {
+      text-is = e ∙ rw (lt-ltb filing_limit (length s) h);
+      book-is = rw (lt-leb (length s) filing_limit h);
+      kept = λ b z. let y : ◌≡◌ {A = Option Book} None (Some b) = z in absurd (cc);
+    }
+
+module _ (s : List ℕ) (short : length s ≤ filing_limit) where
+  -- a refused filing: its line is the refusal's, and no book is open
+  pub opened-refused : (r : Refusal) (text : List ℕ) → OpenedOf s (Err r) → text ≡ refusal_line (number_of r) (location_of r) → OpenedAs s None text
+  unfolding opening_text opens answer_line refused
+  opened-refused r text of e =
+      let some : (filing_verdict s).number ≡ 0 → ⊥ = rw (← of.answer-is) (refusal-refuses r) in
       record {
-        text-is = rw (lt-ltb filing_limit (length s) h) (in-front too_long before after r.size fits text);
-        open_is = rw (lt-leb (length s) filing_limit h) shut;
-        book-is = book ∙ of.book-is;
-        kept = λ e. let z : true ≡ false = sym e ∙ shut in let y : ◌≡◌ {A = ℕ} 0 1 = cc in absurd (omega arith);
+        text-is = e ∙ printed-refused r (filing_verdict s) opened_line of.answer-is ∙ rw (le-ltb filing_limit (length s) short);
+        book-is = rw (le-leb (length s) filing_limit short, ne_eqb (filing_verdict s).number 0 some);
+        kept = λ b z. let y : ◌≡◌ {A = Option Book} None (Some b) = z in absurd (cc);
       }
 
-  -- by the answer on the filing
-  number_is : number_of a.answer ≡ (filing_verdict s).number
-  unfolding verdict_of
-  number_is = ap (λ (v : Verdict). v.number) of.answer-is
-
-  -- the input is short enough, so that the line is that of the filing's verdict, the book is open just where the answer's number is 0, and
-  -- the book is the one opened, which is kept there
-  pub opened-short : (number : ℕ) → length s ≤ filing_limit → number ≡ number_of a.answer → r.is_open ≡ eqb number 0
-      → Appended before 0 (answer_line opened_line (verdict_of a.answer)) after r.size → r.size ≤ length before → OpenedAs s before after r
-  unfolding opening_text opens
-  opened-short number h n is text fits =
+  -- an accepted filing: the book is the one opened, which is kept
+  pub opened-taken : (book : Book) (text : List ℕ) → OpenedOf s (Ok book) → text ≡ opened_line → OpenedAs s (Some book) text
+  unfolding opening_text opens answer_line accepted
+  opened-taken book text of e =
+      let taken = eq-eqb (filing_verdict s).number 0 (sym (ap (λ (v : Verdict). v.number) of.answer-is)) in
       record {
-        text-is =
-            rw (le-ltb filing_limit (length s) h, sym of.answer-is)
-            (in-front (answer_line opened_line (verdict_of a.answer)) before after r.size (omega (arith, text.end_is, fits)) text);
-        open_is = rw (le-leb (length s) filing_limit h) (is ∙ ap (λ (m : ℕ). eqb m 0) (n ∙ number_is));
-        book-is = book ∙ of.book-is;
-        kept = λ e. rw book (of.kept (accepted-answer a.answer (sym n ∙ eqb-true number 0 (sym is ∙ e))));
+        text-is = e ∙ printed-accepted (filing_verdict s) opened_line of.answer-is ∙ rw (le-ltb filing_limit (length s) short);
+        book-is = rw (le-leb (length s) filing_limit short, taken) (ap Some of.book-is);
+        kept = λ b z. let y : ◌≡◌ {A = Option Book} (Some book) (Some b) = z in let same : b ≡ book = cc in rw same of.kept;
       }

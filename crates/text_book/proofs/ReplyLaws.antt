@@ -11,9 +11,9 @@ use Rattle.text_book.specs.Replies.{place_text}
 
 -- a place of the book, and one above 35
 module _ (b : Book) (place : ℕ) where
-  pub place-held : place < sub_balance_count → held_line (held_in b place) ≡ place_text b place
+  pub place_held : place < sub_balance_count → held_line (held_in b place) ≡ place_text b place
   unfolding place_text
-  place-held h = rw (lt-ltb place sub_balance_count h)
+  place_held h = rw (lt-ltb place sub_balance_count h)
 
   pub place_none : sub_balance_count ≤ place → refusal_line 17 place ≡ place_text b place
   unfolding place_text

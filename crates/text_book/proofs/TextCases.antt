@@ -13,7 +13,9 @@ use Rattle.text.specs.Lines.{spaced, too_long}
 use Rattle.text_book.specs.BookLines.{opened_line, answer_line}
 use Rattle.text_numerals.specs.Numerals as numerals
 use Rattle.text_numerals.specs.Forms.{has_form, form_numbers, form_end}
-use Rattle.text_book.specs.declared.book_commands.Command.TheVariants.{Set, Clear, Place, Totals, Unreadable}
+use Rattle.text_book.specs.declared.book_commands.Command.TheVariants.{Set, Clear, Place, Totals}
+use Rattle.std.specs.Prelude.{Option, None, Some}
+use Rattle.text_book.specs.declared.book_commands.Command.{Command}
 use Rattle.text_book.specs.Commands.{set_word, clear_word, place_word, totals_word, five_numbers, one_number, begins_with, says, number_of, is_totals, short_command, command_of}
 use Rattle.text_book.specs.Replies.{opening_text, opens}
 
@@ -47,7 +49,7 @@ commands-hold : command_of (set_bytes ++ spaced (3 ∷ 1000 ∷ 0 ∷ 1 ∷ 2 �
     ∷ command_of (clear-word ++ (32 ∷ 48 ∷ 48 ∷ 55 ∷ []))
     ∷ command_of (clear-word ++ spaced (18446744073709551615 ∷ []))
     ∷ []
-    ≡ Set 3 1000 0 1 2 ∷ Clear 35 ∷ Place 0 ∷ Totals ∷ Clear 7 ∷ Clear 18446744073709551615 ∷ []
+    ≡ Some (Set 3 1000 0 1 2) ∷ Some (Clear 35) ∷ Some (Place 0) ∷ Some Totals ∷ Some (Clear 7) ∷ Some (Clear 18446744073709551615) ∷ []
 unfolding command_of short_command says begins_with number_of is_totals set_word clear_word place_word totals_word five_numbers one_number has_form form_numbers form_end numerals.byte_at numerals.is_digit numerals.number_end numerals.decimal numerals.number_at numerals.is_number first_from spaced decimal digits_within digit
 commands-hold = refl
 
@@ -63,6 +65,6 @@ unreadable-hold : command_of []
     ∷ command_of (84 ∷ 111 ∷ 116 ∷ 97 ∷ 108 ∷ 115 ∷ [])
     ∷ command_of (replicate 1025 48)
     ∷ []
-    ≡ replicate 10 Unreadable
+    ≡ replicate {A = Option Command} 10 None
 unfolding command_of short_command says begins_with number_of is_totals set_word clear_word place_word totals_word five_numbers one_number has_form form_numbers form_end numerals.byte_at numerals.is_digit numerals.number_end numerals.decimal numerals.number_at numerals.is_number first_from spaced decimal digits_within digit
 unreadable-hold = refl

@@ -4,17 +4,14 @@ use Rattle.std.specs.Prelude.{ℕ, cond, List, [], ◌∷◌, ◌++◌, eqb}
 use Rattle.answers.specs.Verdict.{Verdict}
 use Rattle.form.specs.declared.sub_balances.SubBalance.{SubBalance}
 use Rattle.text.specs.Decimal.{decimal}
-use Rattle.text.specs.Lines.{rest_of_line, refusal_line, unreadable_word}
+use Rattle.text.specs.Lines.{rest_of_line, refusal_line}
 
--- the lines `opened`, `ok` and `unreadable`
+-- the lines `opened` and `ok`
 unfoldable pub opened_line : List ℕ
 opened_line = 111 ∷ 112 ∷ 101 ∷ 110 ∷ 101 ∷ 100 ∷ 10 ∷ []
 
 unfoldable pub ok_line : List ℕ
 ok_line = 111 ∷ 107 ∷ 10 ∷ []
-
-unfoldable pub unreadable_reply : List ℕ
-unreadable_reply = unreadable_word ++ (10 ∷ [])
 
 -- a line where nothing is refused, else the line of the refusal
 unfoldable pub answer_line : List ℕ → Verdict → List ℕ

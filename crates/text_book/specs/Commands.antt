@@ -1,10 +1,10 @@
 -- What a line asks of a book (02:CR 7): `set PLACE BALANCE COUPON MONTHS PENALTY`, `clear PLACE`, `place PLACE`, `totals`, in ASCII bytes; any other
 -- line is unreadable. Numbers are whole, decimal and below 2^64, with single spaces. Definitions only.
-use Rattle.std.specs.Prelude.{ℕ, ◌+◌, Bool, true, cond, ◌&&◌, List, [], ◌∷◌, eqb, ltb, length, get_or}
+use Rattle.std.specs.Prelude.{ℕ, ◌+◌, Bool, true, cond, ◌&&◌, List, [], ◌∷◌, Option, None, Some, eqb, ltb, length, get_or}
 use Rattle.text_numerals.specs.Numerals.{byte_at}
 use Rattle.text_numerals.specs.Forms.{has_form, form_numbers, form_end}
 use Rattle.text_book.specs.declared.book_commands.Command.{Command}
-use Rattle.text_book.specs.declared.book_commands.Command.TheVariants.{Set, Clear, Place, Totals, Unreadable}
+use Rattle.text_book.specs.declared.book_commands.Command.TheVariants.{Set, Clear, Place, Totals}
 
 -- the most bytes that a line may have
 abbrev pub line_limit : ℕ
@@ -46,16 +46,16 @@ number_of s word form i = get_or (form_numbers s (length word) form) i 0
 unfoldable pub is_totals : List ℕ → Bool
 is_totals s = eqb (length s) 6 && begins_with s 0 totals_word
 
--- the command of a line without its line feed
-unfoldable pub short_command : List ℕ → Command
+-- the command of a line without its line feed, where it says one
+unfoldable pub short_command : List ℕ → Option Command
 short_command s =
-    cond (says s set_word five_numbers) (Set (set_number 0) (set_number 1) (set_number 2) (set_number 3) (set_number 4))
-    (cond (says s clear_word one_number) (Clear (number_of s clear_word one_number 0))
-    (cond (says s place_word one_number) (Place (number_of s place_word one_number 0))
-    (cond (is_totals s) Totals Unreadable)))
+    cond (says s set_word five_numbers) (Some (Set (set_number 0) (set_number 1) (set_number 2) (set_number 3) (set_number 4)))
+    (cond (says s clear_word one_number) (Some (Clear (number_of s clear_word one_number 0)))
+    (cond (says s place_word one_number) (Some (Place (number_of s place_word one_number 0)))
+    (cond (is_totals s) (Some Totals) None)))
   where
     set_number : ℕ → ℕ
     set_number i = number_of s set_word five_numbers i
 
-unfoldable pub command_of : List ℕ → Command
-command_of s = cond (ltb line_limit (length s)) Unreadable (short_command s)
+unfoldable pub command_of : List ℕ → Option Command
+command_of s = cond (ltb line_limit (length s)) None (short_command s)

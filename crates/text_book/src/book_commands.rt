@@ -1,6 +1,6 @@
 // What a line asks of a book: a word, and numbers with single spaces between. Nothing runs here.
 
-#[derive(Clone, Copy)]
+#[derive(Clone, Copy, Debug, PartialEq, Eq)]
 pub enum Command {
     Set {
         place: u64,
@@ -12,5 +12,4 @@ pub enum Command {
     Clear(u64),
     Place(u64),
     Totals,
-    Unreadable,
 }

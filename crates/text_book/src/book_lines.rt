@@ -1,96 +1,76 @@
-// The lines that a book prints: the answer on a change, what a place holds, and the totals.
-ghost use Rattle.std.specs.Prelude.{◌++◌, ◌∷◌, [], ◌≤◌, length};
-ghost use Rattle.form.specs.Counts.{place_value_count};
+// The lines that a book prints, appended to a text that has room for them: the answer on a change, what a place holds, and the totals.
+ghost use Rattle.std.specs.Prelude.{◌≡◌, ◌+◌, ◌++◌, ◌∷◌, [], ◌≤◌, length};
 ghost use Rattle.answers.specs.Answers.{verdict_of};
-ghost use Rattle.text.specs.Appended.{Appended};
+ghost use Rattle.arrayvec.specs.ArrayVec.{array_vec_len};
+ghost use Rattle.form.specs.Counts.{place_value_count};
 ghost use Rattle.text.specs.Decimal.{decimal};
 ghost use Rattle.text.specs.Lines.{rest_of_line};
 ghost use Rattle.text_listing.specs.TotalLines.{lines_in};
-ghost use Rattle.text_book.specs.BookLines.{opened_line, ok_line, unreadable_reply, answer_line, held_line};
+ghost use Rattle.text_book.specs.BookLines.{opened_line, ok_line, answer_line, held_line};
 
-use answers::{Answer, number};
+use answers::Refusal;
+use arrayvec::ArrayVec;
 use form::sub_balances::{SubBalance, TOTALS};
 use text::answer_lines::append_refused;
 use text::lines::{append_line, append_spaced};
-use text::{append, append_byte, append_number};
+use text::{append, append_number};
 use text_listing::total_lines::append_scenarios;
 
-// The line of a filing that a book is opened under: `opened`, or its refusal.
-pub(crate) fn append_opened(out: &mut [u8], answer: Answer) -> usize
-    requires { 50 ≤ length out.old }
-    ensures { Appended out.old 0 (answer_line opened_line (verdict_of answer)) out.new result × (result ≤ 50) }
+// The line of a filing that a book is opened under.
+#[tactic(auto, unfolding(crate::specs::BookLines::opened_line))]
+pub(crate) fn append_opened<const CAP: usize>(text: &mut ArrayVec<u8, CAP>)
+    requires { array_vec_len text.old + 50 ≤ CAP }
+    ensures { text.new.items ≡ text.old.items ++ opened_line }
 {
-    append_answer(out, answer, b"opened\n")
+    append(text, b"opened\n");
 }
 
 // The line of a change: `ok`, or its refusal.
-pub(crate) fn append_change(out: &mut [u8], answer: Answer) -> usize
-    requires { 50 ≤ length out.old }
-    ensures { Appended out.old 0 (answer_line ok_line (verdict_of answer)) out.new result × (result ≤ 50) }
+pub(crate) fn append_change<const CAP: usize>(
+    text: &mut ArrayVec<u8, CAP>,
+    answer: Result<(), Refusal>,
+)
+    requires { array_vec_len text.old + 50 ≤ CAP }
+    ensures { text.new.items ≡ text.old.items ++ answer_line ok_line (verdict_of answer) }
 {
-    append_answer(out, answer, b"ok\n")
-}
-
-// The line of a line that says no command.
-pub(crate) fn append_unreadable(out: &mut [u8]) -> usize
-    requires { 50 ≤ length out.old }
-    ensures { Appended out.old 0 unreadable_reply out.new result × (result ≤ 50) }
-{
-    append(out, 0, b"unreadable\n")
-}
-
-// The line of an answer that refuses nothing, or the refusal.
-fn append_answer(out: &mut [u8], answer: Answer, accepted: &[u8]) -> usize
-    requires { (50 ≤ length out.old) × (length accepted.now ≤ 50) }
-    ensures { Appended out.old 0 (answer_line accepted.now (verdict_of answer)) out.new result × (result ≤ 50) }
-{
-    if number(answer) == 0 {
-        return append(out, 0, accepted);
+    match answer {
+        Ok(()) => append(text, b"ok\n"),
+        Err(refusal) => append_refused(text, refusal),
     }
-    append_refused(out, answer)
 }
 
-// What a place holds.
-pub(crate) fn append_held(out: &mut [u8], held: SubBalance) -> usize
-    requires { 644 ≤ length out.old }
-    ensures { Appended out.old 0 (held_line held) out.new result × (result ≤ 644) }
+// What a place holds: balance, coupon, months, penalty and fourteen values.
+#[tactic(auto, using(std::proofs::lemmas::Grind::common_steps, text::proofs::DecimalLaws::decimal_length, crate::proofs::LineLaws::held_text))]
+pub(crate) fn append_held<const CAP: usize>(text: &mut ArrayVec<u8, CAP>, held: &SubBalance)
+    requires { array_vec_len text.old + 644 ≤ CAP }
+    ensures { text.new.items ≡ text.old.items ++ held_line held.now }
 {
-    let values = held.values;
-    append_numbers(
-        out,
-        held.balance,
-        held.coupon,
-        held.remaining_months,
-        held.penalty,
-        &values,
-    )
+    append_number(text, held.balance);
+    append_spaced(text, held.coupon);
+    append_spaced(text, held.remaining_months);
+    append_spaced(text, held.penalty);
+    append_values(text, &held.values);
 }
 
-// Balance, coupon, months, penalty and fourteen values.
-fn append_numbers(
-    out: &mut [u8],
-    balance: u64,
-    coupon: u64,
-    months: u64,
-    penalty: u64,
-    values: &[u64],
-) -> usize
-    requires { (644 ≤ length out.old) × (length values.now ≤ place_value_count) }
-    ensures { Appended out.old 0 (decimal balance ++ rest_of_line (coupon ∷ months ∷ penalty ∷ values.now)) out.new result × (result ≤ 644) }
+// The values of a place, and the line feed.
+fn append_values<const CAP: usize>(text: &mut ArrayVec<u8, CAP>, values: &[u64])
+    requires { (array_vec_len text.old + 295 ≤ CAP) × (length values.now ≤ place_value_count) }
+    ensures { text.new.items ≡ text.old.items ++ rest_of_line values.now }
 {
-    let first = append_number(out, 0, balance);
-    let second = append_spaced(out, first, coupon);
-    let third = append_spaced(out, second, months);
-    let fourth = append_spaced(out, third, penalty);
-    append_line(out, fourth, values)
+    append_line(text, values);
 }
 
 // The balance total and the lines of the seven scenarios.
-pub(crate) fn append_totals(out: &mut [u8], balance: u64, totals: &[u64; TOTALS]) -> usize
-    requires { 644 ≤ length out.old }
-    ensures { Appended out.old 0 ((decimal balance ++ (10 ∷ [])) ++ lines_in totals.now 0 4) out.new result × (result ≤ 644) }
+#[tactic(auto, using(std::proofs::lemmas::Grind::common_steps, text::proofs::DecimalLaws::decimal_length))]
+pub(crate) fn append_totals<const CAP: usize>(
+    text: &mut ArrayVec<u8, CAP>,
+    balance: u64,
+    totals: &[u64; TOTALS],
+)
+    requires { array_vec_len text.old + 644 ≤ CAP }
+    ensures { text.new.items ≡ text.old.items ++ ((decimal balance ++ (10 ∷ [])) ++ lines_in totals.now 0 4) }
 {
-    let behind = append_number(out, 0, balance);
-    let next = append_byte(out, behind, b'\n');
-    append_scenarios(out, next, totals, 0, 4)
+    append_number(text, balance);
+    text.push(b'\n');
+    append_scenarios(text, totals, 0, 4);
 }

@@ -14,80 +14,69 @@ ghost use Rattle.text_book.specs.Replies.{OpenedAs, ObeyedAs};
 use crate::book_lines::append_opened;
 use crate::line_commands::command_of;
 use crate::replies::reply;
-use answers::number;
+use arrayvec::ArrayVec;
 use book_calls::open;
 use book_state::Book;
+use text::answer_lines::append_refused;
 use text::append_too_long;
+use text_listing::FILING_LIMIT;
 
 // What the program reads of a filing and of a line: one byte more than the 65,536 and the 1,024 that they may have, so that a longer one shows.
 pub type FilingInput = [u8; 65537];
 
 pub type LineInput = [u8; 1025];
 
+// What is printed to a line: the balance total and seven lines, 644 bytes at most.
+pub type Reply = ArrayVec<u8, 644>;
+
+// The book under a filing, where it is open, and what is printed of its opening.
+#[derive(Drop)]
+pub struct Opened {
+    pub book: Option<Book>,
+    pub text: Reply,
+}
+
 // Opens a book as `open_book` does, under the first `size` bytes that were read of a filing.
-pub fn open_read(input: &FilingInput, size: usize, out: &mut [u8; 644]) -> Opened
-    ensures opened { OpenedAs (take size input.now) out.old out.new result }
+pub fn open_read(input: &FilingInput, size: usize) -> Opened
+    ensures opened { OpenedAs (take size input.now) result.book result.text.items }
 {
-    let bytes: &[u8] = input;
-    if bytes.len() < size {
-        return open_book(bytes, out);
-    }
-    open_book(&bytes[..size], out)
+    open_book(&input[..size.min(input.len())])
 }
 
 // Obeys a line as `obey` does: the first `size` bytes that were read of it.
-pub fn obey_read(book: Book, input: &LineInput, size: usize, out: &mut [u8; 644]) -> Obeyed
-    ensures obeyed { ObeyedAs book (command_of (take size input.now)) out.old out.new result }
+pub fn obey_read(book: &mut Book, input: &LineInput, size: usize) -> Reply
+    ensures obeyed { ObeyedAs book.old (command_of (take size input.now)) result.items book.new }
 {
-    let bytes: &[u8] = input;
-    if bytes.len() < size {
-        return obey(book, bytes, out);
-    }
-    obey(book, &bytes[..size], out)
+    obey(book, &input[..size.min(input.len())])
 }
 
-// Opens a book under a filing, puts what is printed of it at the front of the bytes and counts it.
-pub fn open_book(filing: &[u8], out: &mut [u8; 644]) -> Opened
-    ensures opened { OpenedAs filing.now out.old out.new result }
+// Opens a book under a filing, and answers what is printed of it.
+pub fn open_book(filing: &[u8]) -> Opened
+    ensures opened { OpenedAs filing.now result.book result.text.items }
 {
-    let opened = open(filing);
-    let book = opened.book;
-    let answer = opened.answer;
-    if 65536 < filing.len() {
-        let size = append_too_long(out);
-        return Opened {
-            is_open: false,
-            book,
-            size,
-        };
+    let mut text = ArrayVec::new();
+    if FILING_LIMIT < filing.len() {
+        append_too_long(&mut text);
+        return Opened { book: None, text };
     }
-    let size = append_opened(out, answer);
-    Opened {
-        is_open: number(answer) == 0,
-        book,
-        size,
+    match open(filing) {
+        Ok(book) => {
+            append_opened(&mut text);
+            Opened {
+                book: Some(book),
+                text,
+            }
+        }
+        Err(refusal) => {
+            append_refused(&mut text, refusal);
+            Opened { book: None, text }
+        }
     }
 }
 
-// Obeys a line, given without its line feed; puts what is printed to it at the front of the bytes and counts it.
-pub fn obey(book: Book, line: &[u8], out: &mut [u8; 644]) -> Obeyed
-    ensures obeyed { ObeyedAs book (command_of line.now) out.old out.new result }
+// Obeys a line, given without its line feed, and answers what is printed to it.
+pub fn obey(book: &mut Book, line: &[u8]) -> Reply
+    ensures obeyed { ObeyedAs book.old (command_of line.now) result.items book.new }
 {
-    let command = command_of(line);
-    reply(book, command, out)
-}
-
-// The book under a filing, whether it is open, and how many bytes are printed.
-#[derive(Clone, Copy)]
-pub struct Opened {
-    pub is_open: bool,
-    pub book: Book,
-    pub size: usize,
-}
-
-// The book after a command, and how many bytes are printed.
-#[derive(Clone, Copy)]
-pub struct Obeyed {
-    pub book: Book,
-    pub size: usize,
+    reply(book, command_of(line))
 }

@@ -5,33 +5,30 @@ ghost use Rattle.text_book.specs.Commands.{command_of};
 use crate::book_commands::Command;
 use crate::command_words::{is_totals, numbers_behind};
 
-// The command of a line without its line feed.
-pub(crate) fn command_of(line: &[u8]) -> Command
+// The most bytes of a line.
+const LINE_LIMIT: usize = 1024;
+
+// The command of a line without its line feed, where it says one.
+pub(crate) fn command_of(line: &[u8]) -> Option<Command>
     ensures { result ≡ command_of line.now }
 {
-    if 1024 < line.len() {
-        return Command::Unreadable;
+    if LINE_LIMIT < line.len() {
+        return None;
     }
-    let set = numbers_behind(line, b"set ", b"    \n");
-    if set.readable {
-        return Command::Set {
-            place: set.numbers[0],
-            balance: set.numbers[1],
-            coupon: set.numbers[2],
-            months: set.numbers[3],
-            penalty: set.numbers[4],
-        };
+    if let Some(numbers) = numbers_behind(line, b"set ", b"    \n") {
+        return Some(Command::Set {
+            place: numbers[0],
+            balance: numbers[1],
+            coupon: numbers[2],
+            months: numbers[3],
+            penalty: numbers[4],
+        });
     }
-    let clear = numbers_behind(line, b"clear ", b"\n");
-    if clear.readable {
-        return Command::Clear(clear.numbers[0]);
+    if let Some(numbers) = numbers_behind(line, b"clear ", b"\n") {
+        return Some(Command::Clear(numbers[0]));
     }
-    let place = numbers_behind(line, b"place ", b"\n");
-    if place.readable {
-        return Command::Place(place.numbers[0]);
+    if let Some(numbers) = numbers_behind(line, b"place ", b"\n") {
+        return Some(Command::Place(numbers[0]));
     }
-    if is_totals(line) {
-        return Command::Totals;
-    }
-    Command::Unreadable
+    is_totals(line).then_some(Command::Totals)
 }

@@ -1,23 +1,27 @@
-// What is printed to a command, put at the front of lent bytes: 644 at most, the balance total and seven lines.
-ghost use Rattle.std.specs.Prelude.{◌≡◌, ◌≤◌, length};
-ghost use Rattle.answers.specs.Answers.{verdict_of};
-ghost use Rattle.text.specs.Appended.{Appended};
-ghost use Rattle.text_book.specs.BookLines.{ok_line, answer_line};
+// What is printed to a command.
+ghost use Rattle.std.specs.Prelude.{◌≡◌, ◌+◌, ◌≤◌, ◌++◌};
+ghost use Rattle.arrayvec.specs.ArrayVec.{array_vec_len};
 ghost use Rattle.text_book.specs.Replies.{place_text, ObeyedAs};
 
-use crate::Obeyed;
+use crate::Reply;
 use crate::book_commands::Command;
-use crate::book_lines::{append_change, append_held, append_totals, append_unreadable};
+use crate::book_lines::{append_change, append_held, append_totals};
+use arrayvec::ArrayVec;
 use book_calls::{clear, set};
-use book_state::{Answered, Book};
+use book_state::Book;
 use form::sub_balances::SUB_BALANCES;
+use text::append_unreadable;
 use text::lines::append_refusal;
 
-// Obeys a command.
-pub(crate) fn reply(book: Book, command: Command, out: &mut [u8]) -> Obeyed
-    requires { 644 ≤ length out.old }
-    ensures { ObeyedAs book command out.old out.new result }
+// Obeys a command; a line that says none is unreadable.
+pub(crate) fn reply(book: &mut Book, command: Option<Command>) -> Reply
+    ensures { ObeyedAs book.old command result.items book.new }
 {
+    let mut text = ArrayVec::new();
+    let Some(command) = command else {
+        append_unreadable(&mut text);
+        return text;
+    };
     match command {
         Command::Set {
             place,
@@ -25,46 +29,35 @@ pub(crate) fn reply(book: Book, command: Command, out: &mut [u8]) -> Obeyed
             coupon,
             months,
             penalty,
-        } => reply_change(
-            set(book, place as usize, balance, coupon, months, penalty),
-            out,
-        ),
-        Command::Clear(place) => reply_change(clear(book, place as usize), out),
+        } => {
+            let changed = set(book, place as usize, balance, coupon, months, penalty);
+            append_change(&mut text, changed);
+            text
+        }
+        Command::Clear(place) => {
+            append_change(&mut text, clear(book, place as usize));
+            text
+        }
         Command::Place(place) => {
-            let size = append_place(out, book, place as usize);
-            Obeyed { book, size }
+            append_place(&mut text, book, place as usize);
+            text
         }
         Command::Totals => {
-            let totals = book.totals;
-            let size = append_totals(out, book.balance, &totals);
-            Obeyed { book, size }
-        }
-        Command::Unreadable => {
-            let size = append_unreadable(out);
-            Obeyed { book, size }
+            append_totals(&mut text, book.balance, &book.totals);
+            text
         }
     }
-}
-
-// `ok`, or the refusal.
-fn reply_change(changed: Answered, out: &mut [u8]) -> Obeyed
-    requires { 50 ≤ length out.old }
-    ensures { (result.book ≡ changed.book) × (Appended out.old 0 (answer_line ok_line (verdict_of changed.answer)) out.new result.size × (result.size ≤ 50)) }
-{
-    let answer = changed.answer;
-    let book = changed.book;
-    let size = append_change(out, answer);
-    Obeyed { book, size }
 }
 
 // What a place holds; 17 for a place above 35.
-fn append_place(out: &mut [u8], book: Book, at: usize) -> usize
-    requires { 644 ≤ length out.old }
-    ensures { Appended out.old 0 (place_text book at) out.new result × (result ≤ 644) }
+#[tactic(auto, using(crate::proofs::ReplyLaws::place_held, crate::proofs::ReplyLaws::place_none, text::proofs::LineLaws::refusal_short))]
+fn append_place<const CAP: usize>(text: &mut ArrayVec<u8, CAP>, book: &Book, at: usize)
+    requires { array_vec_len text.old + 644 ≤ CAP }
+    ensures { text.new.items ≡ text.old.items ++ place_text book.now at }
 {
     if SUB_BALANCES <= at {
-        return append_refusal(out, 0, 17, at as u64);
+        append_refusal(text, 17, at as u64);
+    } else {
+        append_held(text, &book.places[at]);
     }
-    let held = book.places[at];
-    append_held(out, held)
 }

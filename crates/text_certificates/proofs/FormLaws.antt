@@ -17,7 +17,7 @@ use Rattle.lists.proofs.RangeLaws.{search-here, search-next, search-end, least-f
 use Rattle.text_numerals.specs.Numerals.{byte_at, is_digit, number_end, is_number}
 use Rattle.text_numerals.specs.Forms.{has_form, form_numbers, form_end}
 use Rattle.text_certificates.specs.Texts.{line_end}
-use Rattle.text_numerals.proofs.NumeralLaws.{number-end-le}
+use Rattle.text_numerals.proofs.NumeralLaws.{number_end_le}
 
 -- what does not pass is skipped
 skip : (test : ℕ → Bool) (at e d : ℕ) → at + d ≤ e → ((k : ℕ) → at ≤ k → k < at + d → test k ≡ false)
@@ -52,7 +52,7 @@ module _ (s : List ℕ) where
     line-number : line_end s at ≡ line_end s (number_end s at)
     unfolding line_end
     line-number =
-        let end = number-end-le s at some in
+        let end = number_end_le s at some in
         let e : at + (number_end s at - at) ≡ number_end s at = omega arith in
         skip (λ (i : ℕ). eqb (byte_at s i) 10) at (length s) (number_end s at - at) (omega arith)
         (λ k l u. digit-feed (byte_at s k) (digits k l (omega (arith, u, e))))
@@ -116,7 +116,7 @@ form-room s at (x ∷ xs) h =
 -- a form does not end beyond the text
 pub form-end-le : (s : List ℕ) (at x : ℕ) (xs : List ℕ) → has_form s at (x ∷ xs) ≡ true → form_end s at (x ∷ xs) ≤ length s + 1
 unfolding form_end
-form-end-le s at x [] h = omega (arith, number-end-le s at (form-begins s at x [] h).some)
+form-end-le s at x [] h = omega (arith, number_end_le s at (form-begins s at x [] h).some)
 form-end-le s at x (y ∷ ys) h = form-end-le s (number_end s at + 1) y ys (form-begins s at x (y ∷ ys) h).rest
 
 -- as many numbers as separators

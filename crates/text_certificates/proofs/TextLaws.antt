@@ -1,29 +1,30 @@
 -- A text line by line: what is known before a line, and what the first unreadable line or the text's end makes of it. Assumes nothing.
-use Prim.Native.Nat.{ℕ, zero, suc, ◌+◌, ◌*◌, ◌≤◌, ◌<◌}
+use Prim.Native.Nat.{ℕ, zero, suc, ◌+◌, ◌*◌, ◌-◌, ◌≤◌, ◌<◌}
 use native.Mathlib.Nat.{not-suc-le-zero, zero-add, add-suc, suc-add, add-zero}
 use native.Mathlib.Numerals.{add-one}
 use native.Mathlib.Omega.{arith}
 use mathlib.Core.Path.{◌≡◌, refl, sym, ap, ◌∙◌}
 use mathlib.Core.Logic.{⊎_elim}
 use mathlib.Core.Bool.{Bool, true, false, not, cond}
-use mathlib.Core.List.{List, [], ◌∷◌, append-nil}
+use mathlib.Core.List.{List, [], ◌∷◌, ◌++◌, append-nil, append_assoc}
 use borrow.Author.Count.{below_more}
-use borrow.Author.Tests.{lt-ltb, le-ltb, le-leb, lt-leb}
-use lib.Dec.{leb}
-use lib.ListN.{length, get_or}
-use Rattle.lists.specs.Runs.{written}
+use borrow.Author.Tests.{lt-ltb, le-ltb, le-leb, lt-leb, ne_eqb}
+use lib.Dec.{leb, eqb}
+use lib.ListN.{length, get_or, length-append}
 use Rattle.lists.specs.Tables.{table, joined}
 use Rattle.lists.specs.Ranges.{first_from}
 use Rattle.lists.proofs.OrderLaws.{lt-or-le}
-use Rattle.lists.proofs.RunLaws.{Overwritten, overwritten-row}
+use Rattle.lists.proofs.TableLaws.{joined_length, joined-suc}
 use Rattle.lists.proofs.RangeLaws.{least-is, least-passes, least-ge}
 use Rattle.certificate_calendar.specs.declared.Date.{Date}
 use Rattle.text_numerals.specs.declared.Line.{Line}
 use Rattle.text_numerals.specs.Forms.{has_form, form_numbers, form_end}
 use Rattle.text_certificates.specs.Lines.{date_form, certificate_form}
-use Rattle.text_certificates.specs.Texts.{line_end, line_start, line_count, line_form, is_readable, first_unreadable, unreadable_line, line_numbers, valuation_of, read_date}
+use Rattle.text_certificates.specs.Texts.{line_end, line_start, line_count, line_form, is_readable, first_unreadable, unreadable_line, line_numbers, valuation_of}
 use Rattle.text_numerals.specs.Inner.Fields.{line_at}
-use Rattle.text_numerals.proofs.LineLaws.{line-is, line-none}
+use Rattle.std.specs.Prelude.{Some, Result, Ok, Err}
+use Rattle.text_certificates.specs.declared.certificates_input.Unreadable.{Unreadable}
+use Rattle.text_numerals.proofs.LineLaws.{line_is}
 use Rattle.text_certificates.proofs.FormLaws.{form-line, form-room, form-end-le, form-length}
 
 -- a search in which nothing passes
@@ -160,28 +161,16 @@ module _ (s : List ℕ) where
     none-fails = rw (none_first, count-is, le-ltb l l (omega arith))
 
 -- the valuation date of the first line
-valuation-read : (s : List ℕ) (r : Line) → r ≡ line_at s 0 date_form → has_form s 0 date_form ≡ true
-    → record { year = get_or r.numbers 0 0; month = get_or r.numbers 1 0; day = get_or r.numbers 2 0 } ≡ valuation_of s
+pub valuation-read : (s : List ℕ) (line : Line) → line_at s 0 date_form ≡ Some line
+    → record { year = get_or line.numbers 0 0; month = get_or line.numbers 1 0; day = get_or line.numbers 2 0 } ≡ valuation_of s
 unfolding valuation_of line_numbers line_start line_form date_form form_numbers
-valuation-read s r e h = rw (line-is s 0 date_form r e h)
-
--- all 0 where the first line is no date
-pub date-read : (s : List ℕ) (r : Line) → r ≡ line_at s 0 date_form
-    → record { year = get_or r.numbers 0 0; month = get_or r.numbers 1 0; day = get_or r.numbers 2 0 } ≡ read_date s
-unfolding read_date is_readable line_start line_form
-date-read s r e = by (has_form s 0 date_form) refl
-  where
-    by : (b : Bool) → has_form s 0 date_form ≡ b
-        → record { year = get_or r.numbers 0 0; month = get_or r.numbers 1 0; day = get_or r.numbers 2 0 }
-        ≡ cond {A = Date} b (valuation_of s) (record { year = 0; month = 0; day = 0 })
-    by true h = valuation-read s r e h
-    by false h = rw (line-none s 0 date_form r e h)
+valuation-read s line e = rw (line_is s 0 date_form line e)
 
 -- the numbers of a certificate's line
-pub certificate-read : (s : List ℕ) (at : ℕ) (r : Line) → r ≡ line_at s at certificate_form → has_form s at certificate_form ≡ true
-    → (r.numbers ≡ form_numbers s at certificate_form) × (r.next ≡ form_end s at certificate_form)
+pub certificate-read : (s : List ℕ) (at : ℕ) (line : Line) → line_at s at certificate_form ≡ Some line
+    → (line.numbers ≡ form_numbers s at certificate_form) × (line.next ≡ form_end s at certificate_form)
 unfolding certificate_form
-certificate-read s at r e h = rw (line-is s at certificate_form r e h) (append-nil (form_numbers s at certificate_form), refl)
+certificate-read s at line e = rw (line_is s at certificate_form line e) (append-nil (form_numbers s at certificate_form), refl)
 
 pub numbers-are : (s : List ℕ) (count at : ℕ) → LinesRead s (count + 1) at → form_numbers s at certificate_form ≡ line_numbers s (suc count)
 unfolding line_numbers line_form
@@ -195,14 +184,34 @@ pub certificate-eight : (s : List ℕ) (k : ℕ) → length (line_numbers s (suc
 unfolding line_numbers line_form
 certificate-eight s k = certificate-length s (line_start s (suc k))
 
--- the numbers of the certificates so far stand in front of a list that was `before`
-module _ (s before numbers : List ℕ) (count : ℕ) where
-  abbrev pub Stored : Type 0
-  Stored = Overwritten (joined (table count (λ (k : ℕ). line_numbers s (suc k)))) (8 * count) before numbers
+-- the numbers of the certificates so far stand behind the list `before`, and so do those of one more
+module _ (s before : List ℕ) (count : ℕ) where
+  abbrev pub stored : List ℕ
+  stored = before ++ joined (table count (λ (k : ℕ). line_numbers s (suc k)))
 
-  -- one line more
-  pub stored_next : (values : List ℕ) → values ≡ line_numbers s (suc count) → 8 * count + 8 ≤ length before → Stored
-      → Overwritten (joined (table (count + 1) (λ (k : ℕ). line_numbers s (suc k)))) (8 * (count + 1)) before (written numbers (8 * count) values)
-  stored_next values e room w =
-      overwritten-row [] (λ (k : ℕ). line_numbers s (suc k)) 8 (λ i. certificate-eight s i) count (8 * count) (8 * (count + 1)) before numbers values w e
-      (omega arith) (omega arith)
+  pub stored_length : length stored ≡ length before + 8 * count
+  stored_length = simp length-append (omega (arith, joined_length 8 0 count (λ (k : ℕ). line_numbers s (suc k)) (certificate-eight s)))
+
+  pub stored_next : (values : List ℕ) → values ≡ line_numbers s (suc count)
+      → stored ++ values ≡ before ++ joined (table (count + 1) (λ (k : ℕ). line_numbers s (suc k)))
+  stored_next values e = rw (e, joined-suc count (λ (k : ℕ). line_numbers s (suc k)), append_assoc)
+
+-- a line more, behind l lines of which the first is the date
+pub stored_line : (s before : List ℕ) (l at : ℕ) (values : List ℕ) → LinesRead s l at → values ≡ form_numbers s at certificate_form
+    → stored s before (l - 1) ++ values ≡ stored s before (l + 1 - 1)
+stored_line s before l at values read e =
+    let some : 1 ≤ l = read.some in
+    let back : l - 1 + 1 ≡ l = omega arith in
+    let more : l + 1 - 1 ≡ l - 1 + 1 = omega arith in
+    let here : LinesRead s (l - 1 + 1) at = rw back read in
+    rw more (stored_next s before (l - 1) values (e ∙ numbers-are s (l - 1) at here))
+
+-- what is answered of a text with an unreadable line, and of one with none
+module _ (s : List ℕ) where
+  pub answered-line : (line : ℕ) → 0 < line → unreadable_line s ≡ line
+      → ◌≡◌ {A = Result Date Unreadable} (Err (record { line = line })) (cond (eqb (unreadable_line s) 0) (Ok (valuation_of s)) (Err (record { line = unreadable_line s })))
+  answered-line line some e = rw (e, ne_eqb line 0 (λ z. omega arith))
+
+  pub answered-date : (valuation : Date) → unreadable_line s ≡ 0 → valuation ≡ valuation_of s
+      → ◌≡◌ {A = Result Date Unreadable} (Ok valuation) (cond (eqb (unreadable_line s) 0) (Ok (valuation_of s)) (Err (record { line = unreadable_line s })))
+  answered-date valuation e v = rw (e, v)

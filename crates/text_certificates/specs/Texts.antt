@@ -1,9 +1,9 @@
 -- A text of lines: the valuation date, then a certificate a line. Definitions only.
-use Rattle.std.specs.Prelude.{ℕ, zero, suc, ◌+◌, ◌*◌, ◌-◌, ◌≤◌, ◌≡◌, Bool, cond, not, List, ◌++◌, length, get_or, drop, leb, ltb, eqb}
+use Rattle.std.specs.Prelude.{ℕ, zero, suc, ◌+◌, ◌-◌, ◌≡◌, Bool, cond, not, List, ◌++◌, Result, Ok, Err, length, get_or, leb, ltb, eqb}
 use Rattle.lists.specs.Tables.{table, joined}
 use Rattle.certificate_calendar.specs.declared.Date.{Date}
 use Rattle.lists.specs.Ranges.{first_from}
-use Rattle.text_certificates.specs.declared.certificates_input.Text.{Text}
+use Rattle.text_certificates.specs.declared.certificates_input.Unreadable.{Unreadable}
 use Rattle.text_numerals.specs.Numerals.{byte_at}
 use Rattle.text_numerals.specs.Forms.{has_form, form_numbers}
 use Rattle.text_certificates.specs.Lines.{date_form, certificate_form}
@@ -48,19 +48,12 @@ valuation_of s = record { year = get_or (line_numbers s 0) 0 0; month = get_or (
 unfoldable pub certificates_of : List ℕ → List ℕ
 certificates_of s = joined (table (line_count s - 1) (λ (k : ℕ). line_numbers s (suc k)))
 
--- what is read of any text: the valuation date, all 0 where the first line is not of its form, and how many certificates, those before the first line
--- that is not of its form
-unfoldable pub read_date : List ℕ → Date
-read_date s = cond (is_readable s 0) (valuation_of s) (record { year = 0; month = 0; day = 0 })
-
+-- how many certificates are read of any text: those before the first line that is not of its form
 unfoldable pub read_count : List ℕ → ℕ
 read_count s = first_unreadable s - 1
 
--- what the call promises: before and after are the lent numbers at the call and at the return. The numbers of the certificates that are read stand in
--- front, the rest is as it was
-pub record TextRead (s before after : List ℕ) (r : Text) : Type 0 where
-  pub unreadable-is : r.unreadable ≡ unreadable_line s
-  pub valuation-is : r.valuation ≡ read_date s
-  pub count-is : r.count ≡ read_count s
-  pub numbers-are : after ≡ joined (table (read_count s) (λ (k : ℕ). line_numbers s (suc k))) ++ drop (8 * read_count s) before
-  pub fits : 8 * r.count ≤ length after
+-- what the call promises: before and after are the numbers given at the call and at the return, and r is its answer. It is the valuation date, or the first
+-- line that is not of its form; the numbers of the certificates that are read stand behind those given
+pub record TextRead (s before after : List ℕ) (r : Result Date Unreadable) : Type 0 where
+  pub result-is : r ≡ cond (eqb (unreadable_line s) 0) (Ok (valuation_of s)) (Err (record { line = unreadable_line s }))
+  pub numbers-are : after ≡ before ++ joined (table (read_count s) (λ (k : ℕ). line_numbers s (suc k)))

@@ -1,43 +1,42 @@
-// The lines of cells and of an unreadable line, at the front of lent bytes.
-ghost use Rattle.std.specs.Prelude.{◌+◌, ◌≤◌, [], ◌∷◌, ◌++◌, length, take};
-ghost use Rattle.text.specs.Appended.{Appended};
+// The lines of cells and of an unreadable line, appended to a text that has room for them.
+ghost use Rattle.std.specs.Prelude.{◌≡◌, ◌+◌, ◌*◌, ◌≤◌, [], ◌∷◌, ◌++◌, length};
+ghost use Rattle.arrayvec.specs.ArrayVec.{array_vec_len};
 ghost use Rattle.text.specs.Decimal.{decimal};
 ghost use Rattle.text.specs.Lines.{rest_of_line};
 ghost use Rattle.text_certificates.specs.CellLines.{cell_lines, unreadable_text};
 
-use certificate_cells::filled_cells::Cells;
+use arrayvec::ArrayVec;
+use certificate_cells::filled_cells::CellValue;
 use text::lines::append_line;
 use text::{append, append_number};
 
-// The line of each cell, at the front.
-pub(crate) fn append_cells(out: &mut [u8], cells: Cells) -> usize
-    requires { (1176 ≤ length out.old) × ((cells.count ≤ 28) × (cells.count ≤ length cells.cells)) }
-    ensures { Appended out.old 0 (cell_lines (take cells.count cells.cells)) out.new result × (result ≤ 1176) }
+// The line of each cell.
+pub(crate) fn append_cells<const CAP: usize>(text: &mut ArrayVec<u8, CAP>, cells: &[CellValue])
+    requires { array_vec_len text.old + 42 * length cells.now ≤ CAP }
+    ensures { text.new.items ≡ text.old.items ++ cell_lines cells.now }
 {
-    let mut end: usize = 0;
-    let mut i: usize = 0;
-    while i < cells.count {
-        let c = cells.cells[i];
-        end = append_cell(out, end, c.cell as u64, c.value);
-        i += 1;
+    for filled in cells {
+        append_cell(text, filled.cell as u64, filled.value);
     }
-    end
 }
 
 // The line of a cell.
-fn append_cell(out: &mut [u8], at: usize, cell: u64, value: u64) -> usize
-    requires { at + 42 ≤ length out.old }
-    ensures { Appended out.old at (decimal cell ++ rest_of_line (value ∷ [])) out.new result × (result ≤ at + 42) }
+#[tactic(auto, using(std::proofs::lemmas::Grind::common_steps, text::proofs::DecimalLaws::decimal_length, crate::proofs::CellLineLaws::rest_short))]
+fn append_cell<const CAP: usize>(text: &mut ArrayVec<u8, CAP>, cell: u64, value: u64)
+    requires { array_vec_len text.old + 42 ≤ CAP }
+    ensures line { text.new.items ≡ text.old.items ++ (decimal cell ++ rest_of_line (value ∷ [])) }
+    ensures short { array_vec_len text.new ≤ array_vec_len text.old + 42 }
 {
-    let behind = append_number(out, at, cell);
-    append_line(out, behind, &[value])
+    append_number(text, cell);
+    append_line(text, &[value]);
 }
 
-// The line of an unreadable line, at the front.
-pub(crate) fn append_unreadable(out: &mut [u8], line: u64) -> usize
-    requires { 42 ≤ length out.old }
-    ensures { Appended out.old 0 (unreadable_text line) out.new result × (result ≤ 42) }
+// The line of an unreadable line.
+#[tactic(auto, using(std::proofs::lemmas::Grind::common_steps, crate::proofs::CellLineLaws::rest_short), unfolding(crate::specs::CellLines::unreadable_text, text::specs::Lines::unreadable_word))]
+pub(crate) fn append_unreadable<const CAP: usize>(text: &mut ArrayVec<u8, CAP>, line: u64)
+    requires { array_vec_len text.old + 42 ≤ CAP }
+    ensures { text.new.items ≡ text.old.items ++ unreadable_text line }
 {
-    let word = append(out, 0, b"unreadable");
-    append_line(out, word, &[line])
+    append(text, b"unreadable");
+    append_line(text, &[line]);
 }

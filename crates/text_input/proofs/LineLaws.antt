@@ -1,88 +1,43 @@
--- The step taken over the bytes of a stream, and then its end, gives the stream's next line. Assumes nothing.
+-- A line that is read byte by byte into lent bytes is the first line of the bytes read. Assumes nothing.
 use Prim.Native.Nat.{ℕ, suc, ◌≤◌, ◌<◌}
 use native.Mathlib.Omega.{arith}
 use native.Mathlib.Numerals.{add-one}
-use mathlib.Core.Path.{◌≡◌, refl, sym, ap, ◌∙◌}
-use mathlib.Core.Bool.{Bool, true, false, cond, ◌||◌, or_assoc, or-false}
-use mathlib.Core.List.{List, [], ◌∷◌, ◌++◌, map, foldl, append_assoc, append-nil}
+use mathlib.Core.Path.{◌≡◌, refl, ap, ◌∙◌}
+use mathlib.Core.Bool.{Bool, true, false, cond}
+use mathlib.Core.List.{List, [], ◌∷◌, ◌++◌, append_assoc, append-nil}
 use lib.Dec.{ltb}
 use lib.ListN.{length, take, drop, set, length-append, length-take, length-drop, drop_of_length-le}
 use lib.Seq.{take-nil, take-append-le, take_all, length-take-le, drop-cons, set-append_seam}
-use borrow.Author.Tests.{le-ltb, ltb-true, ltb-false}
-use Rattle.text_input.specs.declared.Reading.{Reading}
-use Rattle.text_input.specs.declared.Input.{Input}
-use Rattle.text_input.specs.declared.Input.TheVariants.{Byte, End}
-use Rattle.text_input.specs.Lines.{Held, is_feed, first_line, has_feed, is_empty, kept_in, held_of, line_of, next_line, started, with_kept, with_byte, with_input, step_of, LineRead}
+use borrow.Author.Tests.{ne_eqb, le-ltb, ltb-true, ltb-false}
+use Rattle.std.specs.Prelude.{Option, None, Some}
+use Rattle.std.specs.Option.{unwrap_or}
+use Rattle.std.specs.Io.KnownBytes.{Consumes}
+use Rattle.std.proofs.KnownBytes.{Consumes-nil, Consumes-trans}
+use Rattle.text_input.specs.Lines.{Held, is_feed, first_line, is_empty, kept_in, held_of, next_line, with_kept, LineRead}
 
--- a step while the line is not complete
-pub step-byte : (h : Held) (x : Input) (b : ℕ) → h.reading.complete ≡ false → x ≡ Byte b → step_of h x ≡ with_byte h.line h.reading.size b
-unfolding step_of with_input
-step-byte h x b left e = simp (left, e)
+-- behind bytes with no line feed the line goes on
+cons-case : (a : ℕ) (s t : List ℕ) (x : Bool) → cond x [] (a ∷ first_line s) ≡ a ∷ s → (first_line s ≡ s → first_line (s ++ t) ≡ s ++ first_line t)
+    → cond x [] (a ∷ first_line (s ++ t)) ≡ a ∷ (s ++ first_line t)
+cons-case a s t true h f = let z : ◌≡◌ {A = List ℕ} [] (a ∷ s) = h in absurd (cc)
+cons-case a s t false h f = let e : first_line s ≡ s = cc in ap (λ (l : List ℕ). a ∷ l) (f e)
 
-pub step_end : (h : Held) (x : Input)
-    → h.reading.complete ≡ false
-    → x ≡ End
-    → step_of h x ≡ record { line = h.line; reading = record { size = h.reading.size; complete = true; unread = h.reading.unread } }
-unfolding step_of with_input
-step_end h x left e = simp (left, e)
-
--- a complete line stays
-step-complete : (h : Held) (x : Input) → h.reading.complete ≡ true → step_of h x ≡ h
-unfolding step_of
-step-complete h x e = simp e
-
--- bytes behind a stream with a line feed change nothing of its first line
-fed-case : (x : Bool) {y : Bool} {l m : List ℕ} → (y ≡ true → l ≡ m) → x || y ≡ true → cond x [] l ≡ cond x [] m
-fed-case true f h = refl
-fed-case false f h = f h
-
-first-fed : (s t : List ℕ) → has_feed s ≡ true → first_line (s ++ t) ≡ first_line s
-unfolding first_line has_feed
-first-fed [] t h = let z : false ≡ true = h in cc
-first-fed (a ∷ s) t h = fed-case (is_feed a) (λ e. ap (λ (l : List ℕ). a ∷ l) (first-fed s t e)) h
-
--- without one they follow
-unfed-case : (x : Bool) {y : Bool} {l m : List ℕ} → (y ≡ false → l ≡ m) → x || y ≡ false → cond x [] l ≡ m
-unfed-case true f h = let z : true ≡ false = h in cc
-unfed-case false f h = f h
-
-first-unfed : (s t : List ℕ) → has_feed s ≡ false → first_line (s ++ t) ≡ s ++ first_line t
-unfolding first_line has_feed
-first-unfed [] t h = refl
-first-unfed (a ∷ s) t h = unfed-case (is_feed a) (λ e. ap (λ (l : List ℕ). a ∷ l) (first-unfed s t e)) h
-
-first-whole : (s : List ℕ) → has_feed s ≡ false → first_line s ≡ s
-unfolding first_line has_feed
-first-whole [] h = refl
-first-whole (a ∷ s) h = unfed-case (is_feed a) (λ e. ap (λ (l : List ℕ). a ∷ l) (first-whole s e)) h
-
-first-feed : (b : ℕ) → is_feed b ≡ true → first_line (b ∷ []) ≡ []
+first-behind : (s t : List ℕ) → first_line s ≡ s → first_line (s ++ t) ≡ s ++ first_line t
 unfolding first_line
-first-feed b e = simp e
+first-behind [] t h = refl
+first-behind (a ∷ s) t h = cons-case a s t (is_feed a) h (first-behind s t)
 
-first-other : (b : ℕ) → is_feed b ≡ false → first_line (b ∷ []) ≡ b ∷ []
-unfolding first_line
-first-other b e = simp e
+first-feed : first_line (10 ∷ []) ≡ []
+unfolding first_line is_feed
+first-feed = refl
 
-feed-one : (b : ℕ) → has_feed (b ∷ []) ≡ is_feed b
-unfolding has_feed
-feed-one b = or-false (is_feed b)
+first-other : (b : ℕ) → (b ≡ 10 → ⊥) → first_line (b ∷ []) ≡ b ∷ []
+unfolding first_line is_feed
+first-other b e = rw (ne_eqb b 10 e)
 
-feed-append : (s t : List ℕ) → has_feed (s ++ t) ≡ has_feed s || has_feed t
-unfolding has_feed
-feed-append [] t = refl
-feed-append (a ∷ s) t = ap (λ (x : Bool). is_feed a || x) (feed-append s t) ∙ sym (or_assoc (is_feed a) (has_feed s) (has_feed t))
-
--- a byte behind a stream is a byte
 empty-snoc : (s : List ℕ) (b : ℕ) → is_empty (s ++ b ∷ []) ≡ false
 unfolding is_empty
 empty-snoc [] b = refl
 empty-snoc (a ∷ s) b = refl
-
-fed-empty : (s : List ℕ) → has_feed s ≡ true → is_empty s ≡ false
-unfolding is_empty has_feed
-fed-empty [] h = sym h
-fed-empty (a ∷ s) h = refl
 
 -- lent bytes stay as many, and a line that fits stands in them whole
 length-kept : (room l : List ℕ) → length (kept_in room l) ≡ length room
@@ -92,6 +47,10 @@ length-kept room l = simp (length-append, length-take, length-drop) (omega arith
 kept-fits : (room l : List ℕ) → length l ≤ length room → kept_in room l ≡ l ++ drop (length l) room
 unfolding kept_in
 kept-fits room l h = rw take_all
+
+kept-nil : (room : List ℕ) → kept_in room [] ≡ room
+unfolding kept_in
+kept-nil room = rw take-nil
 
 length-snoc : (l : List ℕ) (b : ℕ) → length (l ++ b ∷ []) ≡ suc (length l)
 length-snoc l b = simp length-append (omega arith)
@@ -118,91 +77,86 @@ size_fits room l h = rw take_all
 size-full : (room l : List ℕ) → length room ≤ length l → length (take (length room) l) ≡ length room
 size-full room l h = length-take-le _ _ h
 
--- a byte more of a line that is not complete, by whether there is room: it is kept behind those of the line, or lost, and what is held is the
--- line with it, cut to the room
-with-kept : (room l : List ℕ) (b : ℕ) (x : Bool) → ltb (length l) (length room) ≡ x
-    → with_kept (kept_in room l) (length (take (length room) l)) b ≡ held_of room (l ++ b ∷ []) false false
+-- a byte more of a line, by whether there is room: it is kept behind those of the line, or lost, and what is held is the line with it, cut to the room
+kept-by : (room l : List ℕ) (b : ℕ) (x : Bool) → ltb (length l) (length room) ≡ x
+    → with_kept (kept_in room l) (length (take (length room) l)) b ≡ held_of room (l ++ b ∷ [])
 unfolding with_kept held_of
-with-kept room l b true e =
+kept-by room l b true e =
     let lt : length l < length room = ltb-true _ _ e in
     let fits : length l ≤ length room = omega arith in
     let more : length (l ++ b ∷ []) ≤ length room = omega (arith, length-snoc l b) in
     simp (size_fits room l fits, length-kept, e, kept-stored room l b lt, size_fits room (l ++ b ∷ []) more, length-snoc, add-one)
-with-kept room l b false e =
+kept-by room l b false e =
     let full : length room ≤ length l = ltb-false _ _ e in
     let more : length room ≤ length (l ++ b ∷ []) = omega (arith, length-snoc l b) in
     simp (size-full room l full, size-full room (l ++ b ∷ []) more, length-kept, le-ltb (length room) (length room) (omega arith), ← kept_full room l b full)
 
--- the next byte behind the bytes s, none of which is a line feed, by whether it is one
-with_byte_lem : (room s : List ℕ) (b : ℕ) (x : Bool) → is_feed b ≡ x → has_feed s ≡ false
-    → with_byte (kept_in room (first_line s)) (length (take (length room) (first_line s))) b ≡ line_of room (s ++ b ∷ []) false
-unfolding with_byte line_of held_of
-with_byte_lem room s b true e h =
-    simp (e, first-whole s h, first-unfed s (b ∷ []) h, first-feed b e, append-nil, feed-append, h, feed-one, empty-snoc)
-with_byte_lem room s b false e h =
-    simp (e, first-whole s h, first-unfed s (b ∷ []) h, first-other b e, feed-append, h, feed-one, empty-snoc) (with-kept room s b _ refl)
-
--- the step at a byte behind the bytes s, by whether these complete the line
-next-by : (room s : List ℕ) (b : ℕ) (x : Bool) → has_feed s ≡ x → step_of (line_of room s false) (Byte b) ≡ line_of room (s ++ b ∷ []) false
-unfolding line_of held_of
-next-by room s b true h =
-    step-complete (line_of room s false) (Byte b) h ∙ simp (first-fed s (b ∷ []) h, feed-append, h, fed-empty s h, empty-snoc)
-next-by room s b false h = step-byte (line_of room s false) (Byte b) b h refl ∙ with_byte_lem room s b _ refl h
-
--- the step at the stream's end
-end_by : (room s : List ℕ) (x : Bool) → has_feed s ≡ x → step_of (line_of room s false) End ≡ next_line room s
-unfolding line_of held_of
-end_by room s true h = step-complete (line_of room s false) End h ∙ simp h
-end_by room s false h = step_end (line_of room s false) End h refl
+-- what is held is the line of the bytes read so far, none of which is a line feed
+pub record Unended (input_before input_after : Option (List ℕ)) (room : List ℕ) (kept : Option ℕ) (line : List ℕ) : Type 0 where
+  pub bytes : List ℕ
+  pub bytes-are : Consumes input_before input_after bytes
+  pub held-is : record { line = line; kept = kept } ≡ next_line room bytes
+  pub unended : first_line bytes ≡ bytes
 
 -- no byte is read
-line_of-none : (room : List ℕ) → started room ≡ line_of room [] false
-unfolding started line_of held_of kept_in first_line has_feed is_empty
-line_of-none room = sym (simp take-nil)
+pub line_start : (input : Option (List ℕ)) (room : List ℕ) → Unended input input room None room
+unfolding next_line is_empty first_line
+line_start input room = record { bytes = []; bytes-are = Consumes-nil input; held-is = refl; unended = refl }
 
--- the step over the bytes t, behind s
-steps-from : (room s t : List ℕ) → foldl step_of (line_of room s false) (map Byte t) ≡ line_of room (s ++ t) false
-steps-from room s [] = rw append-nil
-steps-from room s (b ∷ t) =
-    ap (λ (h : Held). foldl step_of h (map Byte t)) (next-by room s b _ refl)
-    ∙ steps-from room (s ++ b ∷ []) t
-    ∙ ap (λ (l : List ℕ). line_of room l false) (append_assoc s (b ∷ []) t)
+-- bytes without a line feed stand in the lent bytes, as many as are kept
+module _ (room line : List ℕ) (kept : Option ℕ) where
+  held-as : (s : List ℕ) → first_line s ≡ s → record { line = line; kept = kept } ≡ next_line room s
+      → (line ≡ kept_in room s) × (unwrap_or kept 0 ≡ length (take (length room) s))
+  unfolding next_line is_empty held_of
+  held-as [] u e =
+      let line-is : line ≡ room = ap (λ (h : Held). h.line) e in
+      let kept-is : kept ≡ None = ap (λ (h : Held). h.kept) e in
+      (rw (line-is, kept-nil), rw (kept-is, take-nil))
+  held-as (a ∷ s) u e =
+      let line-is = ap (λ (h : Held). h.line) e in
+      let kept-is = ap (λ (h : Held). h.kept) e in
+      (line-is ∙ rw u, rw (kept-is, u))
 
--- the step over the bytes of a stream, and then its end, gives its next line
-pub steps-read : (room s : List ℕ) → step_of (foldl step_of (started room) (map Byte s)) End ≡ next_line room s
-steps-read room s = rw (line_of-none, steps-from room [] s) (end_by room s _ refl)
+-- a line of some bytes and one more
+line-more : (room s : List ℕ) (b : ℕ) → next_line room (s ++ b ∷ []) ≡ held_of room (first_line (s ++ b ∷ []))
+unfolding next_line
+line-more room s b = rw empty-snoc
 
--- what `next_line` holds is the line of the bytes that it read: before any, and after a step
-pub read_none : (room : List ℕ) → LineRead room (started room).reading room
-unfolding started
-read_none room = record { bytes = []; ended = false; held-is = line_of-none room }
+module _ (input_before input_now input_after : Option (List ℕ)) (room line : List ℕ) (kept : Option ℕ) (u : Unended input_before input_now room kept line) where
+  -- a byte that is no line feed
+  pub line_byte : (b n : ℕ) (after : List ℕ) → Consumes input_now input_after (b ∷ []) → (b ≡ 10 → ⊥)
+      → record { line = after; kept = Some n } ≡ with_kept line (unwrap_or kept 0) b
+      → Unended input_before input_after room (Some n) after
+  line_byte b n after read other e =
+      let held = held-as room line kept u.bytes u.unended u.held-is in
+      let same : first_line (u.bytes ++ b ∷ []) ≡ u.bytes ++ b ∷ [] = first-behind u.bytes (b ∷ []) u.unended ∙ rw (first-other b other) in
+      record {
+        bytes = u.bytes ++ b ∷ [];
+        bytes-are = Consumes-trans _ _ _ _ _ u.bytes-are read;
+        held-is = e ∙ rw (held.0, held.1, line-more, same) (kept-by room u.bytes b _ refl);
+        unended = same;
+      }
 
--- with the stream's end met the line would be complete, which it is not; the step over a byte holds the line of the bytes and that byte, the
--- step at the end that of the ended stream
-read_by : (room s : List ℕ) (ended : Bool) (h k : Held) (x : Input)
-    → h ≡ line_of room s ended
-    → h.reading.complete ≡ false
-    → k ≡ step_of h x
-    → LineRead room k.reading k.line
-unfolding line_of held_of
-read_by room s true h k x is left step =
-    let z : true ≡ false = sym (ap (λ (g : Held). g.reading.complete) is) ∙ left in
-    let n : ◌≡◌ {A = ℕ} 0 1 = cc in
-    absurd (omega arith)
-read_by room s false h k (Byte b) is left step =
-    record { bytes = s ++ b ∷ []; ended = false; held-is = step ∙ ap (λ (g : Held). step_of g (Byte b)) is ∙ next-by room s b _ refl }
-read_by room s false h k End is left step =
-    record { bytes = s; ended = true; held-is = step ∙ ap (λ (g : Held). step_of g End) is ∙ end_by room s _ refl }
+  -- the line feed
+  pub line_feed : (b n : ℕ) → Consumes input_now input_after (b ∷ []) → b ≡ 10 → n ≡ unwrap_or kept 0 → LineRead input_before input_after room (Some n) line
+  unfolding held_of
+  line_feed b n read-byte feed size-is =
+      let read : Consumes input_now input_after (10 ∷ []) = rw feed at read-byte in
+      let held = held-as room line kept u.bytes u.unended u.held-is in
+      let same : first_line (u.bytes ++ 10 ∷ []) ≡ u.bytes = first-behind u.bytes (10 ∷ []) u.unended ∙ rw (first-feed, append-nil) in
+      record {
+        bytes = u.bytes ++ 10 ∷ [];
+        bytes-are = Consumes-trans _ _ _ _ _ u.bytes-are read;
+        held-is = rw (line-more, same, size-is, held.0, held.1);
+        only-line = rw same (omega (arith, length-snoc u.bytes 10));
+      }
 
-pub read_next : (room line after : List ℕ) (reading r : Reading) (x : Input)
-    → LineRead room reading line
-    → reading.complete ≡ false
-    → record { line = after; reading = r } ≡ step_of (record { line = line; reading = reading }) x
-    → LineRead room r after
-read_next room line after reading r x l left step =
-    read_by room l.bytes l.ended (record { line = line; reading = reading }) (record { line = after; reading = r }) x l.held-is left step
-
--- lent bytes stay as many
-pub read_length : (room line : List ℕ) (reading : Reading) → LineRead room reading line → length line ≡ length room
-unfolding line_of held_of
-read_length room line reading l = ap (λ (g : Held). length g.line) l.held-is ∙ length-kept room (first_line l.bytes)
+  -- the stream's end, where no byte is read
+  pub line_end : Consumes input_now input_after [] → LineRead input_before input_after room kept line
+  line_end read =
+      record {
+        bytes = u.bytes ++ [];
+        bytes-are = Consumes-trans _ _ _ _ _ u.bytes-are read;
+        held-is = rw append-nil u.held-is;
+        only-line = rw (append-nil, u.unended) (omega arith);
+      }

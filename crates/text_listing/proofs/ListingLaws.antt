@@ -1,20 +1,21 @@
 -- The text of a filing in each of the three cases: too long, refused, accepted; the lines read off its 568 numbers are its lines, and so
 -- those of its borrowings off their 374. Assumes nothing.
-use Prim.Native.Nat.{ℕ, ◌+◌, ◌*◌, ◌≤◌, ◌<◌}
+use Prim.Native.Nat.{ℕ, ◌≤◌, ◌<◌}
 use mathlib.Core.Path.{◌≡◌, refl, ap, sym, ◌∙◌}
 use mathlib.Core.Bool.{true}
 use mathlib.Core.List.{List, ◌++◌}
 use native.Mathlib.Omega.{arith}
 use lib.ListN.{length, length-append}
 use lib.Dec.{eqb}
-use borrow.Author.Tests.{lt-ltb, le-ltb, eq-eqb, ne_eqb}
+use borrow.Author.Tests.{lt-ltb, le-ltb, eq-eqb}
 use Rattle.lists.specs.Tables.{joined}
 use Rattle.lists.proofs.TableLaws.{table-ext}
 use Rattle.form.specs.Shift.{scenario_count}
 use Rattle.form.specs.Counts.{totals_start, number_count}
-use Rattle.answers.specs.declared.Answer.{Answer}
+use Rattle.std.specs.Prelude.{Result, Ok, Err}
+use Rattle.answers.specs.declared.Refusal.{Refusal}
 use Rattle.answers.specs.Answers.{number_of, location_of, verdict_of}
-use Rattle.answers.specs.Verdict.{Verdict}
+use Rattle.answers.specs.Verdict.{Verdict, accepted}
 use Rattle.answers.proofs.VerdictLaws.{list-long}
 use Rattle.filing_contents.specs.Contents.{Contents}
 use Rattle.filing_decode.specs.Contents.{contents_of}
@@ -26,8 +27,9 @@ use Rattle.borrowing_numbers.specs.Promise.{total_number}
 use Rattle.borrowing_numbers.proofs.NumberLaws.{list, list_length}
 use Rattle.borrowing_numbers.proofs.NumberLaws as borrowed
 use Rattle.valuation.specs.Promise.{verdict_on, list_after, borrowings_after, Valued}
-use Rattle.value_numbers.proofs.NumberLaws.{rows, totals, rows-length, totals-length, numbers-split, total-read}
+use Rattle.value_numbers.proofs.NumberLaws.{rows-length, totals-length, numbers-split, total-read}
 use Rattle.text.specs.Lines.{filing_limit, refusal_line, too_long}
+use Rattle.text.proofs.AnswerLaws.{printed-refused, printed-accepted}
 use Rattle.text_listing.specs.TotalLines.{totals_in, line_in, lines_in}
 use Rattle.text_listing.proofs.TotalLineLaws.{totals-read}
 use Rattle.text_listing.specs.Listing.{scenario_line, scenario_lines, verdict_text, filing_text, listing_text}
@@ -72,31 +74,36 @@ pub text-too-long : (lines : Contents → List ℕ) (s : List ℕ) → filing_li
 unfolding filing_text
 text-too-long lines s h = rw (lt-ltb filing_limit (length s) h)
 
-module _ (s list borrowings list-after borrowings-after : List ℕ) (answer : Answer) (short : length s ≤ filing_limit)
+module _ {A : Type 0} (s list borrowings list-after borrowings-after : List ℕ) (answer : Result A Refusal) (short : length s ≤ filing_limit)
     (long : number_count ≤ length list) (room : borrowing_number_count ≤ length borrowings) (valued : Valued s list borrowings answer list-after borrowings-after) where
   verdict-is : verdict_of answer ≡ filing_verdict s
   unfolding verdict_on
   verdict-is =
       valued.answer-is ∙ sym (list-long borrowing_number_count (length borrowings) (filing_verdict s) room ∙ list-long number_count (length list) _ long)
 
-  text-is : (lines : Contents → List ℕ) → verdict_text (lines (contents_of s)) (verdict_of answer) ≡ filing_text lines s
+  text-is : (lines : Contents → List ℕ) → verdict_text (lines (contents_of s)) (filing_verdict s) ≡ filing_text lines s
   unfolding filing_text
-  text-is lines = rw (le-ltb filing_limit (length s) short, verdict-is)
+  text-is lines = rw (le-ltb filing_limit (length s) short)
 
   -- a refused filing
-  pub text-refused : (lines : Contents → List ℕ) → (number_of answer ≡ 0 → ⊥) → refusal_line (number_of answer) (location_of answer) ≡ filing_text lines s
-  unfolding verdict_text verdict_of
-  text-refused lines h = rw (ne_eqb (number_of answer) 0 h) at (text-is lines)
+  pub text-refused : (lines : Contents → List ℕ) (r : Refusal) → answer ≡ Err r → refusal_line (number_of r) (location_of r) ≡ filing_text lines s
+  unfolding verdict_text
+  text-refused lines r is = printed-refused r (filing_verdict s) (lines (contents_of s)) (rw is at verdict-is) ∙ text-is lines
 
   -- an accepted filing: its lines are those read off the lists
-  module _ (zero : number_of answer ≡ 0) where
+  module _ (x : A) (is : answer ≡ Ok x) where
+    taken : accepted ≡ filing_verdict s
+    taken = rw is at verdict-is
+
     text-taken : (lines : Contents → List ℕ) → lines (contents_of s) ≡ filing_text lines s
-    unfolding verdict_text verdict_of
-    text-taken lines = rw (eq-eqb (number_of answer) 0 zero) at (text-is lines)
+    unfolding verdict_text
+    text-taken lines = printed-accepted (filing_verdict s) (lines (contents_of s)) taken ∙ text-is lines
 
     accepted-here : eqb (verdict_on s list borrowings).number 0 ≡ true
-    unfolding verdict_of
-    accepted-here = eq-eqb (verdict_on s list borrowings).number 0 (ap (λ (v : Verdict). v.number) (sym valued.answer-is) ∙ zero)
+    unfolding accepted
+    accepted-here =
+        let e : accepted ≡ verdict_on s list borrowings = rw is at valued.answer-is in
+        eq-eqb (verdict_on s list borrowings).number 0 (ap (λ (v : Verdict). v.number) (sym e))
 
     pub text-accepted : lines_in list-after totals_start 4 ≡ listing_text s
     unfolding list_after listing_text

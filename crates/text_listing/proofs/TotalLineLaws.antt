@@ -1,8 +1,8 @@
 -- The lines of the seven scenarios: line by line, and how long they are. Assumes nothing.
 use Prim.Native.Nat.{ℕ, zero, suc, ◌+◌, ◌*◌, ◌-◌, ◌^◌, ◌≤◌, ◌<◌}
-use mathlib.Core.Path.{◌≡◌, refl, sym, ◌∙◌}
+use mathlib.Core.Path.{◌≡◌, sym, ◌∙◌}
 use mathlib.Core.List.{List, [], ◌++◌}
-use native.Mathlib.Nat.{mul-suc, mul-le-mul_right}
+use native.Mathlib.Nat.{mul-suc}
 use native.Mathlib.Numerals.{add-one}
 use native.Mathlib.Omega.{arith}
 use lib.IntN.{sub_ℕ}
@@ -17,10 +17,16 @@ use Rattle.text.proofs.LineLaws.{rest-length}
 use Rattle.text_listing.specs.TotalLines.{shift, totals_in, line_in, lines_in}
 
 module _ (l : List ℕ) (from each : ℕ) where
-  -- a line is its shift and its totals
-  pub line-is : (scenario : ℕ) → line_in l from each scenario ≡ signed (sub_ℕ (100 * scenario) 300) ++ rest_of_line (totals_in l from each scenario)
-  unfolding line_in shift
-  line-is scenario = refl
+  -- a line is its shift and its totals, a part of the list
+  part-is : (first : ℕ) → take each (drop first l) ≡ take (first + each - first) (drop first l)
+  part-is first =
+      let e : first + each - first ≡ each = omega arith in
+      rw e
+
+  pub line_is : (scenario : ℕ) → line_in l from each scenario
+      ≡ signed (sub_ℕ (100 * scenario) 300) ++ rest_of_line (take (from + each * scenario + each - (from + each * scenario)) (drop (from + each * scenario) l))
+  unfolding line_in shift totals_in
+  line_is scenario = rw (← part-is (from + each * scenario))
 
   -- the lines from scenario i on
   abbrev pub lines_from : ℕ → List ℕ
@@ -35,10 +41,6 @@ module _ (l : List ℕ) (from each : ℕ) where
   pub lines_end : (i : ℕ) → i ≡ scenario_count → lines_from i ≡ []
   unfolding table_from joined
   lines_end i e = rw e
-
--- the totals of a scenario stand within a list that has those of all seven
-pub totals-inside : (from each scenario n : ℕ) → scenario < scenario_count → from + each * scenario_count ≤ n → from + each * scenario + each ≤ n
-totals-inside from each scenario n h fits = omega (arith, mul-le-mul_right each h)
 
 -- totals that are read off a list one by one
 pub totals-read : (l : List ℕ) (from each scenario : ℕ) (totals : List ℕ) → from + each * scenario + each ≤ length l → length totals ≡ each
@@ -77,10 +79,11 @@ module _ (l : List ℕ) (from each : ℕ) (few : each ≤ 4) (fits : (i : ℕ) �
 
   -- a line has 89 bytes at most, and seven lines 623
   line-length : (scenario : ℕ) → scenario < scenario_count → length (line_in l from each scenario) ≤ 89
+  unfolding line_in shift
   line-length scenario h =
-      rw (line-is l from each scenario, length-append)
+      rw length-append
       (omega (arith, shift-length scenario h, totals-few scenario, rest-length (totals_in l from each scenario) (totals-fit scenario)))
 
-  pub lines-length : length (lines_in l from each) ≤ 623
+  pub lines_length : length (lines_in l from each) ≤ 623
   unfolding lines_in
-  lines-length = joined-le 89 0 scenario_count (line_in l from each) line-length
+  lines_length = joined-le 89 0 scenario_count (line_in l from each) line-length

@@ -4,44 +4,48 @@
 pub mod borrowings;
 pub mod total_lines;
 
-ghost use Rattle.std.specs.Prelude.{take};
-ghost use Rattle.text.specs.Appended.{InFront};
+ghost use Rattle.std.specs.Prelude.{◌≡◌, take};
 ghost use Rattle.text_listing.specs.Listing.{listing_text};
 
 use crate::total_lines::append_scenarios;
-use answers::number;
+use arrayvec::ArrayVec;
 use form::borrowings::BORROWING_NUMBERS;
 use form::sub_balances::{NUMBERS, TOTALS_START};
 use text::answer_lines::append_refused;
 use text::append_too_long;
 use valuation::value;
 
-// What the program reads: one byte more than the 65,536 of a filing, so that a longer input shows.
+// The most bytes of a filing.
+pub const FILING_LIMIT: usize = 65536;
+
+// What the program reads: one byte more than a filing may have, so that a longer input shows.
 pub type Input = [u8; 65537];
 
-// Puts the text of the first `size` bytes that were read at the front of the bytes and answers how many it has.
-pub fn write_read(input: &Input, size: usize, out: &mut [u8; 623]) -> usize
-    ensures printed { InFront (listing_text (take size input.now)) out.old out.new result }
+// Seven lines of 89 bytes at most.
+pub type Listing = ArrayVec<u8, 623>;
+
+// The text of the first `size` bytes that were read.
+pub fn write_read(input: &Input, size: usize) -> Listing
+    ensures printed { result.items ≡ listing_text (take size input.now) }
 {
-    let bytes: &[u8] = input;
-    if bytes.len() < size {
-        return write_listing(bytes, out);
-    }
-    write_listing(&bytes[..size], out)
+    write_listing(&input[..size.min(input.len())])
 }
 
-// Puts the text of a filing at the front of the bytes and answers how many it has: seven lines of 89 bytes at most.
-pub fn write_listing(filing: &[u8], out: &mut [u8; 623]) -> usize
-    ensures printed { InFront (listing_text filing.now) out.old out.new result }
+// The text of a filing.
+pub fn write_listing(filing: &[u8]) -> Listing
+    ensures printed { result.items ≡ listing_text filing.now }
 {
-    if 65536 < filing.len() {
-        return append_too_long(out);
+    let mut text = ArrayVec::new();
+    if FILING_LIMIT < filing.len() {
+        append_too_long(&mut text);
+        return text;
     }
     let mut numbers = [0u64; NUMBERS];
     let mut borrowings = [0u64; BORROWING_NUMBERS];
-    let answer = value(filing, &mut numbers, &mut borrowings);
-    if number(answer) != 0 {
-        return append_refused(out, answer);
+    if let Err(refusal) = value(filing, &mut numbers, &mut borrowings) {
+        append_refused(&mut text, refusal);
+        return text;
     }
-    append_scenarios(out, 0, &numbers, TOTALS_START, 4)
+    append_scenarios(&mut text, &numbers, TOTALS_START, 4);
+    text
 }

@@ -4,10 +4,9 @@
 pub mod fields;
 pub mod number_lines;
 
-// A line that has its form: its numbers, 0 past the last, and the index behind it. Otherwise all is 0.
-#[derive(Clone, Copy)]
+// A line that has its form: the index behind it and its numbers, 0 past the last.
+#[derive(Clone, Copy, Debug, PartialEq, Eq)]
 pub struct Line {
-    pub readable: bool,
     pub next: usize,
     pub numbers: [u64; 8],
 }

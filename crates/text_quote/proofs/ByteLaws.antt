@@ -1,16 +1,17 @@
 -- Price lines in bytes: the float of a pattern, and the lines that the two lists of months and prices make. Assumes nothing.
-use Prim.Native.Nat.{ℕ, ◌+◌, ◌*◌, ◌/◌, ◌%◌, ◌≤◌, ◌<◌}
-use native.Mathlib.Nat.{le_refl, min-eq_left}
+use Prim.Native.Nat.{ℕ, zero, suc, ◌+◌, ◌*◌, ◌/◌, ◌%◌, ◌≤◌, ◌<◌}
+use native.Mathlib.Nat.{le_refl, min-eq_left, zero-add, add-zero, suc-add, add-suc}
+use native.Mathlib.Numerals.{add-one}
 use native.Mathlib.Omega.{arith}
-use mathlib.Core.Path.{◌≡◌, refl, sym, ◌∙◌, subst}
+use mathlib.Core.Path.{◌≡◌, refl, sym, ap, ◌∙◌, subst}
 use mathlib.Core.Bool.{Bool, true, not}
-use mathlib.Core.List.{List}
+use mathlib.Core.List.{List, [], ◌∷◌, ◌++◌, append_assoc}
 use borrow.Author.Tests.{lt-ltb, le-ltb}
 use lib.Dec.{T}
 use lib.Ieee.{Float, nan, inf, fin, binary64, div, is_nan, nan_bits, of_bits}
 use lib.Ieee.Bits.{nan_bits_is, nan_bits_above}
 use lib.ListN.{length, get_or}
-use Rattle.lists.specs.Tables.{table}
+use Rattle.lists.specs.Tables.{table, table_from}
 use Rattle.lists.proofs.TableLaws.{table-length, table-get_or, table-ext}
 use Rattle.form.specs.Shift.{scenario_count}
 use Rattle.quote_lines.specs.Lines.{line_count, lines_of}
@@ -37,6 +38,17 @@ module _ (n : ℕ) where
   pattern-some h = subst (λ (b : Bool). T (not b)) (sym (nan_bits_above binary64 n ∙ le-ltb _ _ h)) tt
 
 -- ---- the lines of the months and prices that are read
+-- a table of one entry more
+module _ {A : Type 0} (f : ℕ → A) where
+  table_from-more : (s n : ℕ) → table_from s (suc n) f ≡ table_from s n f ++ (f (s + n) ∷ [])
+  unfolding table_from
+  table_from-more s zero = rw add-zero
+  table_from-more s (suc n) = ap (λ (l : List A). f s ∷ l) (table_from-more (suc s) n ∙ rw (suc-add, ← add-suc))
+
+  pub read_more : (n : ℕ) (before so_far next : List A) (x : A) → so_far ≡ before ++ table n f → next ≡ so_far ++ (x ∷ []) → x ≡ f n
+      → next ≡ before ++ table (n + 1) f
+  read_more n before so_far next x e last is = rw (last, e, is, add-one, table_from-more 0 n, zero-add, append_assoc)
+
 module _ (s : List ℕ) (n : ℕ) where
   price-of : (i k : ℕ) → k < scenario_count → price_at s (scenario_count * i + k) ≡ price_in s i k
   unfolding price_at

@@ -13,25 +13,25 @@ pub digit_low : (d : ℕ) → d < 10 → 48 + d ≡ hex_digit d
 unfolding hex_digit
 digit_low d h = rw (lt-ltb d 10 h)
 
-pub digit-high : (d : ℕ) → 10 ≤ d → 87 + d ≡ hex_digit d
+pub digit_high : (d : ℕ) → 10 ≤ d → 87 + d ≡ hex_digit d
 unfolding hex_digit
-digit-high d h = rw (le-ltb d 10 h)
+digit_high d h = rw (le-ltb d 10 h)
 
 -- as many digits as places
-pub places-length : (n x : ℕ) → length (hexadecimal n x) ≡ n
+pub places_length : (n x : ℕ) → length (hexadecimal n x) ≡ n
 unfolding hexadecimal
-places-length zero x = refl
-places-length (suc n) x = ap suc (places-length n x)
+places_length zero x = refl
+places_length (suc n) x = ap suc (places_length n x)
 
 -- the first digit, and the others
-pub places-first : (n x : ℕ) → 0 < n → hexadecimal n x ≡ (hex_digit (x / 2 ^ (4 * (n - 1)) % 16) ∷ []) ++ hexadecimal (n - 1) x
+pub places_first : (n x : ℕ) → 0 < n → hexadecimal n x ≡ (hex_digit (x / 2 ^ (4 * (n - 1)) % 16) ∷ []) ++ hexadecimal (n - 1) x
 unfolding hexadecimal
-places-first zero x h = absurd (not-suc-le-zero h)
-places-first (suc n) x h =
+places_first zero x h = absurd (not-suc-le-zero h)
+places_first (suc n) x h =
     let e : suc n - 1 ≡ n = omega arith in
     rw e
 
 -- no digit
-pub places-none : (x : ℕ) → hexadecimal 0 x ≡ []
+pub places_none : (x : ℕ) → hexadecimal 0 x ≡ []
 unfolding hexadecimal
-places-none x = refl
+places_none x = refl

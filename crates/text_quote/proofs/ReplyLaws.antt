@@ -1,17 +1,13 @@
 -- The lines of the replies: a sound price is a number, and each reply has its line. Assumes nothing.
 use mathlib.Core.Path.{◌≡◌, sym, ap, ◌∙◌, subst}
 use mathlib.Core.Bool.{true, false, not}
-use borrow.Author.Tests.{eq-eqb, ne_eqb, not-true}
+use borrow.Author.Tests.{not-true}
 use lib.Dec.{T}
 use lib.Ieee.{Float, nan, inf, fin, lt, is_nan, of_int}
-use Rattle.answers.specs.declared.Answer.{Answer}
-use Rattle.answers.specs.Answers.{number_of, location_of, verdict_of}
 use Rattle.quote_prices.specs.PriceLines.{faulty_price}
 use Rattle.quote_lines.specs.declared.Reply.{Reply}
 use Rattle.quote_lines.specs.declared.Reply.TheVariants.{Listed, Between}
 use Rattle.quote_lines.specs.Promise.{sound_reply}
-use Rattle.text.specs.Lines.{refusal_line}
-use Rattle.text_quote.specs.ReplyLines.{reply_line, quoted_line}
 
 -- a price that is not faulty is a number
 pub sound-number : (p : Float) → faulty_price p ≡ false → T (not (is_nan p))
@@ -28,13 +24,3 @@ module _ (reply : Reply) (price : Float) (sound : sound_reply reply ≡ true) wh
   pub between-number : reply ≡ Between price → T (not (is_nan price))
   unfolding sound_reply
   between-number e = sound-number price (not-true (faulty_price price) (sym (ap sound_reply e) ∙ sound))
-
--- the line of a verdict and a reply
-module _ (answer : Answer) (reply : Reply) where
-  pub quoted-refused : (number_of answer ≡ 0 → ⊥) → refusal_line (number_of answer) (location_of answer) ≡ quoted_line (verdict_of answer) reply
-  unfolding quoted_line verdict_of
-  quoted-refused n = rw (ne_eqb (number_of answer) 0 n)
-
-  pub quoted-replied : number_of answer ≡ 0 → reply_line reply ≡ quoted_line (verdict_of answer) reply
-  unfolding quoted_line verdict_of
-  quoted-replied e = rw (eq-eqb (number_of answer) 0 e)

@@ -15,12 +15,12 @@ use Rattle.quote_lines.specs.Lines.{line_at}
 use Rattle.quote_lines.specs.Faults.{not_rising, faulty_line, line_verdict, lines_verdict}
 use Rattle.quote_lines.specs.Replies.{reached_line, reply_short, reply_at, reply_of}
 use Rattle.text.specs.Decimal.{digit, digits_within, decimal}
-use Rattle.text.specs.Lines.{spaced, rest_of_line, refused_word, refusal_line, unreadable_word, too_long}
+use Rattle.text.specs.Lines.{spaced, rest_of_line, refused_word, refusal_line, unreadable_word, unreadable_line, too_long}
 use Rattle.text_numerals.specs.Numerals as numerals
-use Rattle.text_quote.specs.declared.arguments.Argument.TheVariants.{Number, Unreadable}
+use Rattle.std.specs.Prelude.{None, Some}
 use Rattle.text_quote.specs.LineBytes.{months_in, bits_in, price_in, line_in, lines_in}
 use Rattle.text_quote.specs.Arguments.{argument_of}
-use Rattle.text_quote.specs.ReplyLines.{hex_digit, hexadecimal, listed_word, between_word, outside_word, price_line, reply_line, quoted_line, unreadable_line}
+use Rattle.text_quote.specs.ReplyLines.{hex_digit, hexadecimal, listed_word, between_word, outside_word, price_line, reply_line, quoted_line}
 use Rattle.text_quote.specs.Printed.{answer_text, asked_text, printed_text}
 
 -- the bytes of a price of 100 and more by quarters of 256: its last two bytes
@@ -57,9 +57,9 @@ unfolding answer_text quoted_line refusal_line refused_word rest_of_line spaced 
 refused-text = refl
 
 -- ---- arguments: `60`, `060`, nothing, `6 `, `-6`, `6` and a line feed, 2^64
-arguments : (argument_of (54 ∷ 48 ∷ []) ≡ Number 60) × (argument_of (48 ∷ 54 ∷ 48 ∷ []) ≡ Number 60) × (argument_of [] ≡ Unreadable)
-    × (argument_of (54 ∷ 32 ∷ []) ≡ Unreadable) × (argument_of (45 ∷ 54 ∷ []) ≡ Unreadable) × (argument_of (54 ∷ 10 ∷ []) ≡ Unreadable)
-    × (argument_of (49 ∷ 56 ∷ 52 ∷ 52 ∷ 54 ∷ 55 ∷ 52 ∷ 52 ∷ 48 ∷ 55 ∷ 51 ∷ 55 ∷ 48 ∷ 57 ∷ 53 ∷ 53 ∷ 49 ∷ 54 ∷ 49 ∷ 54 ∷ []) ≡ Unreadable)
+arguments : (argument_of (54 ∷ 48 ∷ []) ≡ Some 60) × (argument_of (48 ∷ 54 ∷ 48 ∷ []) ≡ Some 60) × (argument_of [] ≡ None)
+    × (argument_of (54 ∷ 32 ∷ []) ≡ None) × (argument_of (45 ∷ 54 ∷ []) ≡ None) × (argument_of (54 ∷ 10 ∷ []) ≡ None)
+    × (argument_of (49 ∷ 56 ∷ 52 ∷ 52 ∷ 54 ∷ 55 ∷ 52 ∷ 52 ∷ 48 ∷ 55 ∷ 51 ∷ 55 ∷ 48 ∷ 57 ∷ 53 ∷ 53 ∷ 49 ∷ 54 ∷ 49 ∷ 54 ∷ []) ≡ None)
 unfolding argument_of numerals.is_number numerals.number_at numerals.number_end numerals.decimal numerals.is_digit numerals.byte_at first_from
 arguments = (refl, refl, refl, refl, refl, refl, refl)
 

@@ -3,7 +3,7 @@ use Rattle.std.specs.Prelude.{ℕ, zero, suc, ◌+◌, ◌*◌, ◌/◌, ◌%◌
 use Rattle.std.specs.Float.{binary64}
 use Rattle.std.specs.Float.Ieee.{to_bits}
 use Rattle.answers.specs.Verdict.{Verdict}
-use Rattle.text.specs.Lines.{refusal_line, unreadable_word}
+use Rattle.text.specs.Lines.{refusal_line}
 use Rattle.quote_lines.specs.declared.Reply.{Reply}
 use Rattle.quote_lines.specs.declared.Reply.TheVariants.{Listed, Between, Outside}
 
@@ -38,6 +38,3 @@ reply_line Outside = outside_word ++ (10 ∷ [])
 -- the line of the refusal, or of the reply
 unfoldable pub quoted_line : Verdict → Reply → List ℕ
 quoted_line v reply = cond (eqb v.number 0) (reply_line reply) (refusal_line v.number v.location)
-
-unfoldable pub unreadable_line : List ℕ
-unreadable_line = unreadable_word ++ (10 ∷ [])

@@ -4,21 +4,14 @@ ghost use Rattle.text_quote.specs.Arguments.{argument_of};
 
 use text_numerals::number_lines::read_line;
 
-// What an argument says.
-#[derive(Clone, Copy)]
-pub enum Argument {
-    Number(u64),
-    Unreadable,
-}
-
-// A number in digits, and nothing behind them.
-pub(crate) fn argument_of(text: &[u8]) -> Argument
+// A number in digits, where nothing stands behind them.
+#[tactic(auto, using(crate::proofs::ArgumentLaws::argument_none, crate::proofs::ArgumentLaws::argument_longer, crate::proofs::ArgumentLaws::argument_read))]
+pub(crate) fn argument_of(text: &[u8]) -> Option<u64>
     ensures { result ≡ argument_of text.now }
 {
-    let read = read_line(text, 0, b"\n");
-    if read.next <= text.len() {
-        return Argument::Unreadable;
+    let line = read_line(text, 0, b"\n")?;
+    if line.next <= text.len() {
+        return None;
     }
-    let numbers = read.numbers;
-    Argument::Number(numbers[0])
+    Some(line.numbers[0])
 }

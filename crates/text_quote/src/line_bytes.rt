@@ -1,5 +1,6 @@
 // Price lines in bytes: months in 2 bytes, then seven prices in 8 bytes each, little-endian.
-ghost use Rattle.std.specs.Prelude.{◌≡◌, ◌*◌, ◌≤◌, length, take};
+ghost use Rattle.std.specs.Prelude.{◌≡◌, ◌+◌, ◌*◌, ◌≤◌, ◌++◌, length};
+ghost use Rattle.arrayvec.specs.ArrayVec.{array_vec_len};
 ghost use Rattle.std.specs.Float.{binary64};
 ghost use Rattle.std.specs.Float.Ieee.{of_bits};
 ghost use Rattle.lists.specs.Tables.{table};
@@ -8,8 +9,10 @@ ghost use Rattle.quote_lines.specs.Promise.{QuotedAs};
 ghost use Rattle.text.specs.Lines.{filing_limit};
 ghost use Rattle.text_quote.specs.LineBytes.{line_bytes, months_in, price_at, lines_in};
 
+use answers::Refusal;
+use arrayvec::ArrayVec;
 use form::sub_balances::SCENARIOS;
-use quote_lines::{Quoted, quote};
+use quote_lines::{Reply, quote};
 use record_fields::field_within;
 
 // The bytes of a line.
@@ -21,47 +24,41 @@ const MOST_LINES: usize = 1129;
 const MOST_PRICES: usize = 7903;
 
 // What the whole lines in the bytes reply.
-pub fn quote_bytes(lines: &[u8], month: u64, scenario: u64) -> Quoted
+pub fn quote_bytes(lines: &[u8], month: u64, scenario: u64) -> Result<Reply, Refusal>
     requires { length lines.now ≤ filing_limit }
     ensures { QuotedAs (lines_in lines.now) month scenario result }
 {
-    let mut months = [0u16; MOST_LINES];
-    let mut prices = [0.0; MOST_PRICES];
     let count = lines.len() / LINE_BYTES;
+    let mut months: ArrayVec<u16, MOST_LINES> = ArrayVec::new();
+    let mut prices: ArrayVec<f64, MOST_PRICES> = ArrayVec::new();
     read_months(lines, count, &mut months);
     read_prices(lines, count, &mut prices);
-    let priced = SCENARIOS * count;
-    quote(&months[..count], &prices[..priced], month, scenario)
+    quote(months.as_slice(), prices.as_slice(), month, scenario)
 }
 
 // The months of the first lines.
-fn read_months(lines: &[u8], count: usize, months: &mut [u16])
-    requires { (line_bytes * count ≤ length lines.now) × (count ≤ length months.old) }
-    ensures { (take count months.new ≡ table count (months_in lines.now)) × (length months.new ≡ length months.old) }
+fn read_months<const CAP: usize>(lines: &[u8], count: usize, months: &mut ArrayVec<u16, CAP>)
+    requires { (line_bytes * count ≤ length lines.now) × (array_vec_len months.old + count ≤ CAP) }
+    ensures { months.new.items ≡ months.old.items ++ table count (months_in lines.now) }
 {
-    let mut i: usize = 0;
-    while i < count {
-        months[i] = field_within(lines, LINE_BYTES * i, 0, 2) as u16;
-        i += 1;
+    for i in 0..count {
+        months.push(field_within(lines, LINE_BYTES * i, 0, 2) as u16);
     }
 }
 
 // The prices of the first lines, seven of each.
-fn read_prices(lines: &[u8], count: usize, prices: &mut [f64])
-    requires { (line_bytes * count ≤ length lines.now) × (scenario_count * count ≤ length prices.old) }
-    ensures { (take (scenario_count * count) prices.new ≡ table (scenario_count * count) (price_at lines.now)) × (length prices.new ≡ length prices.old) }
+fn read_prices<const CAP: usize>(lines: &[u8], count: usize, prices: &mut ArrayVec<f64, CAP>)
+    requires { (line_bytes * count ≤ length lines.now) × (array_vec_len prices.old + scenario_count * count ≤ CAP) }
+    ensures { prices.new.items ≡ prices.old.items ++ table (scenario_count * count) (price_at lines.now) }
 {
-    let priced = SCENARIOS * count;
-    let mut i: usize = 0;
-    while i < priced {
+    for i in 0..SCENARIOS * count {
         let bits = field_within(
             lines,
             LINE_BYTES * (i / SCENARIOS),
             2 + 8 * (i % SCENARIOS),
             8,
         );
-        prices[i] = float_of(bits);
-        i += 1;
+        prices.push(float_of(bits));
     }
 }
 

@@ -1,78 +1,58 @@
-// The lines of the replies, at the front of lent bytes.
-ghost use Rattle.std.specs.Prelude.{◌≡◌, true, not, ◌++◌, ◌∷◌, [], ◌+◌, ◌≤◌, ◌<◌, T, length};
+// The lines of the replies, appended to a text that has room for them.
+ghost use Rattle.std.specs.Prelude.{◌≡◌, true, not, ◌++◌, ◌+◌, ◌≤◌, ◌<◌, T, length};
 ghost use Rattle.std.specs.Float.{binary64};
 ghost use Rattle.std.specs.Float.Ieee.{is_nan, to_bits};
-ghost use Rattle.answers.specs.Answers.{verdict_of};
+ghost use Rattle.arrayvec.specs.ArrayVec.{array_vec_len};
 ghost use Rattle.quote_lines.specs.Promise.{sound_reply};
-ghost use Rattle.text.specs.Appended.{Appended};
-ghost use Rattle.text_quote.specs.ReplyLines.{hex_digit, hexadecimal, price_line, reply_line, quoted_line, unreadable_line};
+ghost use Rattle.text_quote.specs.ReplyLines.{hex_digit, hexadecimal, price_line, reply_line};
 
-use answers::number;
-use quote_lines::{Quoted, Reply};
-use text::answer_lines::append_refused;
-use text::{append, append_byte};
-
-// The line of a reply, or of the refusal.
-pub fn append_quoted(out: &mut [u8], quoted: Quoted) -> usize
-    requires { (50 ≤ length out.old) × (sound_reply quoted.reply ≡ true) }
-    ensures { Appended out.old 0 (quoted_line (verdict_of quoted.answer) quoted.reply) out.new result × (result ≤ 50) }
-{
-    let answer = quoted.answer;
-    if number(answer) != 0 {
-        return append_refused(out, answer);
-    }
-    let reply = quoted.reply;
-    append_reply(out, reply)
-}
+use arrayvec::ArrayVec;
+use quote_lines::Reply;
+use text::append;
 
 // `listed` or `between` with the price's bits, or `outside`.
-fn append_reply(out: &mut [u8], reply: Reply) -> usize
-    requires { (50 ≤ length out.old) × (sound_reply reply ≡ true) }
-    ensures { Appended out.old 0 (reply_line reply) out.new result × (result ≤ 50) }
+pub fn append_reply<const CAP: usize>(text: &mut ArrayVec<u8, CAP>, reply: Reply)
+    requires { (array_vec_len text.old + 50 ≤ CAP) × (sound_reply reply ≡ true) }
+    ensures { text.new.items ≡ text.old.items ++ reply_line reply }
 {
     match reply {
-        Reply::Listed(price) => append_price(out, b"listed ", price),
-        Reply::Between(price) => append_price(out, b"between ", price),
-        Reply::Outside => append(out, 0, b"outside\n"),
+        Reply::Listed(price) => append_price(text, b"listed ", price),
+        Reply::Between(price) => append_price(text, b"between ", price),
+        Reply::Outside => append(text, b"outside\n"),
     }
-}
-
-// The line `unreadable`.
-pub(crate) fn append_unreadable(out: &mut [u8]) -> usize
-    requires { 50 ≤ length out.old }
-    ensures { Appended out.old 0 unreadable_line out.new result × (result ≤ 50) }
-{
-    append(out, 0, b"unreadable\n")
 }
 
 // A word and the bits of a price.
-fn append_price(out: &mut [u8], word: &[u8], price: f64) -> usize
-    requires { (50 ≤ length out.old) × (length word.now ≤ 33) × T (not (is_nan price)) }
-    ensures { Appended out.old 0 (price_line word.now price) out.new result × (result ≤ 50) }
+#[tactic(auto, using(std::proofs::lemmas::Grind::common_steps, crate::proofs::HexLaws::places_length), unfolding(crate::specs::ReplyLines::price_line))]
+fn append_price<const CAP: usize>(text: &mut ArrayVec<u8, CAP>, word: &[u8], price: f64)
+    requires { (array_vec_len text.old + 50 ≤ CAP) × (length word.now ≤ 33) × T (not (is_nan price)) }
+    ensures { text.new.items ≡ text.old.items ++ price_line word.now price }
 {
-    let behind = append(out, 0, word);
-    let end = append_bits(out, behind, f64::to_bits(price));
-    append_byte(out, end, b'\n')
+    append(text, word);
+    append_bits(text, f64::to_bits(price));
+    text.push(b'\n');
 }
 
 // Sixteen hexadecimal digits.
-fn append_bits(out: &mut [u8], at: usize, bits: u64) -> usize
-    requires { at + 16 ≤ length out.old }
-    ensures { Appended out.old at (hexadecimal 16 bits) out.new result }
+#[tactic(auto, using(std::proofs::lemmas::Grind::common_steps, crate::proofs::HexLaws::places_length, crate::proofs::HexLaws::places_first, crate::proofs::HexLaws::places_none))]
+fn append_bits<const CAP: usize>(text: &mut ArrayVec<u8, CAP>, bits: u64)
+    requires { array_vec_len text.old + 16 ≤ CAP }
+    ensures { text.new.items ≡ text.old.items ++ hexadecimal 16 bits }
 {
-    let mut end = at;
-    let mut left: u64 = 16;
-    while 0 < left {
-        left -= 1;
-        end = append_byte(out, end, hex_digit((bits >> (4 * left)) % 16));
+    for place in 0..16u64 {
+        text.push(hex_digit((bits >> (4 * (15 - place))) % 16));
     }
-    end
 }
 
 // A hexadecimal digit.
+#[tactic(auto, using(crate::proofs::HexLaws::digit_low, crate::proofs::HexLaws::digit_high))]
 fn hex_digit(d: u64) -> u8
     requires { d < 16 }
     ensures { result ≡ hex_digit d }
 {
-    if d < 10 { 48 + d as u8 } else { 87 + d as u8 }
+    if d < 10 {
+        b'0' + d as u8
+    } else {
+        b'a' + (d as u8 - 10)
+    }
 }

@@ -1,4 +1,5 @@
 -- The records of a made filing: what each holds, that none stands twice, and that each passes. Assumes nothing.
+use Rattle.std.specs.Prelude.{Some}
 use Prim.Native.Nat.{ℕ, suc, ◌+◌, ◌*◌, ◌≤◌, ◌<◌}
 use native.Mathlib.Nat.{le_of_suc-le-suc, eq-or-lt_of_le}
 use native.Mathlib.Omega.{arith}
@@ -119,13 +120,13 @@ module _ (cells : List CellValue) (yields rates : ℕ → ℕ) where
     rates-record = sheet-record (suc (length cells)) 3 3 rates (omega arith) body-rates (omega arith) (omega arith) rs
 
     -- what each record may stand once as
-    pub item-cell : (i : ℕ) → i < length cells → record_item made (offset bodies i) ≡ Cell (cell_at i).cell
+    pub item-cell : (i : ℕ) → i < length cells → record_item made (offset bodies i) ≡ Some (Cell (cell_at i).cell)
     item-cell i h = cell-item made (offset bodies i) (cell_at i) (cell-record fileable i h) (entry fileable i h).listed
 
-    pub item-yields : record_item made (offset bodies (length cells)) ≡ Sheet 2
+    pub item-yields : record_item made (offset bodies (length cells)) ≡ Some (Sheet 2)
     item-yields = sheet-item made (offset bodies (length cells)) 2 120 yields yields-record yields-sheet
 
-    pub item-rates : record_item made (offset bodies (suc (length cells))) ≡ Sheet 3
+    pub item-rates : record_item made (offset bodies (suc (length cells))) ≡ Some (Sheet 3)
     item-rates = sheet-item made (offset bodies (suc (length cells))) 3 3 rates rates-record rates-sheet
 
     -- no two are the same
@@ -136,17 +137,17 @@ module _ (cells : List CellValue) (yields rates : ℕ → ℕ) where
         (ne_eqb (cell_at i).cell (cell_at k).cell (λ e. omega (arith, fileable-rising no_cell 0 cells fileable i k l h)))
 
     -- a sheet is none of the cells, and none of the other sheets
-    pub cell-no-sheet : (i kind : ℕ) → i < length cells → same_item (record_item made (offset bodies i)) (Sheet kind) ≡ false
+    pub cell-no-sheet : (i kind : ℕ) → i < length cells → same_item (record_item made (offset bodies i)) (Some (Sheet kind)) ≡ false
     unfolding same_item
     cell-no-sheet i kind h = rw (item-cell i h)
 
-    yields-no-sheet : (kind : ℕ) → eqb 2 kind ≡ false → same_item (record_item made (offset bodies (length cells))) (Sheet kind) ≡ false
+    yields-no-sheet : (kind : ℕ) → eqb 2 kind ≡ false → same_item (record_item made (offset bodies (length cells))) (Some (Sheet kind)) ≡ false
     unfolding same_item
     yields-no-sheet kind h = rw item-yields h
 
-    pub before-rates : (i kind : ℕ) → i < suc (length cells) → eqb 2 kind ≡ false → same_item (record_item made (offset bodies i)) (Sheet kind) ≡ false
+    pub before-rates : (i kind : ℕ) → i < suc (length cells) → eqb 2 kind ≡ false → same_item (record_item made (offset bodies i)) (Some (Sheet kind)) ≡ false
     before-rates i kind h other =
-        ⊎_elim (λ e. subst (λ (m : ℕ). same_item (record_item made (offset bodies m)) (Sheet kind) ≡ false) (sym e) (yields-no-sheet kind other))
+        ⊎_elim (λ e. subst (λ (m : ℕ). same_item (record_item made (offset bodies m)) (Some (Sheet kind)) ≡ false) (sym e) (yields-no-sheet kind other))
         (λ l. cell-no-sheet i kind l) (eq-or-lt_of_le (le_of_suc-le-suc h))
 
     apart : (i k : ℕ) → i < k → k < length cells + 2 → same_item (record_item made (offset bodies i)) (record_item made (offset bodies k)) ≡ false
@@ -167,7 +168,7 @@ module _ (cells : List CellValue) (yields rates : ℕ → ℕ) where
     unfolding path_beside_flat sheet_before first_with
     flat-alone =
         let k : ℕ = suc (length cells) in
-        let none = search-none bodies sized (λ (at : ℕ). same_item (record_item made at) (Sheet rate_path_kind)) k (omega (arith, filed-length)) (λ i l. before-rates i rate_path_kind l refl) in
+        let none = search-none bodies sized (λ (at : ℕ). same_item (record_item made at) (Some (Sheet rate_path_kind))) k (omega (arith, filed-length)) (λ i l. before-rates i rate_path_kind l refl) in
         rw (rates-record.kind-is, none) (le-ltb (offset bodies k) (offset bodies k) (omega arith))
 
     yields-alone : path_beside_flat made (offset bodies (length cells)) ≡ false

@@ -1,4 +1,5 @@
 -- Records that pass: a sound cell's and a sound sheet's, each not repeated, and what each may stand once as. Assumes nothing.
+use Rattle.std.specs.Prelude.{Some}
 use Prim.Native.Nat.{ℕ, zero, suc, ◌+◌, ◌*◌, ◌≤◌, ◌<◌}
 use native.Mathlib.Omega.{arith}
 use mathlib.Core.Path.{◌≡◌, refl}
@@ -55,7 +56,7 @@ module _ (s : List ℕ) (at : ℕ) where
 
   -- a listed cell whose value is within its limit
   module _ (c : CellValue) (r : CellRecord c) (listed : eqb (cell_class c.cell) 0 ≡ false) where
-    pub cell-item : record_item s at ≡ Cell c.cell
+    pub cell-item : record_item s at ≡ Some (Cell c.cell)
     unfolding record_item record_class gives_cell
     cell-item = rw (r.kind-is, r.cell-is, listed)
 
@@ -94,7 +95,7 @@ module _ (s : List ℕ) (at : ℕ) where
     unfolding due_length sheet_length
     sheet-due = rw (r.kind-is, k.gives_no_cell, k.no-amendment, k.no-tiers, k.numbers-are, k.some)
 
-    pub sheet-item : record_item s at ≡ Sheet kind
+    pub sheet-item : record_item s at ≡ Some (Sheet kind)
     unfolding record_item
     sheet-item =
         let due : eqb (due_length s at) 0 ≡ false = rw sheet-due (ne_eqb (2 + 2 * n) 0 (λ e. omega arith)) in

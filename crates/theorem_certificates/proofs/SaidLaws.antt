@@ -1,4 +1,5 @@
 -- What a made filing says: its sheets are there, and its cells say what the list says. Assumes nothing.
+use Rattle.std.specs.Prelude.{Option, Some}
 use Prim.Native.Nat.{ℕ, zero, suc, ◌+◌, ◌-◌, ◌≤◌, ◌<◌}
 use native.Mathlib.Nat.{not-suc-le-zero, le_of_suc-le-suc, eq-or-lt_of_le}
 use native.Mathlib.Omega.{arith}
@@ -61,7 +62,7 @@ module _ (cells : List CellValue) (yields rates : ℕ → ℕ) (fileable : Filea
   made = run bodies
 
   -- where an item stands first, and where it does not stand
-  item-first : (item : Item) (i : ℕ) → i < length cells + 2 → same_item (record_item made (offset bodies i)) item ≡ true
+  item-first : (item : Option Item) (i : ℕ) → i < length cells + 2 → same_item (record_item made (offset bodies i)) item ≡ true
       → ((m : ℕ) → m < i → same_item (record_item made (offset bodies m)) item ≡ false) → first_with made item (length made) ≡ offset bodies i
   unfolding first_with
   item-first item i h e f =
@@ -78,12 +79,12 @@ module _ (cells : List CellValue) (yields rates : ℕ → ℕ) (fileable : Filea
   yields-there : sheet_offset made 2 ≡ offset bodies (length cells)
   unfolding sheet_offset same_item
   yields-there =
-      item-first (Sheet 2) (length cells) (omega arith) (rw (item-yields cells yields rates fileable ys rs)) (λ m l. cell-no-sheet cells yields rates fileable ys rs m 2 l)
+      item-first (Some (Sheet 2)) (length cells) (omega arith) (rw (item-yields cells yields rates fileable ys rs)) (λ m l. cell-no-sheet cells yields rates fileable ys rs m 2 l)
 
   rates-there : sheet_offset made flat_rates_kind ≡ offset bodies (suc (length cells))
   unfolding sheet_offset same_item
   rates-there =
-      item-first (Sheet 3) (suc (length cells)) (omega arith) (rw (item-rates cells yields rates fileable ys rs)) (λ m l. before-rates cells yields rates fileable ys rs m 3 l refl)
+      item-first (Some (Sheet 3)) (suc (length cells)) (omega arith) (rw (item-rates cells yields rates fileable ys rs)) (λ m l. before-rates cells yields rates fileable ys rs m 3 l refl)
 
   pub sheets-there : sheet_missing made ≡ false
   unfolding sheet_missing

@@ -7,6 +7,7 @@ use mathlib.Core.List.{List}
 use borrow.Author.Tests.{ltb-false, le-ltb}
 use lib.Dec.{leb, ltb, lit<}
 use lib.ListN.{length}
+use Rattle.std.specs.Prelude.{Result, Ok, Err}
 use Rattle.lists.proofs.OrderLaws.{leb-iff}
 use Rattle.answers.specs.Verdict.{accepted, refused_if, first_refusal}
 use Rattle.record_kinds.specs.Kinds.{yields_kind, flat_rates_kind, rate_path_kind, libor_kind}
@@ -24,8 +25,9 @@ use Rattle.book_state.specs.declared.Book.{Book}
 use Rattle.book_promise.specs.Books.{opened_book}
 use Rattle.book_promise.specs.Changes.{book_after_all}
 use Rattle.withdrawal.specs.declared.Incentive.{Incentive}
-use Rattle.withdrawal_filing.specs.declared.tier_search.TierAnswer.{TierAnswer}
-use Rattle.withdrawal_filing.specs.declared.tier_search.TierAnswer.TheVariants.{Reached, Refused, TooLarge}
+use Rattle.withdrawal.specs.declared.ReachedTier.{ReachedTier}
+use Rattle.withdrawal_filing.specs.declared.tier_search.NoTier.{NoTier}
+use Rattle.withdrawal_filing.specs.declared.tier_search.NoTier.TheVariants.{Refused, TooLarge}
 use Rattle.withdrawal_filing.specs.TierAnswers.{TierAnswered}
 use Rattle.text.specs.Lines.{filing_limit}
 use Rattle.text_listing.specs.Listing.{scenario_lines, verdict_text, filing_text, listing_text}
@@ -81,11 +83,11 @@ module _ (s t : List ℕ) (a : Accepted s) (u : Surviving s t) where
   unfolding opened_book read_contents read_over
   opened-same = rw (verdict-same, says)
 
-  tier-same : (x : Incentive) (answer : TierAnswer) → TierAnswered s x answer → TierAnswered t x answer
+  tier-same : (x : Incentive) (answer : Result ReachedTier NoTier) → TierAnswered s x answer → TierAnswered t x answer
   unfolding TierAnswered
-  tier-same x (Reached tier) h = rw (verdict-same, says) h
-  tier-same x (Refused answer) h = rw verdict-same h
-  tier-same x TooLarge h = rw verdict-same h
+  tier-same x (Ok tier) h = rw (verdict-same, says) h
+  tier-same x (Err (Refused r)) h = rw verdict-same h
+  tier-same x (Err TooLarge) h = rw verdict-same h
 
   -- neither is too long, and so each has the text of its verdict and of what it says
   text_same : (lines : Contents → List ℕ) → length s ≤ filing_limit → length t ≤ filing_limit → filing_text lines t ≡ filing_text lines s

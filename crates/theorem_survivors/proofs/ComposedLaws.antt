@@ -1,4 +1,5 @@
 -- For every accepted filing there is one with only its surviving cells: the one that is composed of its surviving records. Assumes nothing.
+use Rattle.std.specs.Prelude.{Option, Some, None}
 use Prim.Native.Nat.{ℕ, suc, ◌+◌, ◌*◌, ◌-◌, ◌≤◌, ◌<◌}
 use native.Mathlib.Nat.{le_refl}
 use native.Mathlib.Omega.{arith}
@@ -14,7 +15,7 @@ use Rattle.record_fields.proofs.SearchLaws.{Reached}
 use Rattle.record_fields.proofs.FirstLaws.{first-reached}
 use Rattle.record_kinds.specs.Kinds.{sheet_kind, amendment_kind, tiers_kind}
 use Rattle.record_kinds.specs.declared.items.Item.{Item}
-use Rattle.record_kinds.specs.declared.items.Item.TheVariants.{Cell, Sheet, Amendment, Nothing}
+use Rattle.record_kinds.specs.declared.items.Item.TheVariants.{Cell, Sheet, Amendment}
 use Rattle.record_kinds.specs.Items.{same_item, record_item, first_with}
 use Rattle.record_kinds.proofs.ItemLaws.{with-passes, record-of-cell, record-of-sheet, record-of-amendment}
 use Rattle.record_offsets.specs.Counting.{item_rank, rank}
@@ -55,7 +56,7 @@ module _ (s : List ℕ) (none : first_faulty s ≡ length s) where
     index : ℕ
     kept : kept_is s index ≡ true
     is : offset_of s index ≡ cell_offset s n
-    as-cell : kept_item (record_item s (offset_of s index)) ≡ Cell n
+    as-cell : kept_item (record_item s (offset_of s index)) ≡ Some (Cell n)
 
   -- The record that counts is reached, so it has a number; it ranks, so it is of the cell or amends it; it does not withdraw it, so it is kept
   survivor : (n : ℕ) → survives s n ≡ true → Survivor n
@@ -68,33 +69,33 @@ module _ (s : List ℕ) (none : first_faulty s ≡ length s) where
       at : ℕ
       at = cell_offset s n
 
-      from : Reached s 0 at → keeps s at (record_item s at) ≡ true → kept_item (record_item s at) ≡ Cell n → Survivor n
+      from : Reached s 0 at → keeps s at (record_item s at) ≡ true → kept_item (record_item s at) ≡ Some (Cell n) → Survivor n
       from r k e =
           let number = numbered s r in
           record {
             index = number.index;
             kept = subst (λ (x : ℕ). keeps s x (record_item s x) ≡ true) (sym number.is) k;
             is = number.is;
-            as-cell = subst (λ (x : ℕ). kept_item (record_item s x) ≡ Cell n) (sym number.is) e;
+            as-cell = subst (λ (x : ℕ). kept_item (record_item s x) ≡ Some (Cell n)) (sym number.is) e;
           }
 
-      by : Reached s 0 at → not (withdraws s at) ≡ true → (item : Item) → record_item s at ≡ item → 0 < item_rank n item → Survivor n
-      by r w (Cell m) e p =
+      by : Reached s 0 at → not (withdraws s at) ≡ true → (item : Option Item) → record_item s at ≡ item → 0 < item_rank n item → Survivor n
+      by r w (Some (Cell m)) e p =
           let same = ranked-cell m n 1 p in
           from r (rw (e, same) (eq-eqb at at refl)) (rw (e, same) refl)
-      by r w (Sheet kind) e p = absurd (omega arith)
-      by r w (Amendment m number) e p =
+      by r w (Some (Sheet kind)) e p = absurd (omega arith)
+      by r w (Some (Amendment m number)) e p =
           let same = ranked-cell m n (number + 1) p in
           from r (rw (e, same, w, eq-eqb at at refl) refl) (rw (e, same) refl)
-      by r w Nothing e p = absurd (omega arith)
+      by r w None e p = absurd (omega arith)
 
   -- it is the cell's own record there
-  own-place : (n m : ℕ) → kept_is s m ≡ true → kept_item (record_item s (offset_of s m)) ≡ Cell n → own_offset made n ≡ place s m
+  own-place : (n m : ℕ) → kept_is s m ≡ true → kept_item (record_item s (offset_of s m)) ≡ Some (Cell n) → own_offset made n ≡ place s m
   unfolding same_item
-  own-place n m k e = first-is s none m (Cell n) k (item-made s none m k ∙ e) (eq-eqb n n refl)
+  own-place n m k e = first-is s none m (Some (Cell n)) k (item-made s none m k ∙ e) (eq-eqb n n refl)
 
   -- a record that is kept as a cell counts for it in s, and does not withdraw it: the cell survives
-  kept-survives : (n m : ℕ) → kept_is s m ≡ true → kept_item (record_item s (offset_of s m)) ≡ Cell n → survives s n ≡ true
+  kept-survives : (n m : ℕ) → kept_is s m ≡ true → kept_item (record_item s (offset_of s m)) ≡ Some (Cell n) → survives s n ≡ true
   unfolding survives keeps
   kept-survives n m k e =
       let is : cell_offset s n ≡ offset_of s m = sym (ap (home s) (item-made s none m k ∙ e)) ∙ home-made s none m k in
@@ -103,22 +104,22 @@ module _ (s : List ℕ) (none : first_faulty s ≡ length s) where
       stays : eqb (record_kind s (offset_of s m)) amendment_kind ≡ false → not (withdraws s (offset_of s m)) ≡ true
       stays = kept-plain s (offset_of s m)
 
-      by : (item : Item) → record_item s (offset_of s m) ≡ item → keeps s (offset_of s m) item ≡ true → kept_item item ≡ Cell n
+      by : (item : Option Item) → record_item s (offset_of s m) ≡ item → keeps s (offset_of s m) item ≡ true → kept_item item ≡ Some (Cell n)
           → not (withdraws s (offset_of s m)) ≡ true
-      by (Cell c) i h e = stays (cell-copy s none m c k i).plain
-      by (Sheet kind) i h e = stays (sheet-copy s none m kind k i).plain
-      by (Amendment c number) i h e = (and-true (eqb (cell_offset s c) (offset_of s m)) (not (withdraws s (offset_of s m))) h).1
-      by Nothing i h e = absurd (true≢false (sym h))
+      by (Some (Cell c)) i h e = stays (cell-copy s none m c k i).plain
+      by (Some (Sheet kind)) i h e = stays (sheet-copy s none m kind k i).plain
+      by (Some (Amendment c number)) i h e = (and-true (eqb (cell_offset s c) (offset_of s m)) (not (withdraws s (offset_of s m))) h).1
+      by None i h e = absurd (true≢false (sym h))
 
   -- The amount that it gives is that of its record in s: a copy has the same kind, cell and value; an amendment's value is in kind 1's unit, and counts
   -- tenfold for a coupon in both
-  amount-made : (m n : ℕ) → kept_is s m ≡ true → kept_item (record_item s (offset_of s m)) ≡ Cell n → amount_at made (place s m) ≡ amount_at s (offset_of s m)
+  amount-made : (m n : ℕ) → kept_is s m ≡ true → kept_item (record_item s (offset_of s m)) ≡ Some (Cell n) → amount_at made (place s m) ≡ amount_at s (offset_of s m)
   unfolding amount_at filed_value keeps
   amount-made m n k e = by (record_item s (offset_of s m)) refl k e
     where
-      by : (item : Item) → record_item s (offset_of s m) ≡ item → keeps s (offset_of s m) item ≡ true → kept_item item ≡ Cell n
+      by : (item : Option Item) → record_item s (offset_of s m) ≡ item → keeps s (offset_of s m) item ≡ true → kept_item item ≡ Some (Cell n)
           → amount_at made (place s m) ≡ amount_at s (offset_of s m)
-      by (Cell c) i h e =
+      by (Some (Cell c)) i h e =
           let of = cell-copy s none m c k i in
           let shaped = shape_of s none m k in
           let four = four-long s none m k in
@@ -129,20 +130,20 @@ module _ (s : List ℕ) (none : first_faulty s ≡ length s) where
             of.copy.numbers 6 8 (omega arith),
             of.plain,
           )
-      by (Sheet kind) i h e = let z : ◌≡◌ {A = ℕ} 0 1 = cc in absurd (omega arith)
-      by (Amendment c number) i h e =
+      by (Some (Sheet kind)) i h e = let z : ◌≡◌ {A = ℕ} 0 1 = cc in absurd (omega arith)
+      by (Some (Amendment c number)) i h e =
           let kind = (record-of-amendment s (offset_of s m) c number i).kind-is in
           let r = amended s none m c number k i in
           let valid = valued s (offset_of s m) kind (and-true (eqb (cell_offset s c) (offset_of s m)) (not (withdraws s (offset_of s m))) h).1 in
           rw (r.kind-is, r.cell-is, r.value-is, kind, valid)
-      by Nothing i h e = absurd (true≢false (sym h))
+      by None i h e = absurd (true≢false (sym h))
 
   -- a sheet of s: the number of its record, which is copied
   record SheetAt (kind : ℕ) : Type 0 where
     index : ℕ
     kept : kept_is s index ≡ true
     is : offset_of s index ≡ sheet_offset s kind
-    as-sheet : record_item s (offset_of s index) ≡ Sheet kind
+    as-sheet : record_item s (offset_of s index) ≡ Some (Sheet kind)
     stands : sheet_offset made kind ≡ place s index
 
   -- the sheet's offset in s is reached, so its record has a number, and it is a sheet, so that it is kept; in the composed filing its copy
@@ -151,21 +152,21 @@ module _ (s : List ℕ) (none : first_faulty s ≡ length s) where
   unfolding keeps sheet_offset first_with same_item
   sheet-at kind h =
       let l = ltb-true (sheet_offset s kind) (length s) h in
-      let number = numbered s (first-reached s (λ (at : ℕ). same_item (record_item s at) (Sheet kind)) (length s) l) in
-      let item = subst (λ (x : ℕ). record_item s x ≡ Sheet kind) (sym number.is) (with-passes s (Sheet kind) (length s) l) in
+      let number = numbered s (first-reached s (λ (at : ℕ). same_item (record_item s at) (Some (Sheet kind))) (length s) l) in
+      let item = subst (λ (x : ℕ). record_item s x ≡ Some (Sheet kind)) (sym number.is) (with-passes s (Some (Sheet kind)) (length s) l) in
       let k : kept_is s number.index ≡ true = rw item in
       record {
         index = number.index;
         kept = k;
         is = number.is;
         as-sheet = item;
-        stands = first-is s none number.index (Sheet kind) k (item-made s none number.index k ∙ ap kept_item item) (eq-eqb kind kind refl);
+        stands = first-is s none number.index (Some (Sheet kind)) k (item-made s none number.index k ∙ ap kept_item item) (eq-eqb kind kind refl);
       }
 
   sheet-absent : (kind : ℕ) → has_sheet s kind ≡ false → sheet_offset made kind ≡ length made
   unfolding sheet_offset
   sheet-absent kind h =
-      first-lost s none (Sheet kind)
+      first-lost s none (Some (Sheet kind))
       (λ m k e. let is = sheet-once s none (offset_of s m) kind (offset-reached s m) (kept-within s m k) (kept-sheet (record_item s (offset_of s m)) kind e) in
       omega (arith, kept-within s m k, ltb-false (sheet_offset s kind) (length s) h))
 
@@ -214,7 +215,7 @@ module _ (s : List ℕ) (none : first_faulty s ≡ length s) where
             λ n l u h.
             let v = survivor n h in
             rw (own-place n v.index v.kept v.as-cell, ← v.is) (amount-made v.index n v.kept v.as-cell);
-        absent = λ n l u h. first-lost s none (Cell n) (λ m k e. true≢false (sym (kept-survives n m k e) ∙ h));
+        absent = λ n l u h. first-lost s none (Some (Cell n)) (λ m k e. true≢false (sym (kept-survives n m k e) ∙ h));
         same-sheets = λ kind l. sheets-same kind;
         same_numbers = λ kind i l. numbers-same kind i;
       }

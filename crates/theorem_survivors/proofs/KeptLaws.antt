@@ -1,4 +1,5 @@
 -- The surviving records in the filing that is composed of them: each is kept whole, and where it stands is reached. Assumes nothing.
+use Rattle.std.specs.Prelude.{Option, Some, None}
 use Prim.Native.Nat.{ℕ, suc, ◌+◌, ◌≤◌, ◌<◌}
 use native.Mathlib.Nat.{add-zero}
 use native.Mathlib.Omega.{arith}
@@ -14,7 +15,7 @@ use Rattle.record_fields.specs.Records.{record_length, next_record}
 use Rattle.record_fields.proofs.SearchLaws.{Reached}
 use Rattle.record_kinds.specs.Kinds.{gives_cell, due_length}
 use Rattle.record_kinds.specs.declared.items.Item.{Item}
-use Rattle.record_kinds.specs.declared.items.Item.TheVariants.{Cell, Sheet, Amendment, Nothing}
+use Rattle.record_kinds.specs.declared.items.Item.TheVariants.{Cell, Sheet, Amendment}
 use Rattle.record_kinds.specs.Items.{record_item}
 use Rattle.record_kinds.proofs.ItemLaws.{record-of-amendment}
 use Rattle.record_shape.specs.Faults.{incomplete}
@@ -49,11 +50,11 @@ module _ (s : List ℕ) (none : first_faulty s ≡ length s) where
       omega (arith, due-four s at (λ e. omega (arith, shape_of m k)), shape_of m k)
 
   -- an amendment takes 18 bytes
-  pub amendment-long : (m n number : ℕ) → kept_is s m ≡ true → record_item s (offset_of s m) ≡ Amendment n number → record_length s (offset_of s m) ≡ 16
+  pub amendment-long : (m n number : ℕ) → kept_is s m ≡ true → record_item s (offset_of s m) ≡ Some (Amendment n number) → record_length s (offset_of s m) ≡ 16
   unfolding due_length gives_cell
   amendment-long m n number k e = shape_of m k ∙ rw (record-of-amendment s (offset_of s m) n number e).kind-is
 
-  pub amendment-ends : (m n number : ℕ) → kept_is s m ≡ true → record_item s (offset_of s m) ≡ Amendment n number → offset_of s m + 18 ≤ length s
+  pub amendment-ends : (m n number : ℕ) → kept_is s m ≡ true → record_item s (offset_of s m) ≡ Some (Amendment n number) → offset_of s m + 18 ≤ length s
   unfolding next_record
   amendment-ends m n number k e = omega (arith, ends_of m k, amendment-long m n number k e)
 
@@ -67,12 +68,12 @@ module _ (s : List ℕ) (none : first_faulty s ≡ length s) where
           let said = rw (add-zero (offset_of s m)) at (copy-number s (offset_of s m) 0 2 (omega arith)) in
           omega (arith, copy-length s (offset_of s m) (ends_of m k))
 
-      by : (item : Item) → record_item s (offset_of s m) ≡ item → keeps s (offset_of s m) item ≡ true
+      by : (item : Option Item) → record_item s (offset_of s m) ≡ item → keeps s (offset_of s m) item ≡ true
           → length (kept_as s (offset_of s m) item) ≡ 2 + number_at (kept_as s (offset_of s m) item) 0 2
-      by (Cell n) e h = copy
-      by (Sheet kind) e h = copy
-      by (Amendment n number) e h = amended-length s (offset_of s m) (amendment-ends m n number k e) ∙ sym (ap (λ (x : ℕ). 2 + x) (amended-size s (offset_of s m)))
-      by Nothing e h = absurd (true≢false (sym h))
+      by (Some (Cell n)) e h = copy
+      by (Some (Sheet kind)) e h = copy
+      by (Some (Amendment n number)) e h = amended-length s (offset_of s m) (amendment-ends m n number k e) ∙ sym (ap (λ (x : ℕ). 2 + x) (amended-size s (offset_of s m)))
+      by None e h = absurd (true≢false (sym h))
 
   pub within : (m : ℕ) → kept_is s m ≡ true → m < length s
   within m k = numbered-lt s m (kept-within s m k)

@@ -1,5 +1,6 @@
 -- In a sound filing without amendments the record that counts for a cell is the cell's own, of kind 1 or 6.
 -- Assumes nothing.
+use Rattle.std.specs.Prelude.{Option, Some, None}
 use Prim.Native.Nat.{ℕ, ◌≤◌, ◌<◌}
 use native.Mathlib.Nat.{le_refl, le_antisymm}
 use native.Mathlib.Omega.{arith}
@@ -10,7 +11,7 @@ use borrow.Author.Tests.{ltb-true, ltb-false, lt-ltb, eqb-true, eq-eqb, not-fals
 use lib.Dec.{ltb, eqb}
 use lib.ListN.{length}
 use Rattle.record_kinds.specs.declared.items.Item.{Item}
-use Rattle.record_kinds.specs.declared.items.Item.TheVariants.{Cell, Sheet, Amendment, Nothing}
+use Rattle.record_kinds.specs.declared.items.Item.TheVariants.{Cell, Sheet, Amendment}
 use Rattle.record_fields.specs.Records.{record_kind, first_record}
 use Rattle.record_kinds.specs.Kinds.{amendment_kind}
 use Rattle.record_kinds.specs.Items.{same_item, record_item, first_with}
@@ -38,50 +39,50 @@ faultless-at t sound at r l =
 module _ (t : List ℕ) (sound : first_faulty t ≡ length t)
     (unamended : first_record t (λ (at : ℕ). eqb (record_kind t at) amendment_kind) (length t) ≡ length t) (n : ℕ) where
   abbrev first : ℕ
-  first = first_with t (Cell n) (length t)
+  first = first_with t (Some (Cell n)) (length t)
 
   abbrev counted : ℕ
   counted = counting_before t n (length t)
 
   abbrev of_cell : ℕ → Bool
-  of_cell at = same_item (record_item t at) (Cell n)
+  of_cell at = same_item (record_item t at) (Some (Cell n))
 
   -- a record of the cell, without amendments, is of kind 1 or 6: a sheet and nothing rank 0, and an amendment before the end would have been
   -- found by the search for one
-  item-is : (at : ℕ) → Reached t 0 at → at < length t → 0 < rank t n at → record_item t at ≡ Cell n
+  item-is : (at : ℕ) → Reached t 0 at → at < length t → 0 < rank t n at → record_item t at ≡ Some (Cell n)
   unfolding item_rank
   item-is at r l h = by (record_item t at) refl h
     where
-      by : (item : Item) → record_item t at ≡ item → 0 < item_rank n item → record_item t at ≡ Cell n
-      by (Cell m) e p = e ∙ ap Cell (ranked-cell m n 1 p)
-      by (Sheet kind) e p = absurd (omega arith)
-      by (Amendment m number) e p =
+      by : (item : Option Item) → record_item t at ≡ item → 0 < item_rank n item → record_item t at ≡ Some (Cell n)
+      by (Some (Cell m)) e p = e ∙ ap (λ (c : ℕ). Some (Cell c)) (ranked-cell m n 1 p)
+      by (Some (Sheet kind)) e p = absurd (omega arith)
+      by (Some (Amendment m number)) e p =
           absurd (true≢false (sym (eq-eqb (record_kind t at) amendment_kind (record-of-amendment t at m number e).kind-is)
           ∙ first-earlier t (λ (i : ℕ). eqb (record_kind t i) amendment_kind) (length t) at r (omega (arith, unamended))))
-      by Nothing e p = absurd (omega arith)
+      by None e p = absurd (omega arith)
 
   -- the record that counts is one of the cell
   record Counted (at : ℕ) : Type 0 where
     within : at ≤ length t
-    is-cell : at < length t → Reached t 0 at × (record_item t at ≡ Cell n)
+    is-cell : at < length t → Reached t 0 at × (record_item t at ≡ Some (Cell n))
 
   counted_is : Counted counted
   counted_is =
       counting_holds t n Counted (length t) (record { within = le_refl (length t); is-cell = λ l. absurd (omega arith) })
       (λ at r l h. record { within = omega arith; is-cell = λ u. (r, item-is at r l h) })
 
-  same-cell : (at : ℕ) → record_item t at ≡ Cell n → of_cell at ≡ true
+  same-cell : (at : ℕ) → record_item t at ≡ Some (Cell n) → of_cell at ≡ true
   unfolding same_item
   same-cell at e = rw e (eq-eqb n n refl)
 
   -- No record of the cell stands before another: were the first one before `at`, the search that ends at `at` would find it, and the record at `at` would
   -- be a 4
-  single : (at : ℕ) → Reached t 0 at → at < length t → record_item t at ≡ Cell n → at ≤ first
+  single : (at : ℕ) → Reached t 0 at → at < length t → record_item t at ≡ Some (Cell n) → at ≤ first
   unfolding first_with stands_before
   single at r l e = by (ltb first at) refl
     where
       fine : ltb (first_record t of_cell at) at ≡ false
-      fine = rw e at (single-stands t at (Cell n) e refl (faultless-at t sound at r l).single)
+      fine = rw e at (single-stands t at (Some (Cell n)) e refl (faultless-at t sound at r l).single)
 
       by : (b : Bool) → ltb first at ≡ b → at ≤ first
       by true b =
@@ -97,7 +98,7 @@ module _ (t : List ℕ) (sound : first_faulty t ≡ length t)
   ranked : first < length t → 0 < rank t n first
   unfolding item_rank first_with
   ranked l =
-      let is = same_item_lem (record_item t first) (Cell n) (first_passes t of_cell (length t) l) in
+      let is = same_item_lem (record_item t first) (Some (Cell n)) (first_passes t of_cell (length t) l) in
       rw (is, eq-eqb n n refl) (omega arith)
 
   first_counted : first < length t → counted < length t
@@ -122,7 +123,7 @@ module _ (t : List ℕ) (sound : first_faulty t ≡ length t)
           let is = counted_is.is-cell l in
           le_antisymm (single counted is.0 l is.1) (from (ltb counted first) refl is.0 is.1)
         where
-          from : (b : Bool) → ltb counted first ≡ b → Reached t 0 counted → record_item t counted ≡ Cell n → first ≤ counted
+          from : (b : Bool) → ltb counted first ≡ b → Reached t 0 counted → record_item t counted ≡ Some (Cell n) → first ≤ counted
           from true c r i = absurd (true≢false (sym (same-cell counted i) ∙ first-earlier t of_cell (length t) counted r (ltb-true counted first c)))
           from false c r i = ltb-false counted first c
       by false e =

@@ -1,4 +1,5 @@
 -- The filing that is composed of the surviving records of a sound filing is sound and without amendments. Assumes nothing.
+use Rattle.std.specs.Prelude.{Option, Some, None}
 use Prim.Native.Nat.{ℕ, ◌<◌}
 use native.Mathlib.Omega.{arith}
 use mathlib.Core.Path.{◌≡◌, refl, sym, ap, subst, ◌∙◌}
@@ -14,7 +15,7 @@ use Rattle.record_fields.proofs.SearchLaws.{Reached}
 use Rattle.record_fields.proofs.FirstLaws.{first-none, first-earlier}
 use Rattle.record_kinds.specs.Kinds.{amendment_kind, flat_rates_kind, rate_path_kind}
 use Rattle.record_kinds.specs.declared.items.Item.{Item}
-use Rattle.record_kinds.specs.declared.items.Item.TheVariants.{Cell, Sheet, Amendment, Nothing}
+use Rattle.record_kinds.specs.declared.items.Item.TheVariants.{Cell, Sheet, Amendment}
 use Rattle.record_kinds.specs.Items.{same_item, record_item, first_with}
 use Rattle.record_kinds.proofs.ItemLaws.{same_item_lem, record-of-amendment}
 use Rattle.record_limits.proofs.BodyLaws.{amendment-within, amendment-fits}
@@ -31,11 +32,11 @@ use Rattle.theorem_survivors.proofs.KeptLaws.{fault-free, shape_of, four-long, a
 use Rattle.theorem_survivors.proofs.StandLaws.{kept_item, amended_to, amended, amended-listed, CopyOf, cell-copy, sheet-copy, item-made, earlier, once}
 
 -- an item that is kept as a sheet is that sheet
-pub kept-sheet : (item : Item) (kind : ℕ) → kept_item item ≡ Sheet kind → item ≡ Sheet kind
-kept-sheet (Cell n) kind e = let z : ◌≡◌ {A = ℕ} 0 1 = cc in absurd (omega arith)
-kept-sheet (Sheet k) kind e = e
-kept-sheet (Amendment n number) kind e = let z : ◌≡◌ {A = ℕ} 0 1 = cc in absurd (omega arith)
-kept-sheet Nothing kind e = let z : ◌≡◌ {A = ℕ} 0 1 = cc in absurd (omega arith)
+pub kept-sheet : (item : Option Item) (kind : ℕ) → kept_item item ≡ Some (Sheet kind) → item ≡ Some (Sheet kind)
+kept-sheet (Some (Cell n)) kind e = let z : ◌≡◌ {A = ℕ} 0 1 = cc in absurd (omega arith)
+kept-sheet (Some (Sheet k)) kind e = e
+kept-sheet (Some (Amendment n number)) kind e = let z : ◌≡◌ {A = ℕ} 0 1 = cc in absurd (omega arith)
+kept-sheet None kind e = let z : ◌≡◌ {A = ℕ} 0 1 = cc in absurd (omega arith)
 
 -- an amendment that is kept does not withdraw its cell
 pub valued : (s : List ℕ) (at : ℕ) → record_kind s at ≡ amendment_kind → not (withdraws s at) ≡ true → eqb (amendment_state s at) 0 ≡ true
@@ -55,18 +56,18 @@ module _ (s : List ℕ) (none : first_faulty s ≡ length s) where
   beside : (m kind : ℕ) → kept_is s m ≡ true → sheet_before s (offset_of s m) kind ≡ false → sheet_before made (place s m) kind ≡ false
   unfolding sheet_before first_with same_item
   beside m kind k h =
-      rw (first-none made (λ (at : ℕ). same_item (record_item made at) (Sheet kind)) (place s m)
-      (λ j r l. by j l (comes-from s none r (omega (arith, place-ends s none m k))) (same_item (record_item made j) (Sheet kind)) refl))
+      rw (first-none made (λ (at : ℕ). same_item (record_item made at) (Some (Sheet kind))) (place s m)
+      (λ j r l. by j l (comes-from s none r (omega (arith, place-ends s none m k))) (same_item (record_item made j) (Some (Sheet kind))) refl))
       (le-ltb (place s m) (place s m) (omega arith))
     where
-      by : (j : ℕ) → j < place s m → Source s (framed s none) j → (b : Bool) → same_item (record_item made j) (Sheet kind) ≡ b → b ≡ false
+      by : (j : ℕ) → j < place s m → Source s (framed s none) j → (b : Bool) → same_item (record_item made j) (Some (Sheet kind)) ≡ b → b ≡ false
       by j l src true e =
           let i : ℕ = src.index in
-          let stands : record_item made (place s i) ≡ Sheet kind = ap (record_item made) src.is ∙ same_item_lem (record_item made j) (Sheet kind) e in
+          let stands : record_item made (place s i) ≡ Some (Sheet kind) = ap (record_item made) src.is ∙ same_item_lem (record_item made j) (Some (Sheet kind)) e in
           let is = kept-sheet (record_item s (offset_of s i)) kind (sym (item-made s none i src.kept) ∙ stands) in
-          let first = ltb-false (first_with s (Sheet kind) (offset_of s m)) (offset_of s m) h in
+          let first = ltb-false (first_with s (Some (Sheet kind)) (offset_of s m)) (offset_of s m) h in
           let before = earlier s none i m (omega (arith, src.is)) in
-          let not_there = first-earlier s (λ (at : ℕ). same_item (record_item s at) (Sheet kind)) (offset_of s m) (offset_of s i) (offset-reached s i) (omega arith) in
+          let not_there = first-earlier s (λ (at : ℕ). same_item (record_item s at) (Some (Sheet kind))) (offset_of s m) (offset_of s i) (offset-reached s i) (omega arith) in
           absurd (true≢false (sym (rw is (eq-eqb kind kind refl)) ∙ not_there))
       by j l src false e = refl
 
@@ -106,12 +107,12 @@ module _ (s : List ℕ) (none : first_faulty s ≡ length s) where
         (tiers-copied s made at here c.copy shaped four ∙ free.loaded)
 
     -- an amendment is kept in 14 bytes
-    amended-whole : (n number : ℕ) → record_item s at ≡ Amendment n number → length (piece s m) ≡ 14
+    amended-whole : (n number : ℕ) → record_item s at ≡ Some (Amendment n number) → length (piece s m) ≡ 14
     unfolding kept_as
-    amended-whole n number e = ap (λ (item : Item). length (kept_as s at item)) e ∙ amended-length s at (amendment-ends s none m n number k e)
+    amended-whole n number e = ap (λ (item : Option Item). length (kept_as s at item)) e ∙ amended-length s at (amendment-ends s none m n number k e)
 
     -- An amendment has none as a record of kind 1: its cell is listed, and its value is within that cell's limit
-    amended-passes : (n number : ℕ) → record_item s at ≡ Amendment n number → not (withdraws s at) ≡ true → record_verdict made here ≡ accepted
+    amended-passes : (n number : ℕ) → record_item s at ≡ Some (Amendment n number) → not (withdraws s at) ≡ true → record_verdict made here ≡ accepted
     unfolding next_record
     amended-passes n number e h =
         let kind = (record-of-amendment s at n number e).kind-is in
@@ -140,15 +141,15 @@ module _ (s : List ℕ) (none : first_faulty s ≡ length s) where
               no-amendment = rw (kind-copied s made at here c.copy (shape_of s none m k) (four-long s none m k)) c.plain;
             }
 
-        by : (item : Item) → record_item s at ≡ item → keeps s at item ≡ true → Passed
-        by (Cell n) e h = copy (cell-copy s none m n k e)
-        by (Sheet kind) e h = copy (sheet-copy s none m kind k e)
-        by (Amendment n number) e h =
+        by : (item : Option Item) → record_item s at ≡ item → keeps s at item ≡ true → Passed
+        by (Some (Cell n)) e h = copy (cell-copy s none m n k e)
+        by (Some (Sheet kind)) e h = copy (sheet-copy s none m kind k e)
+        by (Some (Amendment n number)) e h =
             record {
               no-fault = amended-passes n number e (and-true (eqb (cell_offset s n) at) (not (withdraws s at)) h).1;
               no-amendment = rw (amended s none m n number k e).kind-is;
             }
-        by Nothing e h = absurd (true≢false (sym h))
+        by None e h = absurd (true≢false (sym h))
 
   -- each record that is reached comes from one that is kept
   each : {j : ℕ} → Reached made 0 j → j < length made → (P : ℕ → Type 0) → ((m : ℕ) → kept_is s m ≡ true → P (place s m)) → P j

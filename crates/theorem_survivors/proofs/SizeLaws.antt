@@ -1,4 +1,5 @@
 -- The filing that is composed of the surviving records is no longer than the one it comes from, and of bytes where that is. Assumes nothing.
+use Rattle.std.specs.Prelude.{Option, Some, None}
 use Prim.Native.Nat.{ℕ, zero, suc, ◌+◌, ◌≤◌}
 use native.Mathlib.Omega.{arith}
 use mathlib.Core.Path.{◌≡◌, refl, sym}
@@ -13,7 +14,7 @@ use Rattle.lists.proofs.TableLaws.{append-le}
 use Rattle.record_fields.specs.Records.{record_length, next_record}
 use Rattle.record_fields.proofs.SearchLaws.{next-lt}
 use Rattle.record_kinds.specs.declared.items.Item.{Item}
-use Rattle.record_kinds.specs.declared.items.Item.TheVariants.{Cell, Sheet, Amendment, Nothing}
+use Rattle.record_kinds.specs.declared.items.Item.TheVariants.{Cell, Sheet, Amendment}
 use Rattle.record_kinds.specs.Items.{record_item}
 use Rattle.record_verdicts.specs.RecordVerdicts.{first_faulty}
 use Rattle.theorem_survivors.specs.Composed.{record_bytes, amended_cell, keeps, kept_as, kept_at, offset_of, kept_before, only_survivors}
@@ -33,17 +34,17 @@ part-byte s h size from i = by (ltb i size) refl
 
 module _ (s : List ℕ) (h : (i : ℕ) → get_or s i 0 ≤ 255) where
   -- a record is kept as bytes of s, or, an amendment, as 12, 0, 1, 0 and ten bytes of s; past its end 0 is read
-  kept_byte : (at : ℕ) (item : Item) (i : ℕ) → get_or (kept_as s at item) i 0 ≤ 255
+  kept_byte : (at : ℕ) (item : Option Item) (i : ℕ) → get_or (kept_as s at item) i 0 ≤ 255
   unfolding kept_as record_bytes amended_cell
-  kept_byte at (Cell n) i = part-byte s h (2 + record_length s at) at i
-  kept_byte at (Sheet kind) i = part-byte s h (2 + record_length s at) at i
-  kept_byte at (Amendment n number) i =
+  kept_byte at (Some (Cell n)) i = part-byte s h (2 + record_length s at) at i
+  kept_byte at (Some (Sheet kind)) i = part-byte s h (2 + record_length s at) at i
+  kept_byte at (Some (Amendment n number)) i =
       append-le (12 ∷ 0 ∷ 1 ∷ 0 ∷ []) (take 2 (drop (at + 4) s) ++ take 8 (drop (at + 10) s)) 255 front
       (append-le (take 2 (drop (at + 4) s)) (take 8 (drop (at + 10) s)) 255 (part-byte s h 2 (at + 4)) (part-byte s h 8 (at + 10))) i
     where
       front : (j : ℕ) → get_or (12 ∷ 0 ∷ 1 ∷ 0 ∷ []) j 0 ≤ 255
       front = entries-le (12 ∷ 0 ∷ 1 ∷ 0 ∷ []) 255 tt
-  kept_byte at Nothing i = omega arith
+  kept_byte at None i = omega arith
 
   before-byte : (m i : ℕ) → get_or (kept_before s m) i 0 ≤ 255
   unfolding kept_before kept_at
@@ -69,13 +70,13 @@ module _ (s : List ℕ) (none : first_faulty s ≡ length s) where
       copy : length (record_bytes s (offset_of s m)) ≤ 2 + record_length s (offset_of s m)
       copy = omega (arith, copy-length s (offset_of s m) (ends_of s none m k))
 
-      by : (item : Item) → record_item s (offset_of s m) ≡ item → keeps s (offset_of s m) item ≡ true
+      by : (item : Option Item) → record_item s (offset_of s m) ≡ item → keeps s (offset_of s m) item ≡ true
           → length (kept_as s (offset_of s m) item) ≤ 2 + record_length s (offset_of s m)
-      by (Cell n) e h = copy
-      by (Sheet kind) e h = copy
-      by (Amendment n number) e h =
+      by (Some (Cell n)) e h = copy
+      by (Some (Sheet kind)) e h = copy
+      by (Some (Amendment n number)) e h =
           omega (arith, amended-length s (offset_of s m) (amendment-ends s none m n number k e), amendment-long s none m n number k e)
-      by Nothing e h = absurd (true≢false (sym h))
+      by None e h = absurd (true≢false (sym h))
 
   -- where a record is kept it stands no later than in s, and within its bytes: one more record moves both on, the place by no more bytes
   -- than the record has, or not at all where it is not kept

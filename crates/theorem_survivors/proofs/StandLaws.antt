@@ -1,4 +1,5 @@
 -- In the filing that is composed of the surviving records, each stands as a cell or a sheet, and nothing stands twice. Assumes nothing.
+use Rattle.std.specs.Prelude.{Option, Some, None}
 use Prim.Native.Nat.{ℕ, ◌+◌, ◌≤◌, ◌<◌}
 use native.Mathlib.Nat.{add-zero}
 use native.Mathlib.Omega.{arith}
@@ -18,7 +19,7 @@ use Rattle.record_fields.proofs.SearchLaws.{Reached}
 use Rattle.record_fields.proofs.FirstLaws.{first-none, first_found, first-earlier}
 use Rattle.record_kinds.specs.Kinds.{gives_cell, names_cell, amendment_kind}
 use Rattle.record_kinds.specs.declared.items.Item.{Item}
-use Rattle.record_kinds.specs.declared.items.Item.TheVariants.{Cell, Sheet, Amendment, Nothing}
+use Rattle.record_kinds.specs.declared.items.Item.TheVariants.{Cell, Sheet, Amendment}
 use Rattle.record_kinds.specs.Items.{same_item, record_class, record_item, first_with}
 use Rattle.record_kinds.proofs.ItemLaws.{same_item_lem, record-of-cell, record-of-sheet, record-of-amendment}
 use Rattle.record_shape.specs.Faults.{stands_before}
@@ -36,18 +37,18 @@ use Rattle.theorem_survivors.proofs.WalkLaws.{kept_is, piece, place, offset-lt, 
 use Rattle.theorem_survivors.proofs.KeptLaws.{fault-free, shape_of, four-long, amendment-ends, framed, within, place-ends, reached-place, comes-from, copied}
 
 -- what a record that is kept stands as
-abbrev pub kept_item : Item → Item
-kept_item (Cell n) = Cell n
-kept_item (Sheet kind) = Sheet kind
-kept_item (Amendment n number) = Cell n
-kept_item Nothing = Nothing
+abbrev pub kept_item : Option Item → Option Item
+kept_item (Some (Cell n)) = Some (Cell n)
+kept_item (Some (Sheet kind)) = Some (Sheet kind)
+kept_item (Some (Amendment n number)) = Some (Cell n)
+kept_item None = None
 
 -- the offset of the record in s that an item is kept from
-abbrev pub home : List ℕ → Item → ℕ
-home s (Cell n) = cell_offset s n
-home s (Sheet kind) = sheet_offset s kind
-home s (Amendment n number) = 0
-home s Nothing = 0
+abbrev pub home : List ℕ → Option Item → ℕ
+home s (Some (Cell n)) = cell_offset s n
+home s (Some (Sheet kind)) = sheet_offset s kind
+home s (Some (Amendment n number)) = 0
+home s None = 0
 
 module _ (s : List ℕ) (none : first_faulty s ≡ length s) where
   abbrev made : List ℕ
@@ -59,7 +60,7 @@ module _ (s : List ℕ) (none : first_faulty s ≡ length s) where
 
   -- what is kept are the 14 bytes made of the amendment, and a number read at its place is the number read off them: length 12, kind 1, the
   -- amendment's cell and its value
-  pub amended : (m n number : ℕ) → kept_is s m ≡ true → record_item s (offset_of s m) ≡ Amendment n number → CellRecord made (place s m) (amended_to m)
+  pub amended : (m n number : ℕ) → kept_is s m ≡ true → record_item s (offset_of s m) ≡ Some (Amendment n number) → CellRecord made (place s m) (amended_to m)
   unfolding kept_as
   amended m n number k e =
       let at : ℕ = offset_of s m in
@@ -75,7 +76,7 @@ module _ (s : List ℕ) (none : first_faulty s ≡ length s) where
         value-is = said 6 8 (omega arith) ∙ amended-value s at ends;
       }
 
-  pub amended-listed : (m n number : ℕ) → kept_is s m ≡ true → record_item s (offset_of s m) ≡ Amendment n number → eqb (cell_class (amended_to m).cell) 0 ≡ false
+  pub amended-listed : (m n number : ℕ) → kept_is s m ≡ true → record_item s (offset_of s m) ≡ Some (Amendment n number) → eqb (cell_class (amended_to m).cell) 0 ≡ false
   unfolding names_cell gives_cell record_class
   amended-listed m n number k e = rw (record-of-amendment s (offset_of s m) n number e).kind-is at (fault-free s none m k).listed
 
@@ -84,7 +85,7 @@ module _ (s : List ℕ) (none : first_faulty s ≡ length s) where
     pub plain : eqb (record_kind s (offset_of s m)) amendment_kind ≡ false
     pub copy : Copied s made (offset_of s m) (place s m)
 
-  pub cell-copy : (m n : ℕ) → kept_is s m ≡ true → record_item s (offset_of s m) ≡ Cell n → CopyOf m
+  pub cell-copy : (m n : ℕ) → kept_is s m ≡ true → record_item s (offset_of s m) ≡ Some (Cell n) → CopyOf m
   unfolding kept_as
   cell-copy m n k e =
       record {
@@ -92,7 +93,7 @@ module _ (s : List ℕ) (none : first_faulty s ≡ length s) where
         copy = copied s none m k (ap (kept_as s (offset_of s m)) e);
       }
 
-  pub sheet-copy : (m kind : ℕ) → kept_is s m ≡ true → record_item s (offset_of s m) ≡ Sheet kind → CopyOf m
+  pub sheet-copy : (m kind : ℕ) → kept_is s m ≡ true → record_item s (offset_of s m) ≡ Some (Sheet kind) → CopyOf m
   unfolding kept_as
   sheet-copy m kind k e =
       let of = record-of-sheet s (offset_of s m) kind e in
@@ -109,33 +110,33 @@ module _ (s : List ℕ) (none : first_faulty s ≡ length s) where
       same : CopyOf m → record_item made (place s m) ≡ record_item s (offset_of s m)
       same c = item-copied s made (offset_of s m) (place s m) c.copy (shape_of s none m k) (four-long s none m k) c.plain
 
-      by : (item : Item) → record_item s (offset_of s m) ≡ item → keeps s (offset_of s m) item ≡ true → record_item made (place s m) ≡ kept_item item
-      by (Cell n) e h = same (cell-copy m n k e) ∙ e
-      by (Sheet kind) e h = same (sheet-copy m kind k e) ∙ e
-      by (Amendment n number) e h =
+      by : (item : Option Item) → record_item s (offset_of s m) ≡ item → keeps s (offset_of s m) item ≡ true → record_item made (place s m) ≡ kept_item item
+      by (Some (Cell n)) e h = same (cell-copy m n k e) ∙ e
+      by (Some (Sheet kind)) e h = same (sheet-copy m kind k e) ∙ e
+      by (Some (Amendment n number)) e h =
           cell-item made (place s m) (amended_to m) (amended m n number k e) (amended-listed m n number k e)
-          ∙ ap Cell (record-of-amendment s (offset_of s m) n number e).cell-is
-      by Nothing e h = absurd (true≢false (sym h))
+          ∙ ap (λ (c : ℕ). Some (Cell c)) (record-of-amendment s (offset_of s m) n number e).cell-is
+      by None e h = absurd (true≢false (sym h))
 
   -- a sheet of s stands there once, or the later one would be a 4
-  pub sheet-once : (at kind : ℕ) → Reached s 0 at → at < length s → record_item s at ≡ Sheet kind → sheet_offset s kind ≡ at
+  pub sheet-once : (at kind : ℕ) → Reached s 0 at → at < length s → record_item s at ≡ Some (Sheet kind) → sheet_offset s kind ≡ at
   unfolding sheet_offset first_with stands_before same_item
   sheet-once at kind r l e =
-      let once = single-stands s at (Sheet kind) e refl (faultless-at s none at r l).single in
+      let once = single-stands s at (Some (Sheet kind)) e refl (faultless-at s none at r l).single in
       let before = rw e at (ltb-false (first_with s (record_item s at) at) at once) in
-      first_found s (λ (j : ℕ). same_item (record_item s j) (Sheet kind)) (length s) at r l (rw e (eq-eqb kind kind refl))
-      (λ j p u. first-earlier s (λ (i : ℕ). same_item (record_item s i) (Sheet kind)) at j p (omega arith))
+      first_found s (λ (j : ℕ). same_item (record_item s j) (Some (Sheet kind))) (length s) at r l (rw e (eq-eqb kind kind refl))
+      (λ j p u. first-earlier s (λ (i : ℕ). same_item (record_item s i) (Some (Sheet kind))) at j p (omega arith))
 
   -- the item that a record is kept as tells where the record stands in s
   home-is : (m : ℕ) → kept_is s m ≡ true → home s (kept_item (record_item s (offset_of s m))) ≡ offset_of s m
   unfolding keeps
   home-is m k = by (record_item s (offset_of s m)) refl k
     where
-      by : (item : Item) → record_item s (offset_of s m) ≡ item → keeps s (offset_of s m) item ≡ true → home s (kept_item item) ≡ offset_of s m
-      by (Cell n) e h = eqb-true (cell_offset s n) (offset_of s m) h
-      by (Sheet kind) e h = sheet-once (offset_of s m) kind (offset-reached s m) (kept-within s m k) e
-      by (Amendment n number) e h = eqb-true (cell_offset s n) (offset_of s m) (and-true (eqb (cell_offset s n) (offset_of s m)) (not (withdraws s (offset_of s m))) h).0
-      by Nothing e h = absurd (true≢false (sym h))
+      by : (item : Option Item) → record_item s (offset_of s m) ≡ item → keeps s (offset_of s m) item ≡ true → home s (kept_item item) ≡ offset_of s m
+      by (Some (Cell n)) e h = eqb-true (cell_offset s n) (offset_of s m) h
+      by (Some (Sheet kind)) e h = sheet-once (offset_of s m) kind (offset-reached s m) (kept-within s m k) e
+      by (Some (Amendment n number)) e h = eqb-true (cell_offset s n) (offset_of s m) (and-true (eqb (cell_offset s n) (offset_of s m)) (not (withdraws s (offset_of s m))) h).0
+      by None e h = absurd (true≢false (sym h))
 
   pub home-made : (m : ℕ) → kept_is s m ≡ true → home s (record_item made (place s m)) ≡ offset_of s m
   home-made m k = ap (home s) (item-made m k) ∙ home-is m k
@@ -168,7 +169,7 @@ module _ (s : List ℕ) (none : first_faulty s ≡ length s) where
   pub place-lt : (m : ℕ) → kept_is s m ≡ true → place s m < length made
   place-lt m k = omega (arith, place-ends s none m k, framed s none m k)
 
-  pub first-is : (m : ℕ) (item : Item) → kept_is s m ≡ true → record_item made (place s m) ≡ item → same_item item item ≡ true
+  pub first-is : (m : ℕ) (item : Option Item) → kept_is s m ≡ true → record_item made (place s m) ≡ item → same_item item item ≡ true
       → first_with made item (length made) ≡ place s m
   unfolding first_with
   first-is m item k e self =
@@ -176,7 +177,7 @@ module _ (s : List ℕ) (none : first_faulty s ≡ length s) where
       (rw e self) (λ j r l. rw e at (earlier-other m k j r l))
 
   -- an item that no record is kept as stands nowhere
-  pub first-lost : (item : Item) → ((m : ℕ) → kept_is s m ≡ true → kept_item (record_item s (offset_of s m)) ≡ item → ⊥) → first_with made item (length made) ≡ length made
+  pub first-lost : (item : Option Item) → ((m : ℕ) → kept_is s m ≡ true → kept_item (record_item s (offset_of s m)) ≡ item → ⊥) → first_with made item (length made) ≡ length made
   unfolding first_with
   first-lost item never = first-none made (λ (at : ℕ). same_item (record_item made at) item) (length made) (λ j r l. by j (comes-from s none r l) (same_item (record_item made j) item) refl)
     where

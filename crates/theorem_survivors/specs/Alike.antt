@@ -1,5 +1,5 @@
 -- "The valuation is that of the filing with only the surviving cells" (02:CR 6): what it says of each call that reads a filing. Definitions only.
-use Rattle.std.specs.Prelude.{ℕ, ◌≤◌, ◌≡◌, List, length, get_or}
+use Rattle.std.specs.Prelude.{ℕ, ◌≤◌, ◌≡◌, Result, List, length, get_or}
 use Rattle.filing.specs.Verdict.{Accepted}
 use Rattle.filing_decode.specs.Contents.{contents_of}
 use Rattle.form.specs.declared.sub_balances.SubBalance.{SubBalance}
@@ -9,7 +9,8 @@ use Rattle.valuation.specs.Promise.{verdict_on, list_after, borrowings_after}
 use Rattle.book_promise.specs.Books.{opened_book}
 use Rattle.book_promise.specs.Changes.{Change, book_after_all}
 use Rattle.withdrawal.specs.declared.Incentive.{Incentive}
-use Rattle.withdrawal_filing.specs.declared.tier_search.TierAnswer.{TierAnswer}
+use Rattle.withdrawal.specs.declared.ReachedTier.{ReachedTier}
+use Rattle.withdrawal_filing.specs.declared.tier_search.NoTier.{NoTier}
 use Rattle.withdrawal_filing.specs.TierAnswers.{TierAnswered}
 use Rattle.text.specs.Lines.{filing_limit}
 use Rattle.text_listing.specs.Listing.{listing_text}
@@ -33,7 +34,7 @@ pub record Alike (s t : List ℕ) : Type 0 where
   pub same-opened : opened_book t ≡ opened_book s
   pub same-book : (changes : List Change) → book_after_all (opened_book t) changes ≡ book_after_all (opened_book s) changes
   -- the answer on an incentive, which is a tier of the filing (02:CR 2)
-  pub same-tier : (x : Incentive) (answer : TierAnswer) → TierAnswered s x answer → TierAnswered t x answer
+  pub same-tier : (x : Incentive) (answer : Result ReachedTier NoTier) → TierAnswered s x answer → TierAnswered t x answer
   -- the texts that the listing and the program of the borrowings (02:CR 8) print, where neither is too long for them
   pub same_text : length s ≤ filing_limit → length t ≤ filing_limit → listing_text t ≡ listing_text s
   pub same-borrowings-text : length s ≤ filing_limit → length t ≤ filing_limit → borrowings_text t ≡ borrowings_text s

@@ -1,5 +1,5 @@
 -- A filing with only the surviving cells of another (02:CR 6). Definitions only.
-use Rattle.std.specs.Prelude.{ℕ, ◌+◌, ◌*◌, ◌≤◌, ◌<◌, ◌≡◌, Bool, true, false, cond, not, ◌&&◌, List, ltb, eqb, length}
+use Rattle.std.specs.Prelude.{ℕ, ◌+◌, ◌*◌, ◌≤◌, ◌<◌, ◌≡◌, Bool, true, false, cond, not, ◌&&◌, List, ltb, eqb, length, Some}
 use Rattle.form.specs.Cells.{first_cell, last_cell}
 use Rattle.record_kinds.specs.declared.items.Item.TheVariants.{Cell}
 use Rattle.record_fields.specs.Records.{record_kind, amendment_state, sheet_number, tier_count, first_record}
@@ -19,7 +19,7 @@ survives s n = ltb (cell_offset s n) (length s) && not (withdraws s (cell_offset
 
 -- the offset of a cell's own record, of kind 1 or 6, or the input's length where there is none
 abbrev pub own_offset : List ℕ → ℕ → ℕ
-own_offset t n = first_with t (Cell n) (length t)
+own_offset t n = first_with t (Some (Cell n)) (length t)
 
 -- a sheet of the kind is present
 abbrev pub has_sheet : List ℕ → ℕ → Bool

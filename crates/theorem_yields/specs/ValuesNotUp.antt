@@ -1,6 +1,6 @@
 -- "Yields up, values not up" (02:CR 11): what is read off the lists that two valuing calls leave, dollars. Definitions only.
-use Rattle.std.specs.Prelude.{ℕ, ◌≤◌, ◌<◌, List, length}
-use Rattle.answers.specs.declared.Answer.{Answer}
+use Rattle.std.specs.Prelude.{ℕ, ◌≤◌, ◌<◌, ⊤, Result, List, length}
+use Rattle.answers.specs.declared.Refusal.{Refusal}
 use Rattle.form.specs.Borrowings.{borrowing_count}
 use Rattle.form.specs.Counts.{number_count}
 use Rattle.form.specs.PlaceOrder.{sub_balance_count}
@@ -31,7 +31,7 @@ pub record Call (s : List ℕ) : Type 0 where
   pub borrowings : List ℕ
   pub list-fits : number_count ≤ length list
   pub borrowings-fit : borrowing_number_count ≤ length borrowings
-  pub answer : Answer
+  pub answer : Result ⊤ Refusal
   pub list-after : List ℕ
   pub borrowings-after : List ℕ
   pub promised : Valued s list borrowings answer list-after borrowings-after

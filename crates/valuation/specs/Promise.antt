@@ -1,9 +1,9 @@
 -- What the valuing call promises, for any bytes and any two lists lent to it (01:26-41, 01:58-61, 01:88-93; 02:CR 8). Definitions only.
 -- Read off the lists after the call: balances in thousands of dollars, values and totals in dollars.
-use Rattle.std.specs.Prelude.{ℕ, ◌+◌, ◌*◌, ◌<◌, ◌≡◌, cond, List, ◌++◌, eqb, length, get_or, drop}
+use Rattle.std.specs.Prelude.{ℕ, ◌+◌, ◌*◌, ◌<◌, ◌≡◌, cond, List, ◌++◌, eqb, length, get_or, drop, Result}
 use Rattle.lists.specs.Sums.{sum_where, everywhere}
 use Rattle.form.specs.Cells.{position_at, total_cell}
-use Rattle.answers.specs.declared.Answer.{Answer}
+use Rattle.answers.specs.declared.Refusal.{Refusal}
 use Rattle.answers.specs.Answers.{verdict_of}
 use Rattle.answers.specs.Verdict.{Verdict, accepted, first_refusal, list_verdict}
 use Rattle.filing_decode.specs.Contents.{contents_of}
@@ -61,7 +61,7 @@ pub record Enclosed (s list : List ℕ) : Type 0 where
   pub long-encloses : EnclosedTotal is_long sub_balance_count (exact_value_at (contents_of s)) (total_number list 2) (total_number list 3)
 
 -- the promise: s is the filing's bytes, list and borrowings are what is lent, and then what stands there at the return
-pub record Valued (s list borrowings : List ℕ) (answer : Answer) (list-after borrowings-after : List ℕ) : Type 0 where
+pub record Valued {A : Type 0} (s list borrowings : List ℕ) (answer : Result A Refusal) (list-after borrowings-after : List ℕ) : Type 0 where
   pub answer-is : verdict_of answer ≡ verdict_on s list borrowings
   pub list-is : list-after ≡ list_after s list borrowings
   pub borrowings-are : borrowings-after ≡ borrowings_after s list borrowings

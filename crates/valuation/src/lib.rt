@@ -3,7 +3,7 @@
 
 ghost use Rattle.valuation.specs.Promise.{Valued};
 
-use answers::{Answer, number};
+use answers::Refusal;
 use borrowing_numbers::write_borrowings;
 use filing::read;
 use form::CELLS;
@@ -12,27 +12,21 @@ use form::limits::SHEET_NUMBERS;
 use form::sub_balances::NUMBERS;
 use value_numbers::write_numbers;
 
-// Values a filing: where the answer is acceptance the 568 numbers stand in the first list and the borrowings' 374 in the second; on a refusal both are as they
-// were. A list under 568 numbers, and then one under 374, is refused before the filing is read.
-pub fn value(filing: &[u8], numbers: &mut [u64], borrowings: &mut [u64]) -> Answer
+// Values a filing: where it is accepted the 568 numbers stand in the first list and the borrowings' 374 in the second; on a refusal both are as they were. A list
+// under 568 numbers, and then one under 374, is refused before the filing is read.
+pub fn value(filing: &[u8], numbers: &mut [u64], borrowings: &mut [u64]) -> Result<(), Refusal>
     ensures valued { Valued filing.now numbers.old borrowings.old result numbers.new borrowings.new }
 {
     if numbers.len() < NUMBERS {
-        return Answer::ListTooShort(numbers.len());
+        return Err(Refusal::ListTooShort(numbers.len()));
     }
     if borrowings.len() < BORROWING_NUMBERS {
-        return Answer::ListTooShort(borrowings.len());
+        return Err(Refusal::ListTooShort(borrowings.len()));
     }
     let mut cells = [0; CELLS];
     let mut sheets = [0; SHEET_NUMBERS];
-    let reading = read(filing, &mut cells, &mut sheets);
-    let answer = reading.answer;
-    if number(answer) != 0 {
-        return answer;
-    }
-    let sums = reading.sums;
-    let tiers = reading.tiers;
-    write_numbers(&cells, sums, &sheets, tiers, numbers);
+    let reading = read(filing, &mut cells, &mut sheets)?;
+    write_numbers(&cells, reading.sums, &sheets, reading.tiers, numbers);
     write_borrowings(&cells, &sheets, borrowings);
-    answer
+    Ok(())
 }

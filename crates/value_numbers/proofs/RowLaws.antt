@@ -1,6 +1,6 @@
 -- The row of a place with the discount factors of the lists has the numbers of the definitions, none above the limit of a value. Assumes nothing.
 use Prim.Native.Nat.{ℕ, zero, suc, ◌≤◌, ◌<◌, zero-le}
-use mathlib.Core.Path.{◌≡◌, ap}
+use mathlib.Core.Path.{◌≡◌, ap, ◌∙◌}
 use mathlib.Core.Logic.{⊎_elim}
 use mathlib.Core.List.{List, ◌∷◌}
 use native.Mathlib.Nat.{le_refl, le_trans, not-suc-le-zero, le_of_suc-le-suc, le-max_left, le-max_right, max-le, eq-or-lt_of_le, ne_of_gt}
@@ -105,6 +105,22 @@ pub record Prepared (k : Contents) (tiers : WithdrawalTiers) (places : List SubB
   pub places-are : places ≡ places_of k.cells
   pub lower-holds : HoldsFactors down (longest_term (places_of k.cells)) (factors_by down k.yields (longest_term (places_of k.cells))) lower
   pub upper-holds : HoldsFactors up (longest_term (places_of k.cells)) (factors_by up k.yields (longest_term (places_of k.cells))) upper
+
+-- so it is with the filing's own tiers and places, its yields, and the tables of their factors up to the longest term of the places
+pub prepared : (k : Contents) {tiers : WithdrawalTiers} {places : List SubBalance} {yields lower upper : List ℕ} {longest : ℕ} → Valid k
+    → (tier_table tiers ≡ filing_tiers k) × Usable tiers → places ≡ places_of k.cells → yields ≡ k.yields → longest ≡ longest_term places
+    → HoldsFactors down longest (factors_by down yields longest) lower → HoldsFactors up longest (factors_by up yields longest) upper
+    → Prepared k tiers places lower upper
+prepared k {places = places} {longest = longest} v t q y l below above =
+    let longest-is : longest ≡ longest_term (places_of k.cells) = l ∙ ap longest_term q in
+    record {
+      valid = v;
+      tiers-are = t.0;
+      usable = t.1;
+      places-are = q;
+      lower-holds = rw (y, longest-is) at below;
+      upper-holds = rw (y, longest-is) at above;
+    }
 
 module _ (k : Contents) (tiers : WithdrawalTiers) (places : List SubBalance) (lower upper : List ℕ) (p : Prepared k tiers places lower upper) (place : ℕ) (h : place < sub_balance_count) where
   held-is : place_in places place ≡ place_at k.cells place

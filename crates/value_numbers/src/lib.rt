@@ -20,6 +20,7 @@ use form::sub_balances::{PLACE_NUMBERS, SCENARIOS, SUB_BALANCES, TOTALS_START};
 use lists::write;
 use price_factors::FACTORS;
 use price_multipliers::discount_tables::discount_tables;
+use pricing::Bounds;
 use shares::places::places_of;
 use value_places::longest_term::longest_term;
 use value_places::place_row::row_of;
@@ -27,10 +28,10 @@ use value_places::totals::totals_of;
 use withdrawal_filing::tiers_of;
 
 // The rows of the places, and then the totals, which are taken from the rows. The rest of the list is left as it was.
-pub fn write_numbers<'a>(
-    cells: &'a [u64; CELLS],
+pub fn write_numbers(
+    cells: &[u64; CELLS],
     sums: ColumnSums,
-    sheets: &'a [u16; SHEET_NUMBERS],
+    sheets: &[u16; SHEET_NUMBERS],
     tiers: FiledTiers,
     list: &mut [u64],
 )
@@ -56,28 +57,17 @@ fn write_rows(
     let tiers = tiers_of(filed);
     let places = places_of(cells, sums);
     let longest = longest_term(places);
-    let mut lower = [0u64; FACTORS];
-    let mut upper = [0u64; FACTORS];
+    let mut discounts = Bounds {
+        lower: [0u64; FACTORS],
+        upper: [0u64; FACTORS],
+    };
     let yields = row_used(sheets, PositionKind::Certificate);
     let numbers: &[u16] = sheets;
     let rates = &numbers[RATES_START..RATES_START + RATES];
-    discount_tables(yields, longest, &mut lower, &mut upper);
+    discount_tables(yields, longest, &mut discounts);
     let mut months = [[0u8; SCENARIOS]; TERM_MONTHS];
-    let mut place: usize = 0;
-    while place < SUB_BALANCES {
-        let row = row_of(
-            places[place],
-            place,
-            rates,
-            tiers.count,
-            &tiers.edges,
-            &tiers.survivals,
-            tiers.retained,
-            &lower,
-            &upper,
-            &mut months,
-        );
+    for place in 0..SUB_BALANCES {
+        let row = row_of(places[place], place, rates, &tiers, &discounts, &mut months);
         write(list, PLACE_NUMBERS * place, &row);
-        place += 1;
     }
 }

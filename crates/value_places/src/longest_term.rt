@@ -1,5 +1,5 @@
 // The longest term that has to be discounted.
-ghost use Rattle.std.specs.Prelude.{◌≡◌, max};
+ghost use Rattle.std.specs.Prelude.{◌≡◌};
 ghost use Rattle.value_places.specs.Inner.LongestTerm.{longest_term, term_of};
 
 use form::sub_balances::{SUB_BALANCES, SubBalance};
@@ -8,11 +8,9 @@ use form::sub_balances::{SUB_BALANCES, SubBalance};
 pub fn longest_term(places: [SubBalance; SUB_BALANCES]) -> u64
     ensures { result ≡ longest_term places }
 {
-    let mut longest = 0;
-    let mut i: usize = 0;
-    while i < SUB_BALANCES {
-        longest = greater(longest, term_of(places[i]));
-        i += 1;
+    let mut longest = 0u64;
+    for i in 0..SUB_BALANCES {
+        longest = longest.max(term_of(places[i]));
     }
     longest
 }
@@ -26,10 +24,4 @@ fn term_of(place: SubBalance) -> u64
     } else {
         place.remaining_months
     }
-}
-
-fn greater(a: u64, b: u64) -> u64
-    ensures { result ≡ max a b }
-{
-    if a < b { b } else { a }
 }

@@ -2,88 +2,67 @@
 ghost use Rattle.std.specs.Prelude.{◌≡◌, ◌≤◌, ◌<◌, length};
 ghost use Rattle.form.specs.Limits.{balance_limit, rate_count};
 ghost use Rattle.form.specs.PlaceOrder.{sub_balance_count, position_of};
-ghost use Rattle.withdrawal.specs.Inner.TierArrays.{tier_table};
+ghost use Rattle.withdrawal.specs.Inner.TierArrays.{tier_table, Usable};
 ghost use Rattle.pricing.specs.Rounding.{down, up};
 ghost use Rattle.price_factors.specs.Inner.Factors.{WithinRates};
-ghost use Rattle.price_deposits.specs.Inner.Levels.{TiersLent, lent_tiers, LevelsLeft};
+ghost use Rattle.price_deposits.specs.Inner.Levels.{LevelsLeft};
 ghost use Rattle.price_deposits.specs.Inner.Prices.{DepositLimits};
 ghost use Rattle.price_multipliers.specs.Inner.Tables.{factors_of, Discounting};
 ghost use Rattle.value_places.specs.PlaceTerms.{deposit_at};
 ghost use Rattle.value_places.specs.Inner.PlaceRows.{tabled_held, row_of};
 
-use form::limits::TIER_LIMIT;
 use form::positions::position;
 use form::sub_balances::{PLACE_NUMBERS, PLACE_VALUES, SubBalance};
 use lists::write;
 use price_deposits::values::values_of;
 use price_deposits::{Deposit, MonthLevels};
 use price_multipliers::discount_tables::MultiplierTable;
+use pricing::Bounds;
+use withdrawal::WithdrawalTiers;
 
-// The row of what place 0 to 35 holds, at the retail rates and the tiers of a filing, which are lent. The tables hold the multipliers of the discount factors.
+// The row of what place 0 to 35 holds, at the retail rates and the tiers of a filing. The tables hold the multipliers of the discount factors.
 // `months` is room for the levels of its months: for a zero balance, and from the last month on, it is left as it was.
-pub fn row_of<'a>(
+pub fn row_of(
     held: SubBalance,
     place: usize,
     rates: &[u16],
-    count: usize,
-    edges: &'a [u64; TIER_LIMIT],
-    survivals: &'a [u64; TIER_LIMIT],
-    retained: u64,
-    lower: &MultiplierTable,
-    upper: &MultiplierTable,
+    tiers: &WithdrawalTiers,
+    discounts: &Bounds<MultiplierTable>,
     months: &mut MonthLevels,
 ) -> [u64; PLACE_NUMBERS]
     requires place_lt_sub_balance_count { (place < sub_balance_count) × (held.balance ≤ balance_limit) × DepositLimits (deposit_at place held) }
-    requires within_rates { WithinRates rates.now × (rate_count ≤ length rates.now) × TiersLent count edges.now survivals.now retained }
-    requires discounting { 0 < held.balance → Discounting down (deposit_at place held).months lower.now × Discounting up (deposit_at place held).months upper.now }
-    ensures value { (t : TiersLent count edges.now survivals.now retained) → result ≡ row_of held place rates.now (tier_table (lent_tiers t)) (factors_of down (deposit_at place held).months lower.now) (factors_of up (deposit_at place held).months upper.now) }
-    ensures levels_left { LevelsLeft count edges.now held.balance (deposit_at place held) rates.now (position_of place).column months.old months.new }
+    requires within_rates { WithinRates rates.now × (rate_count ≤ length rates.now) × Usable tiers.now }
+    requires discounting { 0 < held.balance → Discounting down (deposit_at place held).months discounts.now.lower × Discounting up (deposit_at place held).months discounts.now.upper }
+    ensures value { result ≡ row_of held place rates.now (tier_table tiers.now) (factors_of down (deposit_at place held).months discounts.now.lower) (factors_of up (deposit_at place held).months discounts.now.upper) }
+    ensures levels_left { LevelsLeft tiers.now held.balance (deposit_at place held) rates.now (position_of place).column months.old months.new }
 {
     if held.balance == 0 {
         return [0; PLACE_NUMBERS];
     }
-    let values = held_values(
-        held, place, rates, count, edges, survivals, retained, lower, upper, months,
-    );
+    let values = held_values(held, place, rates, tiers, discounts, months);
     let mut row = [held.balance; PLACE_NUMBERS];
     write(&mut row, 1, &values);
     row
 }
 
 // Lower and upper value in each scenario of what place 0 to 35 holds, in dollars. `months` is used as by `row_of`.
-pub fn held_values<'a>(
+pub fn held_values(
     held: SubBalance,
     place: usize,
     rates: &[u16],
-    count: usize,
-    edges: &'a [u64; TIER_LIMIT],
-    survivals: &'a [u64; TIER_LIMIT],
-    retained: u64,
-    lower: &MultiplierTable,
-    upper: &MultiplierTable,
+    tiers: &WithdrawalTiers,
+    discounts: &Bounds<MultiplierTable>,
     months: &mut MonthLevels,
 ) -> [u64; PLACE_VALUES]
     requires place_lt_sub_balance_count { (place < sub_balance_count) × (held.balance ≤ balance_limit) × DepositLimits (deposit_at place held) }
-    requires within_rates { WithinRates rates.now × (rate_count ≤ length rates.now) × TiersLent count edges.now survivals.now retained }
-    requires discounting { 0 < held.balance → Discounting down (deposit_at place held).months lower.now × Discounting up (deposit_at place held).months upper.now }
-    ensures value { (t : TiersLent count edges.now survivals.now retained) → result ≡ tabled_held held place rates.now (tier_table (lent_tiers t)) (factors_of down (deposit_at place held).months lower.now) (factors_of up (deposit_at place held).months upper.now) }
-    ensures levels_left { LevelsLeft count edges.now held.balance (deposit_at place held) rates.now (position_of place).column months.old months.new }
+    requires within_rates { WithinRates rates.now × (rate_count ≤ length rates.now) × Usable tiers.now }
+    requires discounting { 0 < held.balance → Discounting down (deposit_at place held).months discounts.now.lower × Discounting up (deposit_at place held).months discounts.now.upper }
+    ensures value { result ≡ tabled_held held place rates.now (tier_table tiers.now) (factors_of down (deposit_at place held).months discounts.now.lower) (factors_of up (deposit_at place held).months discounts.now.upper) }
+    ensures levels_left { LevelsLeft tiers.now held.balance (deposit_at place held) rates.now (position_of place).column months.old months.new }
 {
     let d = deposit_at(place, held);
     let column = position(place / 4).column;
-    values_of(
-        held.balance,
-        d,
-        rates,
-        column,
-        count,
-        edges,
-        survivals,
-        retained,
-        lower,
-        upper,
-        months,
-    )
+    values_of(held.balance, d, rates, column, tiers, discounts, months)
 }
 
 // The deposit at a place.

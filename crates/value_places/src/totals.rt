@@ -7,8 +7,7 @@ ghost use Rattle.form.specs.PlaceOrder.{sub_balance_count};
 ghost use Rattle.form.specs.Counts.{place_number_count};
 ghost use Rattle.value_places.specs.RowTotals.{WithinRows, number_at, row_totals};
 
-use form::sub_balances::{PLACE_NUMBERS, TOTALS};
-use form_scenarios::Scenario;
+use form::sub_balances::{PLACE_NUMBERS, SCENARIOS, TOTALS};
 use lists::write;
 
 // Four totals for each scenario, in dollars: short lower, short upper, long lower, long upper.
@@ -17,11 +16,9 @@ pub fn totals_of(list: &[u64]) -> [u64; TOTALS]
     ensures { result ≡ joined (table scenario_count (row_totals list.now)) }
 {
     let mut totals = [0u64; TOTALS];
-    let mut scenario: usize = 0;
-    while (scenario as u64) < Scenario::COUNT {
+    for scenario in 0..SCENARIOS {
         let four = scenario_totals(list, scenario);
         write(&mut totals, 4 * scenario, &four);
-        scenario += 1;
     }
     totals
 }
@@ -47,10 +44,8 @@ fn total(list: &[u64], r: usize, first: usize, count: usize) -> u64
     ensures { result ≡ sum (table_from first count (number_at list.now r)) }
 {
     let mut sum: u64 = 0;
-    let mut i: usize = 0;
-    while i < count {
+    for i in 0..count {
         sum += list[PLACE_NUMBERS * (first + i) + r];
-        i += 1;
     }
     sum
 }

@@ -3,7 +3,7 @@ use Prim.Native.Nat.{ℕ, zero, suc, ◌+◌, ◌-◌, ◌≤◌, ◌<◌}
 use mathlib.Core.Path.{◌≡◌, refl, sym, ap, ◌∙◌}
 use mathlib.Core.Bool.{Bool, true, false, cond}
 use mathlib.Core.List.{List, map}
-use borrow.Author.Tests.{ltb-true, lt-ltb, le-ltb}
+use borrow.Author.Tests.{ltb-true}
 use native.Mathlib.Omega.{arith}
 use lib.Dec.{T, leb, ltb, leb→le}
 use lib.ListN.{length, get_or, set, drop, replicate, length-map, take-append-drop, get_or-append}
@@ -19,7 +19,7 @@ use Rattle.form.specs.Limits.{tier_limit, edge_limit, withdrawal_limit}
 use Rattle.withdrawal.specs.declared.ReachedTier.{ReachedTier}
 use Rattle.withdrawal.specs.Tiers.{WithdrawalTier, TierTable, Falling, tier, annual_withdrawal}
 use Rattle.withdrawal.specs.Reached.{reached_tier}
-use Rattle.withdrawal.specs.Inner.TierArrays.{tier_table, tier_table_of, with_survivals, tier_array, held, TiersFit, Usable}
+use Rattle.withdrawal.specs.Inner.TierArrays.{tier_table, tier_table_of, with_survivals, tier_array, held, withdrawal_at, survival_at, TiersFit, Usable}
 use Rattle.withdrawal.specs.Inner.Levels.{FirstLevel}
 use Rattle.withdrawal.proofs.TierLaws.{level_reached, level-withdrawal, first-level}
 use Rattle.withdrawal.proofs.HighestLaws.{edges-tried}
@@ -80,13 +80,13 @@ module _ (gain : ℤ) (cost : ℕ) where
 unfoldable answer_at : WithdrawalTiers → ℕ → ReachedTier
 answer_at t i =
     record {
-      withdrawal = cond (ltb i t.count) (get_or t.withdrawals i 0) t.otherwise;
-      survival = cond (ltb i t.count) (get_or t.survivals i 0) t.retained;
+      withdrawal = withdrawal_at t i;
+      survival = survival_at t i;
       edges_tried = cond (ltb i t.count) (suc i) t.count;
     }
 
 held-answer : (x : TierTable) (gain : ℤ) (cost : ℕ) → Falling x.tiers → answer_at (held x) (level_reached gain cost x.tiers) ≡ reached_tier x gain cost
-unfolding answer_at held reached_tier
+unfolding answer_at withdrawal_at survival_at held reached_tier
 held-answer x gain cost f = rw (held_at gain cost (λ (w : ℕ). w) x, held_at gain cost survival x, edges-tried x gain cost f)
 
 -- the search ends at level i, of a tier or past the last, with as many edges tried
@@ -103,15 +103,9 @@ module _ (t : WithdrawalTiers) (gain : ℤ) (cost i tried : ℕ) (u : Usable t) 
       (ap (λ (x : WithdrawalTiers). answer_at x (level_reached gain cost (tier_table t).tiers)) u.held-is
       ∙ held-answer (tier_table t) gain cost u.falling)
 
-  pub reached-answer : i < t.count
-      → record { withdrawal = get_or t.withdrawals i 0; survival = get_or t.survivals i 0; edges_tried = tried } ≡ reached_tier (tier_table t) gain cost
+  pub level-answer : record { withdrawal = withdrawal_at t i; survival = survival_at t i; edges_tried = tried } ≡ reached_tier (tier_table t) gain cost
   unfolding answer_at
-  reached-answer h = rw (as_many, lt-ltb i t.count h) (rw (lt-ltb i t.count h) at answer-is)
-
-  pub unreached-answer : t.count ≤ i
-      → record { withdrawal = t.otherwise; survival = t.retained; edges_tried = tried } ≡ reached_tier (tier_table t) gain cost
-  unfolding answer_at
-  unreached-answer h = rw (as_many, le-ltb i t.count h) (rw (le-ltb i t.count h) at answer-is)
+  level-answer = rw as_many answer-is
 
 -- tiers that pass the tests of their count, edges and withdrawals fit
 pub tiers-fit-of-tests :

@@ -1,5 +1,9 @@
-// Early withdrawal of certificate deposits (01:49-53), with its definitions and their laws. Nothing runs here.
+// Early withdrawal of certificate deposits (01:49-53), with its definitions and their laws, and what stands at a level of its tiers.
 #![tactic(auto)]
+
+ghost use Rattle.std.specs.Prelude.{◌≡◌, ◌≤◌};
+ghost use Rattle.form.specs.Limits.{tier_limit};
+ghost use Rattle.withdrawal.specs.Inner.TierArrays.{withdrawal_at, survival_at};
 
 use form::limits::TIER_LIMIT;
 
@@ -17,6 +21,32 @@ pub struct WithdrawalTiers {
     pub survivals: [u64; TIER_LIMIT],
     pub otherwise: u64,
     pub retained: u64,
+}
+
+impl WithdrawalTiers {
+    // The annual withdrawal at a level: that of its tier, or past the last that where no edge is reached.
+    pub fn withdrawal_at(&self, level: usize) -> u64
+        requires { self.now.count ≤ tier_limit }
+        ensures { result ≡ withdrawal_at self.now level }
+    {
+        if level < self.count {
+            self.withdrawals[level]
+        } else {
+            self.otherwise
+        }
+    }
+
+    // What survives a month at a level, in billionths.
+    pub fn survival_at(&self, level: usize) -> u64
+        requires { self.now.count ≤ tier_limit }
+        ensures { result ≡ survival_at self.now level }
+    {
+        if level < self.count {
+            self.survivals[level]
+        } else {
+            self.retained
+        }
+    }
 }
 
 // What a coupon and a penalty make of an incentive, whatever the month: the gain's share that is earned at a rate of one in a month, what is forfeited, and

@@ -3,7 +3,7 @@
 
 pub mod tier_search;
 
-ghost use Rattle.std.specs.Prelude.{◌≡◌, ℕ, ◌-◌, ◌≤◌, ◌<◌, get_or};
+ghost use Rattle.std.specs.Prelude.{◌≡◌, ℕ, ◌-◌, ◌≤◌, get_or};
 ghost use Rattle.lists.specs.Tables.{table};
 ghost use Rattle.form.specs.Limits.{tier_limit, edge_limit};
 ghost use Rattle.withdrawal.specs.Inner.TierArrays.{tier_array, tier_table, Usable};
@@ -26,7 +26,7 @@ pub fn tiers_of(filed: FiledTiers) -> WithdrawalTiers
     }
     let edges = from_the_top(count, &filed.edges);
     let withdrawals = from_the_top(count, &filed.withdrawals);
-    let lowest = wide(filed.withdrawals[0]);
+    let lowest = u64::from(filed.withdrawals[0]);
     with_survivals(count, edges, withdrawals, lowest)
 }
 
@@ -36,16 +36,8 @@ fn from_the_top(count: usize, numbers: &[u16; TIER_LIMIT]) -> [u64; TIER_LIMIT]
     ensures { (result ≡ tier_array (table count (λ i. get_or numbers.now (count - 1 - i) 0))) × ((i : ℕ) → get_or result i 0 ≤ edge_limit) }
 {
     let mut turned = [0u64; TIER_LIMIT];
-    let mut i: usize = 0;
-    while i < count {
-        turned[i] = wide(numbers[count - 1 - i]);
-        i += 1;
+    for i in 0..count {
+        turned[i] = u64::from(numbers[count - 1 - i]);
     }
     turned
-}
-
-fn wide(n: u16) -> u64
-    ensures { (result ≡ n) × (result < 65536) }
-{
-    n as u64
 }

@@ -1,9 +1,10 @@
 // The search in a filing's withdrawal tiers by itself, for an incentive that is given.
 ghost use Rattle.std.specs.Prelude.{◌≡◌};
+ghost use Rattle.withdrawal_filing.specs.declared.tier_search.NoTier.TheVariants.{Refused};
 ghost use Rattle.withdrawal_filing.specs.TierAnswers.{TierAnswered, too_large};
 
 use crate::tiers_of;
-use answers::{Answer, number};
+use answers::Refusal;
 use filing::read;
 use form::CELLS;
 use form::limits::SHEET_NUMBERS;
@@ -15,30 +16,32 @@ const GAIN_LIMIT: u64 = 10_000_000_000_000_000;
 
 const COST_LIMIT: u64 = 100_000_000_000_000;
 
-// The tier that is reached, or why there is none: the filing is refused, or the incentive is too large.
-#[derive(Clone, Copy)]
-pub enum TierAnswer {
-    Reached(ReachedTier),
-    Refused(Answer),
+// Why no tier is reached: the filing is refused, or the incentive is too large.
+#[derive(Clone, Copy, Debug, PartialEq, Eq)]
+pub enum NoTier {
+    Refused(Refusal),
     TooLarge,
 }
 
+impl From<Refusal> for NoTier {
+    ghost from_gives = { λ refusal none. none ≡ Refused refusal };
+
+    fn from(refusal: Refusal) -> NoTier {
+        NoTier::Refused(refusal)
+    }
+}
+
 // The tier of the filing that an incentive reaches: one of its own, or of the house's where it has none.
-pub fn tier_for(filing: &[u8], incentive: Incentive) -> TierAnswer
+pub fn tier_for(filing: &[u8], incentive: Incentive) -> Result<ReachedTier, NoTier>
     ensures answered { TierAnswered filing.now incentive result }
 {
     let mut cells = [0; CELLS];
     let mut sheets = [0; SHEET_NUMBERS];
-    let reading = read(filing, &mut cells, &mut sheets);
-    let answer = reading.answer;
-    if number(answer) != 0 {
-        return TierAnswer::Refused(answer);
-    }
+    let reading = read(filing, &mut cells, &mut sheets)?;
     if too_large(incentive) {
-        return TierAnswer::TooLarge;
+        return Err(NoTier::TooLarge);
     }
-    let filed = reading.tiers;
-    TierAnswer::Reached(reached_tier(tiers_of(filed), incentive))
+    Ok(reached_tier(&tiers_of(reading.tiers), incentive))
 }
 
 // A part of the gain, or the cost, is above its limit.

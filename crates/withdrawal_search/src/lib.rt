@@ -20,22 +20,14 @@ pub struct ReachedLevel {
 }
 
 // The tier that an incentive reaches among given tiers.
-pub fn reached_tier(tiers: WithdrawalTiers, incentive: Incentive) -> ReachedTier
-    requires { Usable tiers × Small incentive }
-    ensures { result ≡ reached_tier (tier_table tiers) (gain_of incentive) incentive.cost }
+pub fn reached_tier(tiers: &WithdrawalTiers, incentive: Incentive) -> ReachedTier
+    requires { Usable tiers.now × Small incentive }
+    ensures { result ≡ reached_tier (tier_table tiers.now) (gain_of incentive) incentive.cost }
 {
     let found = reached_level(tiers.count, &tiers.edges, incentive);
-    let level = found.level;
-    if level < tiers.count {
-        return ReachedTier {
-            withdrawal: tiers.withdrawals[level],
-            survival: tiers.survivals[level],
-            edges_tried: found.edges_tried,
-        };
-    }
     ReachedTier {
-        withdrawal: tiers.otherwise,
-        survival: tiers.retained,
+        withdrawal: tiers.withdrawal_at(found.level),
+        survival: tiers.survival_at(found.level),
         edges_tried: found.edges_tried,
     }
 }
@@ -45,19 +37,17 @@ pub fn reached_level(count: usize, edges: &[u64; TIER_LIMIT], incentive: Incenti
     requires { EdgesFit count edges.now × Small incentive }
     ensures { Searched count edges.now (gain_of incentive) incentive.cost result }
 {
-    let mut level: usize = 0;
-    while level < count {
+    for level in 0..count {
         if reaches(incentive, edges[level]) {
             return ReachedLevel {
                 level,
                 edges_tried: level + 1,
             };
         }
-        level += 1;
     }
     ReachedLevel {
-        level,
-        edges_tried: level,
+        level: count,
+        edges_tried: count,
     }
 }
 

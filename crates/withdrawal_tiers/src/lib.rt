@@ -57,10 +57,8 @@ pub fn with_survivals(
 {
     let figures = all_survivals();
     let mut survivals = [0u64; TIER_LIMIT];
-    let mut i: usize = 0;
-    while i < count {
+    for i in 0..count {
         survivals[i] = survival(&figures, withdrawals[i]);
-        i += 1;
     }
     WithdrawalTiers {
         count,

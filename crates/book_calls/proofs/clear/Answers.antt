@@ -7,8 +7,10 @@ use Rattle.book_calls.proofs.clear.Goals as goal
 
 pub returns-then-place-ge-SUB_BALANCES : goal.returns-then-place-ge-SUB_BALANCES
 unfolding fits_change changed_place held_after
-returns-then-place-ge-SUB_BALANCES c = record { changed = change-refused c.args.book (clear_place c.args.place) _ (le-ltb _ _ c.if-place-ge-SUB_BALANCES.true) c.refusal.ensures.0 c.refusal.ensures.1 }
+returns-then-place-ge-SUB_BALANCES c =
+    record { changed = change-refused c.args.book.now (clear_place c.args.place) (le-ltb _ _ c.if-place-ge-SUB_BALANCES.true) _ refl }
 
 pub returns : goal.returns
 unfolding fits_change changed_place held_after
-returns c = record { changed = change-taken c.args.book (clear_place c.args.place) _ (lt-ltb _ _ c.if-place-ge-SUB_BALANCES.false) refl c.with_place.ensures }
+returns c =
+    record { changed = change-taken c.args.book.now (clear_place c.args.place) (lt-ltb _ _ c.if-place-ge-SUB_BALANCES.false) _ c.put_place.ensures }

@@ -13,9 +13,7 @@ unfolding fits_change changed_place held_after
 returns-then-not-fits c =
     let a = c.args in
     record {
-      changed = change-refused a.book (set_place a.place a.balance a.coupon a.months a.penalty) _
-          (sym c.fits.ensures ∙ c.if-not-fits.true) c.refusal.ensures.0
-          c.refusal.ensures.1;
+      changed = change-refused a.book.now (set_place a.place a.balance a.coupon a.months a.penalty) (sym c.fits.ensures ∙ c.if-not-fits.true) _ refl;
     }
 
 pub values_in-values-requires : goal.values_in-values-requires
@@ -26,8 +24,8 @@ values_in-values-requires c =
     let fit = fitting in
     (fits-place _ _ _ _ _ fit, fits-balance _ _ _ _ _ fit, fits-limits _ _ _ _ _ fit)
 
-pub with_place-requires : goal.with_place-requires
-with_place-requires c =
+pub put_place-requires : goal.put_place-requires
+put_place-requires c =
     let fitting : fits_place c.args.place c.args.balance c.args.coupon
     c.args.months c.args.penalty
     ≡ true = sym c.fits.ensures ∙ c.if-not-fits.false in
@@ -41,6 +39,6 @@ returns c =
     ≡ true = sym c.fits.ensures ∙ c.if-not-fits.false in
     let a = c.args in
     record {
-      changed = change-taken a.book (set_place a.place a.balance a.coupon a.months a.penalty) _ fitting refl
-          (c.with_place.ensures ∙ rw c.values_in-values.ensures);
+      changed = change-taken a.book.now (set_place a.place a.balance a.coupon a.months a.penalty) fitting _
+          (c.put_place.ensures ∙ rw c.values_in-values.ensures);
     }

@@ -1,28 +1,19 @@
--- `some_above` meets its contract. The loop's invariant: none of the numbers passed is above the limit. Assumes nothing.
-use Prim.Native.Nat.{◌-◌}
-use mathlib.Core.Path.{◌≡◌, refl, sym}
-use mathlib.Core.Bool.{false}
-use native.Mathlib.Omega.{arith}
-use borrow.Author.Tests.{lt-ltb, le-ltb}
-use lib.ListN.{length}
-use Rattle.lists.specs.Tables.{any_below}
-use Rattle.lists.proofs.TestLaws.{any_none, any_here}
+-- `some_above` meets its contract. Assumes nothing.
+use Prim.Native.Nat.{ℕ}
+use mathlib.Core.Bool.{Bool}
+use mathlib.Core.Path.{◌∙◌}
+use lib.Dec.{ltb}
+use borrow.Author.Tests.{tests}
+use Rattle.std.proofs.Common.{rules}
+use Rattle.std.proofs.lemmas.Iterator.{YieldsList-from_slice}
+use Rattle.std.proofs.lemmas.Iterator.Search.{any_from_yields_List}
+use Rattle.lists.proofs.ChainLaws.{any-in_list}
 use Rattle.book_values.specs.Sheets.{above_limit}
 use Rattle.book_values.proofs.some_above.Goals as goal
 
-pub loop-i-init : goal.loop-i-init
-unfolding any_below
-loop-i-init c = (omega arith, refl)
-
-pub returns-then-limit-numbers : goal.returns-then-limit-numbers
-unfolding above_limit
-returns-then-limit-numbers c = sym (any_here _ _ c.loop-i.i (omega arith) (lt-ltb _ _ c.if-limit-numbers.true))
-
-pub loop-i-preserved : goal.loop-i-preserved
-unfolding above_limit
-loop-i-preserved c = (omega arith, any_none _ c.loop-i.i c.loop-i.invariant.1 (le-ltb _ _ c.if-limit-numbers.false))
-
 pub returns : goal.returns
+unfolding above_limit
 returns c =
-    let e : c.loop-i.i ≡ length c.args.numbers.now = omega arith in
-    rw (← e) (sym c.loop-i.invariant.1)
+    let test : (ℕ → Bool) = λ x. ltb c.args.limit x in
+    any_from_yields_List test _ _ _ c.any.ensures.ran (YieldsList-from_slice c.args.numbers.now (cc)) (λ x b q k. search (rules, tests))
+    ∙ any-in_list test 0 c.args.numbers.now

@@ -4,12 +4,13 @@ use native.Mathlib.Omega.{arith}
 use borrow.Author.Tests.{eq-eqb, ne_eqb}
 use Rattle.borrowing_prices.specs.Run.{flow_with}
 use Rattle.borrowing_prices.proofs.flow_of.Goals as goal
-
-pub returns-then-t-months : goal.returns-then-t-months
-unfolding flow_with
-returns-then-t-months c = let a = c.args in
-    (rw (ne_eqb (suc a.t) a.months (λ e. c.if-t-months.true (omega arith))) (omega arith), omega (arith, c.requires))
+use Rattle.borrowing_prices.proofs.flow_of.Goals.{then-t-months, else-t-months}
 
 pub returns : goal.returns
 unfolding flow_with
-returns c = let a = c.args in (rw (eq-eqb (suc a.t) a.months (omega (arith, c.if-t-months.false))), omega (arith, c.requires))
+returns c =
+    let a = c.args in
+    elim c.if-t-months.branch [
+      | then-t-months w ↦ (rw (w.result-is, eq-eqb (suc a.t) a.months (omega (arith, w.if-t-months.true))), omega arith)
+      | else-t-months w ↦ (rw (w.result-is, ne_eqb (suc a.t) a.months (λ e. w.if-t-months.false (omega arith))), omega arith)
+    ]

@@ -1,5 +1,4 @@
 -- `price_of` meets its contract. The loop's invariant: the products of the months so far are summed. Assumes nothing.
-use Prim.Native.Nat.{◌-◌, ◌≤◌}
 use mathlib.Core.Path.{◌≡◌}
 use Rattle.pricing.specs.Rounding.{rounding_of}
 use Rattle.pricing.specs.Run.{discounted_sum}
@@ -9,7 +8,4 @@ use Rattle.borrowing_prices.proofs.price_of.Given as goal
 
 abbrev pub invariant-loop-t : goal.invariant-loop-t
 invariant-loop-t l =
-    (l.t ≤ l.months) × (l.price ≡ discounted_sum (rounding_of l.up) (flow_with l.interest l.months) (factor_in l.factors l.scenario) l.t)
-
-abbrev pub decreases-loop-t : goal.decreases-loop-t
-decreases-loop-t l = l.months - l.t
+    l.price ≡ discounted_sum (rounding_of l.up) (flow_with l.interest l.months) (factor_in l.factors l.scenario) l.t

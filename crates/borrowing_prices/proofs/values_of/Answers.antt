@@ -16,26 +16,19 @@ returns-then-balance-eq0 c = rw c.if-balance-eq0.true (no-values _ _ _ _)
 
 pub loop-scenario-init : goal.loop-scenario-init
 unfolding table_from joined
-loop-scenario-init c = (omega arith, overwritten-none _)
-
-pub bounds_in-two-requires : goal.bounds_in-two-requires
-bounds_in-two-requires c =
-    let p = c.requires in
-    (p.0, c.interest_of-below.ensures.1, c.interest_of-above.ensures.1, p.2, omega (arith, c.loop-scenario-test.true), p.3, p.4)
+loop-scenario-init c = overwritten-none _
 
 -- lower and upper value of the scenario are written behind those of the scenarios before, at twice its index
 pub loop-scenario-preserved : goal.loop-scenario-preserved
 unfolding bounds_with
 loop-scenario-preserved c =
     let state = c.loop-scenario in
-    let more : state.scenario < 7 = omega (arith, c.loop-scenario-test.true) in (
-      omega (arith, more),
-      rw c.write.ensures (overwritten-row [] _ 2 (λ s. refl) state.scenario (2 * state.scenario) (2 * (state.scenario + 1)) (replicate 14 0) state.values
-          c.bounds_in-two.result state.invariant.1 c.bounds_in-two.ensures (omega (arith, more)) (omega (arith, more))),
-    )
+    let more : state.scenario < 7 = omega (arith, c.loop-scenario-test.true) in
+    rw c.write.ensures (overwritten-row [] _ 2 (λ s. refl) state.scenario (2 * state.scenario) (2 * (state.scenario + 1)) (replicate 14 0) state.values
+    c.bounds_in-two.result state.invariant c.bounds_in-two.ensures (omega (arith, more)) (omega (arith, more)))
 
 pub returns : goal.returns
 unfolding tabled_values rounding_of
 returns c =
     let e : c.loop-scenario.scenario ≡ 7 = omega arith in
-    overwritten-all _ _ _ _ c.loop-scenario.invariant.1 (omega arith) ∙ rw (e, c.interest_of-above.ensures.0, c.interest_of-below.ensures.0)
+    overwritten-all _ _ _ _ c.loop-scenario.invariant (omega arith) ∙ rw (e, c.interest_of-2.ensures.0, c.interest_of.ensures.0)

@@ -8,31 +8,31 @@ use Rattle.certificate_terms.proofs.position_of.Goals as goal
 pub overflow_sub-result : goal.overflow_sub-result
 overflow_sub-result c = omega (arith, (column-is c.args.original).least, c.column_of-column.ensures)
 
-pub returns-then-remaining-le3 : goal.returns-then-remaining-le3
-returns-then-remaining-le3 c = let a = c.args in
-    let j = column-is a.original in
-    rw c.column_of-column.ensures (sym (row_one a.remaining (column_of a.original) c.requires.le_remaining.0 c.if-remaining-le3.true j.least j.most))
-
 pub overflow_add-result : goal.overflow_add-result
 overflow_add-result c = omega (arith, (column-is c.args.original).most, c.column_of-column.ensures)
 
-pub returns-then-remaining-le12 : goal.returns-then-remaining-le12
-returns-then-remaining-le12 c = let a = c.args in
+pub overflow_add-result-in-13-to-36 : goal.overflow_add-result-in-13-to-36
+overflow_add-result-in-13-to-36 c = omega (arith, (column-is c.args.original).most, c.column_of-column.ensures)
+
+pub overflow_add-result-in_default : goal.overflow_add-result-in_default
+overflow_add-result-in_default c = omega (arith, (column-is c.args.original).most, c.column_of-column.ensures)
+
+pub returns-in-0-to-3 : goal.returns-in-0-to-3
+returns-in-0-to-3 c = let a = c.args in
     let j = column-is a.original in
-    rw c.column_of-column.ensures (sym (row-two a.remaining (column_of a.original) c.if-remaining-le3.false c.if-remaining-le12.true j.least j.most))
+    rw c.column_of-column.ensures (sym (row_one a.remaining (column_of a.original) c.requires.le_remaining.0 (omega arith) j.least j.most))
 
-pub overflow_add-result-then-remaining-le36 : goal.overflow_add-result-then-remaining-le36
-overflow_add-result-then-remaining-le36 c = omega (arith, (column-is c.args.original).most, c.column_of-column.ensures)
-
-pub returns-then-remaining-le36 : goal.returns-then-remaining-le36
-returns-then-remaining-le36 c = let a = c.args in
+pub returns-in-4-to-12 : goal.returns-in-4-to-12
+returns-in-4-to-12 c = let a = c.args in
     let j = column-is a.original in
-    rw c.column_of-column.ensures (sym (row-three a.remaining (column_of a.original) c.if-remaining-le12.false c.if-remaining-le36.true (j.second (omega (arith, c.requires))) j.most))
+    rw c.column_of-column.ensures (sym (row-two a.remaining (column_of a.original) (omega arith) (omega arith) j.least j.most))
 
-pub overflow_add-result-2 : goal.overflow_add-result-2
-overflow_add-result-2 c = omega (arith, (column-is c.args.original).most, c.column_of-column.ensures)
-
-pub returns : goal.returns
-returns c = let a = c.args in
+pub returns-in-13-to-36 : goal.returns-in-13-to-36
+returns-in-13-to-36 c = let a = c.args in
     let j = column-is a.original in
-    rw c.column_of-column.ensures (sym (row-four a.remaining (column_of a.original) c.if-remaining-le36.false c.requires.le_remaining.1 (j.third (omega (arith, c.requires))) j.most))
+    rw c.column_of-column.ensures (sym (row-three a.remaining (column_of a.original) (omega arith) (omega arith) (j.second (omega arith)) j.most))
+
+pub returns-in_default : goal.returns-in_default
+returns-in_default c = let a = c.args in
+    let j = column-is a.original in
+    rw c.column_of-column.ensures (sym (row-four a.remaining (column_of a.original) (omega arith) c.requires.le_remaining.1 (j.third (omega arith)) j.most))

@@ -1,6 +1,5 @@
--- The sums of the nine positions with a certificate more, and of the certificates that are summed. Definitions only.
-use Rattle.std.specs.Prelude.{ℕ, ◌+◌, ◌*◌, List, cond, eqb, get_or, set}
-use Rattle.answers.specs.Verdict.{Verdict}
+-- The sums of the nine positions with a certificate more. Definitions only.
+use Rattle.std.specs.Prelude.{ℕ, ◌+◌, ◌*◌, List, get_or, set}
 use Rattle.certificate_cells.specs.declared.filled_cells.Totals.{Totals}
 
 -- an amount added at an index
@@ -15,7 +14,3 @@ totals_with t i months balance coupon =
       coupon = added_at t.coupon i (balance * coupon);
       months = added_at t.months i (balance * months);
     }
-
--- how many of n certificates are summed: those before the one that is refused, all where none is
-unfoldable pub summed_count : Verdict → ℕ → ℕ
-summed_count v n = cond (eqb v.number 0) n v.location

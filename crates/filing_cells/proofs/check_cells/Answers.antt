@@ -1,5 +1,8 @@
 -- `check_cells` meets its contract: 19, then 7, 8 and 9. Assumes nothing.
-use Rattle.filing_cells.proofs.CellVerdictLaws.{cells-in-turn}
+use Rattle.std.proofs.lemmas.Result.{err_from_is_err_and}
+use Rattle.answers.proofs.AnswerLaws.{refusal-first}
+use Rattle.answers.proofs.VerdictLaws.{accepted-first}
+use Rattle.filing_cells.specs.CellVerdicts.{cells_verdict}
 use Rattle.filing_cells.proofs.check_cells.Goals as goal
 
 pub check_total-requires : goal.check_total-requires
@@ -9,14 +12,90 @@ check_total-requires c =
 pub check_columns-requires : goal.check_columns-requires
 check_columns-requires c = rw c.column_sums-sums.ensures
 
+pub returns-in_err-check_coupons : goal.returns-in_err-check_coupons
+unfolding cells_verdict
+returns-in_err-check_coupons c =
+    let p = err_from_is_err_and c.from_residual.result c.from_residual.ensures.1 in
+    record {
+      answer_value = rw (p.1, p.2) (refusal-first _ _ c.in_err-check_coupons.ensures);
+      sums_value = rw p.1 tt;
+    }
+
+pub returns-in_err-check_months : goal.returns-in_err-check_months
+unfolding cells_verdict
+returns-in_err-check_months c =
+    let p = err_from_is_err_and c.from_residual-in_err-check_months.result c.from_residual-in_err-check_months.ensures.1 in
+    record {
+      answer_value = rw (p.1, p.2)
+          (accepted-first _ c.in_ok-check_coupons.ensures
+          (refusal-first _ _ c.in_err-check_months.ensures));
+      sums_value = rw p.1 tt;
+    }
+
+pub returns-in_err-check_terms : goal.returns-in_err-check_terms
+unfolding cells_verdict
+returns-in_err-check_terms c =
+    let p = err_from_is_err_and c.from_residual-in_err-check_terms.result c.from_residual-in_err-check_terms.ensures.1 in
+    record {
+      answer_value = rw (p.1, p.2)
+          (accepted-first _ c.in_ok-check_coupons.ensures
+          (accepted-first _ c.in_ok-check_months.ensures
+          (refusal-first _ _ c.in_err-check_terms.ensures)));
+      sums_value = rw p.1 tt;
+    }
+
+pub returns-in_err-check_columns : goal.returns-in_err-check_columns
+unfolding cells_verdict
+returns-in_err-check_columns c =
+    let p = err_from_is_err_and c.from_residual-in_err-check_columns.result c.from_residual-in_err-check_columns.ensures.1 in
+    record {
+      answer_value = rw (p.1, p.2)
+          (accepted-first _ c.in_ok-check_coupons.ensures
+          (accepted-first _ c.in_ok-check_months.ensures
+          (accepted-first _ c.in_ok-check_terms.ensures
+          (refusal-first _ _ c.in_err-check_columns.ensures))));
+      sums_value = rw p.1 tt;
+    }
+
+pub returns-in_err-check_total : goal.returns-in_err-check_total
+unfolding cells_verdict
+returns-in_err-check_total c =
+    let p = err_from_is_err_and c.from_residual-in_err-check_total.result c.from_residual-in_err-check_total.ensures.1 in
+    record {
+      answer_value = rw (p.1, p.2)
+          (accepted-first _ c.in_ok-check_coupons.ensures
+          (accepted-first _ c.in_ok-check_months.ensures
+          (accepted-first _ c.in_ok-check_terms.ensures
+          (accepted-first _ c.in_ok-check_columns.ensures
+          (refusal-first _ _ c.in_err-check_total.ensures)))));
+      sums_value = rw p.1 tt;
+    }
+
+pub returns-in_err-check_borrowings_total : goal.returns-in_err-check_borrowings_total
+unfolding cells_verdict
+returns-in_err-check_borrowings_total c =
+    let p = err_from_is_err_and c.from_residual-in_err-check_borrowings_total.result c.from_residual-in_err-check_borrowings_total.ensures.1 in
+    record {
+      answer_value = rw (p.1, p.2)
+          (accepted-first _ c.in_ok-check_coupons.ensures
+          (accepted-first _ c.in_ok-check_months.ensures
+          (accepted-first _ c.in_ok-check_terms.ensures
+          (accepted-first _ c.in_ok-check_columns.ensures
+          (accepted-first _ c.in_ok-check_total.ensures
+          c.in_err-check_borrowings_total.ensures)))));
+      sums_value = rw p.1 tt;
+    }
+
 pub returns : goal.returns
+unfolding cells_verdict
 returns c =
     record {
-      answer_value = cells-in-turn _ c.check_borrowings_total-borrowed.ensures
-          c.check_total.ensures c.first_refusal-total.ensures
-          c.check_columns.ensures c.first_refusal-columns.ensures
-          c.check_terms.ensures c.first_refusal-terms.ensures
-          c.check_months.ensures c.first_refusal-months.ensures
-          c.check_coupons.ensures c.first_refusal.ensures;
+      answer_value =
+          accepted-first _ c.in_ok-check_coupons.ensures
+          (accepted-first _ c.in_ok-check_months.ensures
+          (accepted-first _ c.in_ok-check_terms.ensures
+          (accepted-first _ c.in_ok-check_columns.ensures
+          (accepted-first _ c.in_ok-check_total.ensures
+          c.in_ok-check_borrowings_total.ensures))));
       sums_value = c.column_sums-sums.ensures;
     }

@@ -9,7 +9,6 @@ use lib.Dec.{ltb}
 use lib.ListN.{get_or}
 use Rattle.form.specs.Cells.{first_column_cell}
 use Rattle.answers.specs.Verdict.{accepted, refused}
-use Rattle.answers.specs.Answers.{verdict_of}
 use Rattle.answers.proofs.VerdictLaws.{tried-start, tried_here, tried-next, tried-all, condition-holds, condition-refuses, condition-none}
 use Rattle.filing_cells.specs.Conditions.{above_column}
 use Rattle.filing_cells.specs.CellVerdicts.{column_verdict}
@@ -22,7 +21,7 @@ loop-i-init c = tried-start _ 6
 
 -- 8 holds at the i-th of the six and at none before: that is the verdict
 pub returns-then-totals-column : goal.returns-then-totals-column
-unfolding verdict_of refused column_verdict
+unfolding refused column_verdict
 returns-then-totals-column c =
     let tested : ltb (get_or c.args.totals.now (c.loop-i.i % 3) 0) c.cell_value.result
     ≡ above_column c.args.cells.now (c.loop-i.i % 3 + 1) (c.loop-i.i + first_column_cell) = let i = c.loop-i.i in
@@ -49,6 +48,6 @@ loop-i-preserved c =
     (condition-none _ 8 (loop.i + first_column_cell) (sym tested ∙ le-ltb _ _ c.if-totals-column.false))
 
 pub returns : goal.returns
-unfolding verdict_of accepted
+unfolding accepted
 returns c =
     tried-all _ 6 c.loop-i.i c.loop-i.invariant c.loop-i-test.false ∙ sym (columns-in-turn c.args.cells.now)

@@ -5,7 +5,6 @@ use mathlib.Core.Bool.{true}
 use Rattle.form.specs.declared.Position.{Position}
 use Rattle.form.specs.Cells.{position_at}
 use Rattle.answers.specs.Verdict.{accepted, refused}
-use Rattle.answers.specs.Answers.{verdict_of}
 use Rattle.answers.proofs.VerdictLaws.{tried-start, tried_here, tried-next, tried-all, condition-holds, condition-refuses, condition-none}
 use Rattle.filing_cells.specs.Conditions.{months_outside}
 use Rattle.filing_cells.specs.CellVerdicts.{position_verdict}
@@ -17,7 +16,7 @@ loop-i-init c = tried-start _ 9
 
 -- 7 holds at the i-th of the nine and at none before: that is the verdict
 pub returns-then-months_outside : goal.returns-then-months_outside
-unfolding verdict_of refused position_verdict
+unfolding refused position_verdict
 returns-then-months_outside c =
     let tested : c.months_outside.result
     ≡ months_outside c.args.cells.now (position_at c.loop-i.i) = c.months_outside.ensures ∙ ap (months_outside c.args.cells.now) c.position-p.ensures in
@@ -40,6 +39,6 @@ loop-i-preserved c =
     (condition-none _ 7 (position_at loop.i).months (sym tested ∙ c.if-months_outside.false))
 
 pub returns : goal.returns
-unfolding verdict_of accepted
+unfolding accepted
 returns c =
     tried-all _ 9 c.loop-i.i c.loop-i.invariant c.loop-i-test.false ∙ sym (months-in-turn c.args.cells.now)

@@ -1,12 +1,8 @@
 -- `check_months` meets its contract. The loop's invariant: the first i positions pass, and the rest of them gives the verdict.
 -- Assumes nothing.
-use Prim.Native.Nat.{◌-◌}
 use Rattle.answers.proofs.VerdictLaws.{Untried}
 use Rattle.filing_cells.proofs.ConditionLaws.{months_at}
 use Rattle.filing_cells.proofs.check_months.Given as goal
 
 abbrev pub invariant-loop-i : goal.invariant-loop-i
 invariant-loop-i l = Untried (months_at l.cells) 9 l.i
-
-abbrev pub decreases-loop-i : goal.decreases-loop-i
-decreases-loop-i l = 9 - l.i

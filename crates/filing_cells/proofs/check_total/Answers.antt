@@ -9,7 +9,6 @@ use lib.ListN.{get_or}
 use Rattle.form.specs.Cells.{total_cell}
 use Rattle.form.specs.Limits.{balance_limit}
 use Rattle.answers.specs.Verdict.{accepted, refused}
-use Rattle.answers.specs.Answers.{verdict_of}
 use Rattle.answers.proofs.VerdictLaws.{condition-holds, condition-passes}
 use Rattle.filing_cells.specs.Balances.{cell_in, balances}
 use Rattle.filing_cells.specs.Conditions.{total_differs}
@@ -29,14 +28,14 @@ overflow_add-totals-2 c =
     omega (arith, limit 0, limit 1, limit 2)
 
 pub returns-then-cell_value-totals : goal.returns-then-cell_value-totals
-unfolding verdict_of accepted total_verdict total_differs
+unfolding accepted total_verdict total_differs
 returns-then-cell_value-totals c =
     let whole : get_or c.args.totals.now 0 0 + get_or c.args.totals.now 1 0 + get_or c.args.totals.now 2 0 ≡ sum (balances c.args.cells.now) = rw (c.requires.1, totals-are) (balances-sum c.args.cells.now) in
     condition-passes _ 9 total_cell
     (ap not (eq-eqb (cell_in c.args.cells.now total_cell) _ (sym c.cell_value.ensures ∙ c.if-cell_value-totals.true ∙ whole)))
 
 pub returns-else-cell_value-totals : goal.returns-else-cell_value-totals
-unfolding verdict_of refused total_verdict total_differs
+unfolding refused total_verdict total_differs
 returns-else-cell_value-totals c =
     let whole : get_or c.args.totals.now 0 0 + get_or c.args.totals.now 1 0 + get_or c.args.totals.now 2 0 ≡ sum (balances c.args.cells.now) = rw (c.requires.1, totals-are) (balances-sum c.args.cells.now) in
     condition-holds _ 9 total_cell

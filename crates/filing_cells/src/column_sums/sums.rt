@@ -14,13 +14,11 @@ pub(crate) fn column_sums(cells: &[u64; CELLS]) -> ColumnSums
 {
     let mut totals = [0; 3];
     let mut above = [0; 9];
-    let mut i = 0;
-    while i < 9 {
+    for i in 0..9 {
         let p = position(i);
         let column = p.column - 1;
         above[i] = totals[column];
         totals[column] += cell_value(cells, p.balance);
-        i += 1;
     }
     ColumnSums { totals, above }
 }

@@ -15,7 +15,7 @@ use Rattle.filing_decode.proofs.SoundLaws.{offset-limit}
 use Rattle.filing_decode.proofs.fill_cells.Goals as goal
 
 pub loop-i-init : goal.loop-i-init
-loop-i-init c = (omega arith, record { long = c.requires.cells_len; holds = λ j h. absurd (omega arith) })
+loop-i-init c = record { long = c.requires.cells_len; holds = λ j h. absurd (omega arith) }
 
 pub amount_at-requires : goal.amount_at-requires
 amount_at-requires c =
@@ -29,10 +29,10 @@ loop-i-preserved c =
     let loop = c.loop-i in
     let h = c.loop-i-test.true in
     let value = c.amount_at.ensures ∙ ap (amount_at c.args.s.now) (offset-is loop.i h) ∙ value-noted _ (first_cell + loop.i) in
-    (omega arith, fill_more _ 0 cell_count loop.i loop.cells _ h value loop.invariant.1)
+    fill_more _ 0 cell_count loop.i loop.cells _ h value loop.invariant
 
 pub returns : goal.returns
 unfolding contents_of
 returns c =
     let e : c.loop-i.i ≡ cell_count = omega arith in
-    filled-from first_cell cell_count _ c.loop-i.cells (rw e at c.loop-i.invariant.1)
+    filled-from first_cell cell_count _ c.loop-i.cells (rw e at c.loop-i.invariant)

@@ -2,17 +2,11 @@
 use mathlib.Core.Path.{sym, ◌∙◌}
 use native.Mathlib.Omega.{arith}
 use Rattle.forward_rates.proofs.TermLaws.{term-some, term-within}
-use Rattle.forward_rates.proofs.SearchLaws.{search-start, search-fit, search-below, search-above, search-close, search-ends}
+use Rattle.forward_rates.proofs.SearchLaws.{search-start, search-fit, search-below, search-above, search-close}
 use Rattle.forward_rates.proofs.forward.Goals as goal
 
 pub loop-lower-init : goal.loop-lower-init
-loop-lower-init c = search-start _ _ (rw (← c.term_at-term.ensures) at c.bracket-whole.ensures)
-
-pub overflow_add-lower : goal.overflow_add-lower
-overflow_add-lower c = let s = c.loop-lower.invariant in omega (arith, s.rises, s.most-ge, s.whole.upper-limit)
-
-pub overflow_add-middle : goal.overflow_add-middle
-overflow_add-middle c = let s = c.loop-lower.invariant in omega (arith, s.rises, s.most-ge, s.whole.upper-limit)
+loop-lower-init c = search-start _ _ (rw (← c.term_at-term.ensures) at c.bracket-lower.ensures)
 
 pub side_of-told-requires : goal.side_of-told-requires
 side_of-told-requires c =
@@ -36,9 +30,6 @@ loop-lower-preserved c =
     search-above c.loop-lower.invariant _ (omega arith) (omega arith)
     (λ k e known. rw c.in-Above.is at (c.side_of-told.ensures k e known))
 
-pub overflow_add-result : goal.overflow_add-result
-overflow_add-result c = let s = c.loop-lower.invariant in omega (arith, s.most-ge, s.whole.upper-limit)
-
 pub returns-in-Close : goal.returns-in-Close
 returns-in-Close c =
     let s = c.loop-lower.invariant in record {
@@ -47,7 +38,3 @@ returns-in-Close c =
           k (e ∙ sym c.term_at-term.ensures) known;
       limited = omega (arith, s.most-ge, s.whole.upper-limit);
     }
-
-pub returns : goal.returns
-returns c =
-    let s = c.loop-lower.invariant in record { encloses = λ k e known. search-ends s (omega arith) k (e ∙ sym c.term_at-term.ensures) known; limited = omega (arith, s.rises, s.most-ge, s.whole.upper-limit) }

@@ -7,8 +7,9 @@ ghost use Rattle.forward_sheet.specs.Sheet.{pairs_over, HoldsTerm};
 ghost use Rattle.forward_sheet.specs.Inner.Runs.{Changed, Accumulated, WithinLimit};
 
 use form::limits::SHEET_MONTHS;
+use forward_rates::forward;
 use forward_rates::terms::term_at;
-use forward_rates::{Growths, forward};
+use pricing::Bounds;
 
 // The scale of a rate as a month's growth.
 const RATE_SCALE: i64 = 120_000;
@@ -25,17 +26,16 @@ pub(crate) fn write_term(
         × ((growth : ℕ → ℕ) → Accumulated growth figures.now → HoldsTerm growth index at list.new) }
 {
     let term = term_at(index) as usize;
-    let mut month: usize = 0;
-    while month + term <= SHEET_MONTHS {
+    let pairs = SHEET_MONTHS + 1 - term;
+    for month in 0..pairs {
         let pair = forward(figures[month], figures[month + term], index);
         write_pair(pair, at + 2 * month, list);
-        month += 1;
     }
-    at + 2 * month
+    at + 2 * pairs
 }
 
 // Writes a pair of growths as rates.
-fn write_pair(pair: Growths, at: usize, list: &mut [i64])
+fn write_pair(pair: Bounds<u64>, at: usize, list: &mut [i64])
     requires { (pair.lower ≤ growth_limit) × (pair.upper ≤ growth_limit) × (at + 1 < length list.old) }
     ensures { list.new ≡ set (set list.old at (sub_ℕ pair.lower rate_scale)) (at + 1) (sub_ℕ pair.upper rate_scale) }
 {

@@ -1,21 +1,21 @@
 -- The filed term of a cell as the code holds it, and the results of a cell in a scenario by lists of discount factors. Definitions only.
 use Rattle.std.specs.Prelude.{ℕ, List, [], ◌∷◌, ℤ, pos, ◌-ℤ◌}
+use Rattle.pricing.specs.declared.Bounds.{Bounds}
 use Rattle.pricing.specs.Rounding.{down, up}
 use Rattle.price_factors.specs.Inner.Factors.{factor_in}
 use Rattle.intangible.specs.RollingTerms.{RollingTerms}
 use Rattle.intangible.specs.Run.{balance_by, rolled_by, first_by, sum_by}
 use Rattle.intangible.specs.Inner.Month.{product_by}
-use Rattle.intangible_walk.specs.declared.Bounds.{Bounds}
 
 -- the balances at the end of month t, and what of them rolls over at the end of the filed term
-unfoldable pub balances_at : RollingTerms → ℕ → Bounds
+unfoldable pub balances_at : RollingTerms → ℕ → Bounds ℕ
 balances_at k t = record { lower = balance_by down k t; upper = balance_by up k t }
 
-unfoldable pub rolled_bounds : RollingTerms → Bounds
+unfoldable pub rolled_bounds : RollingTerms → Bounds ℕ
 rolled_bounds k = record { lower = rolled_by down k k.months; upper = rolled_by up k k.months }
 
 -- lower and upper amount at the end of a month, discounted
-unfoldable pub products_of : Bounds → ℕ → ℕ → List ℕ → List ℕ → Bounds
+unfoldable pub products_of : Bounds ℕ → ℕ → ℕ → List ℕ → List ℕ → Bounds ℕ
 products_of x month scenario lower upper =
     record {
       lower = product_by down (factor_in lower scenario month) x.lower;

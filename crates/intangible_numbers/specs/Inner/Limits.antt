@@ -7,6 +7,7 @@ use Rattle.form.specs.Counts.{place_value_count}
 use Rattle.form.specs.Limits.{coupon_limit, months_limit, rate_count, sheet_months}
 use Rattle.form.specs.Shift.{scenario_count, shifted_rates}
 use Rattle.filing_cells.specs.Balances.{cell_in}
+use Rattle.withdrawal.specs.declared.WithdrawalTiers.{WithdrawalTiers}
 use Rattle.withdrawal.specs.Tiers.{TierTable}
 use Rattle.pricing.specs.Rounding.{Rounding}
 use Rattle.pricing.specs.Inner.Multipliers.{discounts_by}
@@ -83,13 +84,13 @@ pub record RollingCell (cell : RetailCell) : Type 0 where
   pub term_is : cell.term ≡ rollover_months cell.column
   pub share-le : cell.share ≤ share_scale
 
--- lower and upper of a cell in each scenario, by rates and tiers that are lent and lists of discount factors
-unfoldable pub lent_numbers : RetailCell → List ℕ → ℕ → List ℕ → List ℕ → ℕ → List ℕ → List ℕ → List ℤ
-lent_numbers cell rates count edges survivals retained lower upper =
-    joined (table scenario_count (λ (s : ℕ). intangible_by (lent_terms cell s rates count edges survivals retained) s lower upper))
+-- lower and upper of a cell in each scenario, by rates, tiers and lists of discount factors
+unfoldable pub lent_numbers : RetailCell → List ℕ → WithdrawalTiers → List ℕ → List ℕ → List ℤ
+lent_numbers cell rates t lower upper =
+    joined (table scenario_count (λ (s : ℕ). intangible_by (lent_terms cell s rates t) s lower upper))
 
 -- the same of the cell at an index: 0s where it has no balance
-unfoldable pub cell_numbers_by : List ℕ → ℕ → List ℕ → List ℕ → ℕ → List ℕ → List ℕ → ℕ → List ℕ → List ℕ → List ℤ
-cell_numbers_by cells i rates shares count edges survivals retained lower upper =
+unfoldable pub cell_numbers_by : List ℕ → ℕ → List ℕ → List ℕ → WithdrawalTiers → List ℕ → List ℕ → List ℤ
+cell_numbers_by cells i rates shares t lower upper =
     cond (eqb (balance_of cells i) 0) (replicate place_value_count (pos 0))
-    (lent_numbers (retail_cell cells shares (position_at i)) rates count edges survivals retained lower upper)
+    (lent_numbers (retail_cell cells shares (position_at i)) rates t lower upper)

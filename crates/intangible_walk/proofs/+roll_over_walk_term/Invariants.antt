@@ -13,7 +13,7 @@ decreases-walk_term l = 2 * (last_month - l.w.month)
 
 abbrev pub invariant-walk_term-loop-at : goal.invariant-walk_term-loop-at
 invariant-walk_term-loop-at l =
-    Inside (lent_terms l.cell l.scenario l.rates l.count l.edges l.survivals l.retained) l.scenario l.lower l.upper l.term l.initial.at.month l.at
+    Inside (lent_terms l.cell l.scenario l.market.rates.now l.market.tiers.now) l.scenario l.market.factors.now.lower l.market.factors.now.upper l.term l.initial.at.month l.at
 
 abbrev pub decreases-walk_term-loop-at : goal.decreases-walk_term-loop-at
 decreases-walk_term-loop-at l = last_month - l.at.month

@@ -3,8 +3,10 @@
 use Rattle.std.specs.Prelude.{ℕ, suc, ◌*◌, ◌≤◌, ◌<◌, ◌≡◌, List}
 use Rattle.form.specs.Limits.{months_limit}
 use Rattle.form.specs.Shift.{scenario_count}
+use Rattle.withdrawal.specs.declared.WithdrawalTiers.{WithdrawalTiers}
 use Rattle.withdrawal.specs.MonthSurvival.{retail}
 use Rattle.withdrawal.specs.Inner.TierArrays.{EdgesFit}
+use Rattle.pricing.specs.declared.Bounds.{Bounds}
 use Rattle.pricing.specs.Scales.{coupon_growth}
 use Rattle.pricing.specs.Rounding.{down, up}
 use Rattle.price_factors.specs.Inner.Factors.{factor_in, AtMostPar}
@@ -17,19 +19,22 @@ use Rattle.intangible.specs.Bounded.{RollingBounded, rolled_coupon_limit, rolled
 use Rattle.intangible.specs.Inner.Month.{rolled_at, early_month, rolling_month, last_sum}
 use Rattle.intangible_months.specs.declared.Term.{Term}
 use Rattle.intangible_walk.specs.declared.Walk.{Walk}
-use Rattle.intangible_walk.specs.declared.Bounds.{Bounds}
+
+-- the discount factors of a month in a scenario
+unfoldable pub factors_at : ℕ → List ℕ → List ℕ → ℕ → Bounds ℕ
+factors_at scenario lower upper month = record { lower = factor_in lower scenario month; upper = factor_in upper scenario month }
 
 -- the walk after t months
 unfoldable pub walk_at : RollingTerms → ℕ → List ℕ → List ℕ → ℕ → Walk
 walk_at k scenario lower upper t =
-    record { month = t; lower = rolled_at down k (factor_in lower scenario) t; upper = rolled_at up k (factor_in upper scenario) t }
+    record { month = t; runs = record { lower = rolled_at down k (factor_in lower scenario) t; upper = rolled_at up k (factor_in upper scenario) t } }
 
 -- the term of month t
 unfoldable pub term_of : RollingTerms → ℕ → Term
 term_of k t = record { coupon = term_coupon k t; end = term_end k t }
 
 -- the sums to the horizon
-unfoldable pub sums_by : RollingTerms → ℕ → List ℕ → List ℕ → Bounds
+unfoldable pub sums_by : RollingTerms → ℕ → List ℕ → List ℕ → Bounds ℕ
 sums_by k scenario lower upper =
     record { lower = sum_by down k (factor_in lower scenario) k.horizon; upper = sum_by up k (factor_in upper scenario) k.horizon }
 
@@ -38,24 +43,30 @@ unfoldable pub early_walk : ℕ → ℕ → ℕ → List ℕ → List ℕ → Wa
 early_walk coupon q scenario lower upper w =
     record {
       month = suc w.month;
-      lower = early_month down (coupon_growth * coupon) (servicing_cost retail) q (factor_in lower scenario (suc w.month)) w.lower;
-      upper = early_month up (coupon_growth * coupon) (servicing_cost retail) q (factor_in upper scenario (suc w.month)) w.upper;
+      runs =
+          record {
+            lower = early_month down (coupon_growth * coupon) (servicing_cost retail) q (factor_in lower scenario (suc w.month)) w.runs.lower;
+            upper = early_month up (coupon_growth * coupon) (servicing_cost retail) q (factor_in upper scenario (suc w.month)) w.runs.upper;
+          };
     }
 
 unfoldable pub rolling_walk : ℕ → ℕ → ℕ → List ℕ → List ℕ → Walk → Walk
 rolling_walk coupon share scenario lower upper w =
     record {
       month = suc w.month;
-      lower = rolling_month down (coupon_growth * coupon) (servicing_cost retail) share (factor_in lower scenario (suc w.month)) w.lower;
-      upper = rolling_month up (coupon_growth * coupon) (servicing_cost retail) share (factor_in upper scenario (suc w.month)) w.upper;
+      runs =
+          record {
+            lower = rolling_month down (coupon_growth * coupon) (servicing_cost retail) share (factor_in lower scenario (suc w.month)) w.runs.lower;
+            upper = rolling_month up (coupon_growth * coupon) (servicing_cost retail) share (factor_in upper scenario (suc w.month)) w.runs.upper;
+          };
     }
 
 -- the sums after the month at the horizon
-unfoldable pub last_sums : ℕ → ℕ → List ℕ → List ℕ → Walk → Bounds
+unfoldable pub last_sums : ℕ → ℕ → List ℕ → List ℕ → Walk → Bounds ℕ
 last_sums coupon scenario lower upper w =
     record {
-      lower = last_sum down (coupon_growth * coupon) (servicing_cost retail) (factor_in lower scenario (suc w.month)) w.lower;
-      upper = last_sum up (coupon_growth * coupon) (servicing_cost retail) (factor_in upper scenario (suc w.month)) w.upper;
+      lower = last_sum down (coupon_growth * coupon) (servicing_cost retail) (factor_in lower scenario (suc w.month)) w.runs.lower;
+      upper = last_sum up (coupon_growth * coupon) (servicing_cost retail) (factor_in upper scenario (suc w.month)) w.runs.upper;
     }
 
 -- sizes within which the products of a month fit 64 bits
@@ -63,21 +74,21 @@ pub record SmallWalk (coupon scenario : ℕ) (lower upper : List ℕ) (w : Walk)
   pub coupon-le : coupon ≤ rolled_coupon_limit
   pub scenario-lt : scenario < scenario_count
   pub month-lt : w.month < last_month
-  pub lower-balance-le : w.lower.balance ≤ rolled_limit
-  pub lower-sum-le : w.lower.sum ≤ rolled_limit
-  pub upper-balance-le : w.upper.balance ≤ rolled_limit
-  pub upper-sum-le : w.upper.sum ≤ rolled_limit
+  pub lower-balance-le : w.runs.lower.balance ≤ rolled_limit
+  pub lower-sum-le : w.runs.lower.sum ≤ rolled_limit
+  pub upper-balance-le : w.runs.upper.balance ≤ rolled_limit
+  pub upper-sum-le : w.runs.upper.sum ≤ rolled_limit
   pub lower-par : AtMostPar lower
   pub upper-par : AtMostPar upper
 
--- what the walk asks of a cell's terms and of what is lent
-pub record Walkable (k : RollingTerms) (column scenario : ℕ) (rates : List ℕ) (count : ℕ) (edges lower upper : List ℕ) : Type 0 where
+-- what the walk asks of a cell's terms and of what it is walked by
+pub record Walkable (k : RollingTerms) (column scenario : ℕ) (rates : List ℕ) (t : WithdrawalTiers) (lower upper : List ℕ) : Type 0 where
   pub bounded : RollingBounded rolled_coupon_limit k
   pub term-pos : 0 < k.term
   pub term-le : k.term ≤ months_limit
   pub rates-fit : ColumnRates rates column
   pub scenario-lt : scenario < scenario_count
-  pub edges_fit : EdgesFit count edges
+  pub edges_fit : EdgesFit t.count t.edges
   pub lower-par : AtMostPar lower
   pub upper-par : AtMostPar upper
 

@@ -1,9 +1,10 @@
 -- The months of a deposit by levels of tiers, and the multipliers of each level. Definitions only.
-use Rattle.std.specs.Prelude.{ℕ, ◌*◌, ◌<◌, ◌≡◌, Bool, List}
+use Rattle.std.specs.Prelude.{ℕ, ◌*◌, ◌<◌, ◌≡◌, List}
 use Rattle.withdrawal.specs.declared.WithdrawalTiers.{WithdrawalTiers}
 use Rattle.withdrawal.specs.MonthSurvival.{account_of}
 use Rattle.withdrawal.specs.Inner.TierArrays.{Usable}
 use Rattle.pricing.specs.Scales.{coupon_growth}
+use Rattle.price_multipliers.specs.declared.MonthMultipliers.{MonthMultipliers}
 use Rattle.withdrawal_months.specs.Levels as months
 use Rattle.price_deposits.specs.declared.Deposit.{Deposit}
 use Rattle.price_deposits.specs.DepositTerms.{servicing_cost}
@@ -23,17 +24,15 @@ lent_tiers {count} {edges} {survivals} {retained} t =
 -- levels of all months before the last
 abbrev pub Levelled : WithdrawalTiers → Deposit → List ℕ → ℕ → List (List ℕ) → Type 0
 Levelled t d rates column levels =
-    months.Levelled d.brokered d.coupon d.penalty d.months t.count t.edges rates column levels
+    months.Levelled d.brokered d.coupon d.penalty d.months t rates column levels
 
 -- the room for levels once a balance is valued: as it was for no balance; else the levels of the months before the last, and from the last on as it was
-abbrev pub LevelsLeft : ℕ → List ℕ → ℕ → Deposit → List ℕ → ℕ → List (List ℕ) → List (List ℕ) → Type 0
-LevelsLeft count edges balance d rates column before after =
+abbrev pub LevelsLeft : WithdrawalTiers → ℕ → Deposit → List ℕ → ℕ → List (List ℕ) → List (List ℕ) → Type 0
+LevelsLeft t balance d rates column before after =
     (balance ≡ 0 → after ≡ before)
     × (0 < balance
-    → months.Levelled d.brokered d.coupon d.penalty d.months count edges rates column after × months.LeftBehind d.months before after)
+    → Levelled t d rates column after × months.LeftBehind d.months before after)
 
 -- multipliers of all levels that the account may have
-abbrev pub Multiplied : WithdrawalTiers → Deposit → List ℕ → List ℕ → List ℕ → List Bool → Type 0
-Multiplied t d paid left carried whole =
-    months.Multiplied d.brokered (coupon_growth * d.coupon) (servicing_cost (account_of d.brokered)) t.count t.survivals t.retained paid left carried
-    whole
+abbrev pub Multiplied : WithdrawalTiers → Deposit → List MonthMultipliers → Type 0
+Multiplied t d multipliers = months.Multiplied d.brokered (coupon_growth * d.coupon) (servicing_cost (account_of d.brokered)) t multipliers

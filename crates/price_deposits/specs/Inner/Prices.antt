@@ -3,11 +3,11 @@ use Rattle.std.specs.Prelude.{ℕ, ◌≤◌, List, length, get_or}
 use Rattle.form.specs.Limits.{coupon_limit, penalty_limit, months_limit, rate_limit, rate_count}
 use Rattle.form.specs.Shift.{shifted_rate, path_rate}
 use Rattle.withdrawal.specs.Tiers.{TierTable}
+use Rattle.pricing.specs.declared.Bounds.{Bounds}
 use Rattle.pricing.specs.Rounding.{Rounding, down, up}
 use Rattle.pricing.specs.Run.{discounted_by}
 use Rattle.price_factors.specs.Inner.Factors.{factor_in}
 use Rattle.price_deposits.specs.declared.Deposit.{Deposit}
-use Rattle.price_deposits.specs.declared.deposit_prices.Bounds.{Bounds}
 use Rattle.price_deposits.specs.DepositTerms.{terms_of}
 
 -- the price of a deposit at a rounding and the shifted retail rates of the months, billionths, with discount factors from a list
@@ -15,7 +15,7 @@ unfoldable pub tabled_price : Rounding → TierTable → Deposit → (ℕ → �
 tabled_price ρ tiers d rate factors scenario = discounted_by ρ (terms_of tiers d rate) (factor_in factors scenario) d.months
 
 -- lower price by lower factors, upper price by upper factors
-unfoldable pub tabled_prices : TierTable → Deposit → (ℕ → ℕ) → List ℕ → List ℕ → ℕ → Bounds
+unfoldable pub tabled_prices : TierTable → Deposit → (ℕ → ℕ) → List ℕ → List ℕ → ℕ → Bounds ℕ
 tabled_prices tiers d rate lower upper scenario =
     record { lower = tabled_price down tiers d rate lower scenario; upper = tabled_price up tiers d rate upper scenario }
 

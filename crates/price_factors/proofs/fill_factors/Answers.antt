@@ -32,23 +32,22 @@ month-written ρ yields longest month factors after h l w e =
 
 pub loop-month-init : goal.loop-month-init
 unfolding table_from joined
-loop-month-init c = rw (c.requires.2, c.requires.3) (omega arith, overwritten-none _, overwritten-none _)
+loop-month-init c = rw (c.requires.2, c.requires.3) (overwritten-none _, overwritten-none _)
 
 pub returns-then-longest-month : goal.returns-then-longest-month
 returns-then-longest-month c =
     let inv = c.loop-month.invariant in
-    (inv.1.is ∙ factors-left _ _ _ _ c.if-longest-month.true inv.0, inv.2.is ∙ factors-left _ _ _ _ c.if-longest-month.true inv.0)
+    (inv.0.is ∙ factors-left _ _ _ _ c.if-longest-month.true (omega arith), inv.1.is ∙ factors-left _ _ _ _ c.if-longest-month.true (omega arith))
 
 pub fill_month-requires : goal.fill_month-requires
 fill_month-requires c =
     let p = c.requires in
-    (p.0 _, omega (arith, c.loop-month.invariant.1.as_long), omega (arith, c.loop-month.invariant.2.as_long))
+    (p.0 _, omega (arith, c.loop-month.invariant.0.as_long), omega (arith, c.loop-month.invariant.1.as_long))
 
 pub loop-month-preserved : goal.loop-month-preserved
 loop-month-preserved c = (
-  omega arith,
-  month-written down _ _ c.loop-month.month c.loop-month.lower _ (omega arith) (omega (arith, c.if-longest-month.false)) c.loop-month.invariant.1 c.fill_month.ensures.0,
-  month-written up _ _ c.loop-month.month c.loop-month.upper _ (omega arith) (omega (arith, c.if-longest-month.false)) c.loop-month.invariant.2 c.fill_month.ensures.1,
+  month-written down _ _ c.loop-month.month c.loop-month.lower _ (omega arith) (omega (arith, c.if-longest-month.false)) c.loop-month.invariant.0 c.fill_month.ensures.0,
+  month-written up _ _ c.loop-month.month c.loop-month.upper _ (omega arith) (omega (arith, c.if-longest-month.false)) c.loop-month.invariant.1 c.fill_month.ensures.1,
 )
 
 pub returns : goal.returns
@@ -56,4 +55,4 @@ unfolding factors_by
 returns c =
     let e : c.loop-month.month ≡ months_limit = omega arith in
     let inv = c.loop-month.invariant in
-    (overwritten-all _ _ _ _ inv.1 (omega arith) ∙ rw e, overwritten-all _ _ _ _ inv.2 (omega arith) ∙ rw e)
+    (overwritten-all _ _ _ _ inv.0 (omega arith) ∙ rw e, overwritten-all _ _ _ _ inv.1 (omega arith) ∙ rw e)

@@ -5,7 +5,7 @@ use Rattle.price_multipliers.proofs.discount_multiplier.Goals as goal
 
 pub returns-then-up : goal.returns-then-up
 unfolding discount_multiplier rounding_of
-returns-then-up c = simp (c.if-up.true, c.one_less.ensures, c.par_multiplier-multiplier.ensures)
+returns-then-up c = simp (c.if-up.true, c.saturating_sub.ensures, c.par_multiplier-multiplier.ensures)
 
 pub returns-else-up : goal.returns-else-up
 unfolding discount_multiplier rounding_of

@@ -1,5 +1,5 @@
 // A pass over the records for one block of numbers, by the steps of the reader.
-ghost use Rattle.std.specs.Prelude.{◌≡◌, ◌+◌, ◌≤◌, ◌<◌, ltb, length};
+ghost use Rattle.std.specs.Prelude.{◌≡◌, ◌+◌, ◌≤◌, ◌<◌, ltb, length, Some};
 ghost use Rattle.form.specs.Cells.{first_cell, cell_count};
 ghost use Rattle.record_kinds.specs.declared.items.Item.TheVariants.{Amendment};
 ghost use Rattle.record_fields.specs.Records.{first_record};
@@ -21,6 +21,7 @@ pub(crate) fn repetition(s: &[u8], block: usize, end: usize) -> usize
 {
     let mut met = [0; WORDS];
     let mut at = 0;
+    // A record's length moves the offset, and not a count.
     while at < end {
         if meets(s, block, at, &mut met) {
             return at;
@@ -40,15 +41,15 @@ fn meets(s: &[u8], block: usize, at: usize, met: &mut [u64; WORDS]) -> bool
         return false;
     }
     match record_item(s, at) {
-        Item::Cell(_) => false,
-        Item::Sheet(_) => false,
-        Item::Amendment(cell, number) => {
+        Some(Item::Amendment(cell, number)) => {
             let key = key_of(cell, number);
             let again = holds(met, key);
             put(met, key);
             again
         }
-        Item::Nothing => false,
+        Some(Item::Cell(_)) => false,
+        Some(Item::Sheet(_)) => false,
+        None => false,
     }
 }
 
@@ -63,9 +64,10 @@ fn key_of(cell: u64, number: u16) -> u16
 // An amendment of a cell with a number stands before `end`.
 pub(crate) fn amended_before(s: &[u8], cell: u64, number: u16, end: usize) -> bool
     requires { end ≤ length s.now }
-    ensures { result ≡ ltb (first_with s.now (Amendment cell number) end) end }
+    ensures { result ≡ ltb (first_with s.now (Some (Amendment cell number)) end) end }
 {
     let mut at = 0;
+    // A record's length moves the offset, and not a count.
     while at < end {
         if amends(s, cell, number, at) {
             return true;
@@ -77,12 +79,12 @@ pub(crate) fn amended_before(s: &[u8], cell: u64, number: u16, end: usize) -> bo
 
 // The record is the amendment of a cell with a number.
 fn amends(s: &[u8], cell: u64, number: u16, at: usize) -> bool
-    ensures { result ≡ same_item (record_item s.now at) (Amendment cell number) }
+    ensures { result ≡ same_item (record_item s.now at) (Some (Amendment cell number)) }
 {
     match record_item(s, at) {
-        Item::Cell(_) => false,
-        Item::Sheet(_) => false,
-        Item::Amendment(n, m) => (n == cell) & (m == number),
-        Item::Nothing => false,
+        Some(Item::Amendment(n, m)) => (n == cell) & (m == number),
+        Some(Item::Cell(_)) => false,
+        Some(Item::Sheet(_)) => false,
+        None => false,
     }
 }

@@ -12,7 +12,7 @@ use Rattle.record_limits.proofs.number_over.Goals as goal
 
 pub loop-i-init : goal.loop-i-init
 unfolding number_over any_below
-loop-i-init c = (omega arith, refl)
+loop-i-init c = refl
 
 pub number_of-requires : goal.number_of-requires
 number_of-requires c =
@@ -25,9 +25,9 @@ returns-then-limit-number_of c =
 
 pub loop-i-preserved : goal.loop-i-preserved
 loop-i-preserved c =
-    (omega arith, sheet.number-within _ _ _ c.loop-i.i c.loop-i.invariant.1 (omega arith))
+    sheet.number-within _ _ _ c.loop-i.i c.loop-i.invariant (omega arith)
 
 pub returns : goal.returns
 returns c =
     let e : c.loop-i.i ≡ c.args.n = omega arith in
-    rw (← e) (sym c.loop-i.invariant.1)
+    rw (← e) (sym c.loop-i.invariant)

@@ -1,10 +1,10 @@
 -- What reading a filing notes: for each kind of sheet and each cell its first record, for each cell the record that counts, and for each block of
 -- amendment numbers whether an amendment with one of them does not come by rising number. Definitions only.
-use Rattle.std.specs.Prelude.{ℕ, ◌-◌, ◌/◌, ◌%◌, Bool, false, cond, ◌||◌, ◌&&◌, List, length, get_or, set, replicate, leb, ltb, eqb}
+use Rattle.std.specs.Prelude.{ℕ, ◌-◌, ◌/◌, ◌%◌, Bool, false, cond, ◌||◌, ◌&&◌, List, length, get_or, set, replicate, leb, ltb, eqb, Option, Some, None}
 use Rattle.lists.specs.Tables.{table, table_from}
 use Rattle.form.specs.Cells.{first_cell, cell_count}
 use Rattle.record_kinds.specs.declared.items.Item.{Item}
-use Rattle.record_kinds.specs.declared.items.Item.TheVariants.{Cell, Sheet, Amendment, Nothing}
+use Rattle.record_kinds.specs.declared.items.Item.TheVariants.{Cell, Sheet, Amendment}
 use Rattle.record_fields.specs.Records.{first_record}
 use Rattle.record_kinds.specs.Kinds.{kind_count}
 use Rattle.record_kinds.specs.Items.{record_item, first_with}
@@ -19,7 +19,7 @@ pub record Noted : Type 0 where
   pub falling : List Bool
 
 -- the offset of the first record of an item before `at`, or the input's length where there is none
-unfoldable pub offset_before : List ℕ → ℕ → Item → ℕ
+unfoldable pub offset_before : List ℕ → ℕ → Option Item → ℕ
 offset_before s at item = cond (ltb (first_with s item at) at) (first_with s item at) (length s)
 
 -- the numbers of amendments by blocks of so many, as many as numbers of 2 bytes fill
@@ -33,11 +33,11 @@ unfoldable pub block_of : ℕ → ℕ
 block_of number = number / block_size % block_count
 
 -- an amendment whose number is of a block
-unfoldable pub amends_in : ℕ → Item → Bool
-amends_in block (Cell n) = false
-amends_in block (Sheet kind) = false
-amends_in block (Amendment n number) = eqb (block_of number) block
-amends_in block Nothing = false
+unfoldable pub amends_in : ℕ → Option Item → Bool
+amends_in block (Some (Cell n)) = false
+amends_in block (Some (Sheet kind)) = false
+amends_in block (Some (Amendment n number)) = eqb (block_of number) block
+amends_in block None = false
 
 -- a record that does not rank above the one that counts before it
 unfoldable pub outranked : List ℕ → ℕ → ℕ → ℕ → Bool
@@ -45,11 +45,11 @@ outranked s cell before at = leb (rank s cell at) (rank s cell before)
 
 -- an amendment, with a number of a block, that does not rank above the record that counts for its cell before it. Without one the amendments with these
 -- numbers come by rising number in each cell
-unfoldable pub falls_as : List ℕ → ℕ → ℕ → Item → Bool
-falls_as s block at (Cell n) = false
-falls_as s block at (Sheet kind) = false
-falls_as s block at (Amendment n number) = eqb (block_of number) block && outranked s n (counting_before s n at) at
-falls_as s block at Nothing = false
+unfoldable pub falls_as : List ℕ → ℕ → ℕ → Option Item → Bool
+falls_as s block at (Some (Cell n)) = false
+falls_as s block at (Some (Sheet kind)) = false
+falls_as s block at (Some (Amendment n number)) = eqb (block_of number) block && outranked s n (counting_before s n at) at
+falls_as s block at None = false
 
 unfoldable pub falls : List ℕ → ℕ → ℕ → Bool
 falls s block at = falls_as s block at (record_item s at)
@@ -61,8 +61,8 @@ falls_before s block at = ltb (first_record s (falls s block) at) at
 unfoldable pub noted_before : List ℕ → ℕ → Noted
 noted_before s at =
     record {
-      sheets = table kind_count (λ (kind : ℕ). offset_before s at (Sheet kind));
-      cells = table_from first_cell cell_count (λ (cell : ℕ). offset_before s at (Cell cell));
+      sheets = table kind_count (λ (kind : ℕ). offset_before s at (Some (Sheet kind)));
+      cells = table_from first_cell cell_count (λ (cell : ℕ). offset_before s at (Some (Cell cell)));
       counting = table_from first_cell cell_count (λ (cell : ℕ). counting_before s cell at);
       falling = table block_count (λ (block : ℕ). falls_before s block at);
     }
@@ -91,21 +91,21 @@ note_falling s noted cell number at =
     (get_or noted.falling (block_of number) false || outranked s cell (get_or noted.counting (cell - first_cell) 0) at)
 
 -- the record at an offset is noted, by its item
-unfoldable pub note_item : List ℕ → Noted → Item → ℕ → Noted
-note_item s noted (Cell cell) at =
+unfoldable pub note_item : List ℕ → Noted → Option Item → ℕ → Noted
+note_item s noted (Some (Cell cell)) at =
     record {
       sheets = noted.sheets;
       cells = set noted.cells (cell - first_cell) at;
       counting = note_counting s noted.counting cell at;
       falling = noted.falling;
     }
-note_item s noted (Sheet kind) at =
+note_item s noted (Some (Sheet kind)) at =
     record { sheets = set noted.sheets kind at; cells = noted.cells; counting = noted.counting; falling = noted.falling }
-note_item s noted (Amendment cell number) at =
+note_item s noted (Some (Amendment cell number)) at =
     record {
       sheets = noted.sheets;
       cells = noted.cells;
       counting = note_counting s noted.counting cell at;
       falling = note_falling s noted cell number at;
     }
-note_item s noted Nothing at = noted
+note_item s noted None at = noted

@@ -1,12 +1,18 @@
--- `check_body` meets its contract: each row's answer is the definition's, and the first refusal of them is the verdict.
--- Assumes nothing.
-use mathlib.Core.Path.{sym, ◌∙◌}
-use Rattle.answers.proofs.VerdictLaws.{row_is, row_next}
-use Rattle.record_verdicts.proofs.FaultLaws.{body-rows}
+-- `check_body` meets its contract: 5, and then 11. Assumes nothing.
+use mathlib.Core.Path.{refl}
+use Rattle.answers.specs.Verdict.{first_of}
+use Rattle.answers.proofs.VerdictLaws.{row-holds, row-fails}
+use Rattle.record_verdicts.specs.RecordVerdicts.{body_verdict}
 use Rattle.record_verdicts.proofs.check_body.Goals as goal
 
+pub returns-then-over_limit : goal.returns-then-over_limit
+unfolding body_verdict first_of
+returns-then-over_limit c = row-holds 4 c.args.at _ c.if-over_limit.ensures
+
+pub returns-then-unsound_tiers : goal.returns-then-unsound_tiers
+unfolding body_verdict first_of
+returns-then-unsound_tiers c = row-fails 5 c.args.at c.if-over_limit.ensures (row-holds 10 c.args.at _ c.if-unsound_tiers.ensures)
+
 pub returns : goal.returns
-returns c =
-    let at = c.args.at in
-    row_next 11 at c.or_refused.ensures (row_is 5 at c.refused_if-limit.ensures c.over_limit.ensures) c.unsound_tiers.ensures
-    ∙ sym (body-rows c.args.s.now at)
+unfolding body_verdict first_of
+returns c = row-fails 5 c.args.at c.if-over_limit.ensures (row-fails 11 c.args.at c.if-unsound_tiers.ensures refl)

@@ -1,22 +1,47 @@
--- `check_shape` meets its contract: each row's answer is the definition's, and the first refusal of them is the verdict.
--- Assumes nothing.
-use mathlib.Core.Path.{sym, ◌∙◌}
-use Rattle.answers.proofs.VerdictLaws.{row_is, row_next}
-use Rattle.record_verdicts.proofs.FaultLaws.{shape-rows}
+-- `check_shape` meets its contract: row by row in the order 1, 2, 3, 4, 12, the first whose condition holds. Assumes nothing.
+use mathlib.Core.Path.{refl}
+use Rattle.answers.specs.Verdict.{first_of}
+use Rattle.answers.proofs.VerdictLaws.{row-holds, row-fails}
+use Rattle.record_verdicts.specs.RecordVerdicts.{shape_verdict}
 use Rattle.record_verdicts.proofs.check_shape.Goals as goal
 
--- row by row in the order 1, 2, 3, 4, 12: each answer is the first refusal of the rows before and its own, and its test is the definition's;
--- after the last it is that of all five
+pub returns-then-incomplete : goal.returns-then-incomplete
+unfolding shape_verdict first_of
+returns-then-incomplete c = row-holds 0 c.args.at _ c.if-incomplete.ensures
+
+pub returns-then-misshapen : goal.returns-then-misshapen
+unfolding shape_verdict first_of
+returns-then-misshapen c = row-fails 1 c.args.at c.if-incomplete.ensures (row-holds 1 c.args.at _ c.if-misshapen.ensures)
+
+pub returns-then-unlisted : goal.returns-then-unlisted
+unfolding shape_verdict first_of
+returns-then-unlisted c =
+    row-fails 1 c.args.at c.if-incomplete.ensures
+    (row-fails 2 c.args.at c.if-misshapen.ensures
+    (row-holds 2 c.args.at _ c.if-unlisted.ensures))
+
+pub returns-then-repeated : goal.returns-then-repeated
+unfolding shape_verdict first_of
+returns-then-repeated c =
+    row-fails 1 c.args.at c.if-incomplete.ensures
+    (row-fails 2 c.args.at c.if-misshapen.ensures
+    (row-fails 3 c.args.at c.if-unlisted.ensures
+    (row-holds 3 c.args.at _ c.if-repeated.ensures)))
+
+pub returns-then-path_beside_flat : goal.returns-then-path_beside_flat
+unfolding shape_verdict first_of
+returns-then-path_beside_flat c =
+    row-fails 1 c.args.at c.if-incomplete.ensures
+    (row-fails 2 c.args.at c.if-misshapen.ensures
+    (row-fails 3 c.args.at c.if-unlisted.ensures
+    (row-fails 4 c.args.at c.if-repeated.ensures
+    (row-holds 11 c.args.at _ c.if-path_beside_flat.ensures))))
+
 pub returns : goal.returns
+unfolding shape_verdict first_of
 returns c =
-    let at = c.args.at in
-    row_next 12 at c.or_refused.ensures
-    (row_next 4 at c.or_refused-repetition.ensures
-    (row_next 3 at c.or_refused-listing.ensures
-    (row_next 2 at c.or_refused-shape.ensures
-    (row_is 1 at c.refused_if-end.ensures c.incomplete.ensures)
-    c.misshapen.ensures)
-    c.unlisted.ensures)
-    c.repeated.ensures)
-    c.path_beside_flat.ensures
-    ∙ sym (shape-rows c.args.s.now at)
+    row-fails 1 c.args.at c.if-incomplete.ensures
+    (row-fails 2 c.args.at c.if-misshapen.ensures
+    (row-fails 3 c.args.at c.if-unlisted.ensures
+    (row-fails 4 c.args.at c.if-repeated.ensures
+    (row-fails 12 c.args.at c.if-path_beside_flat.ensures refl))))

@@ -1,16 +1,16 @@
 -- `open_book` meets its contract. Assumes nothing.
 use native.Mathlib.Omega.{arith}
-use mathlib.Core.Path.{refl}
-use Rattle.text.specs.Lines.{too_long}
-use Rattle.text_book.proofs.OpenLaws.{opened-long, opened-short}
+use Rattle.text_book.proofs.OpenLaws.{opened-long, opened-refused, opened-taken}
 use Rattle.text_book.proofs.open_book.Goals as goal
 
-pub returns-then-filing-gt65536 : goal.returns-then-filing-gt65536
-unfolding too_long
-returns-then-filing-gt65536 c = record { opened = opened-long _ c.open-opened.result c.open-opened.ensures.opened _ _ _ refl c.if-filing-gt65536.true refl (omega arith) c.append_too_long-size.ensures }
+pub returns-then-filing-gt-FILING_LIMIT : goal.returns-then-filing-gt-FILING_LIMIT
+returns-then-filing-gt-FILING_LIMIT c =
+    record { opened = opened-long _ _ (omega arith) (rw c.new-text.ensures at c.append_too_long.ensures) }
 
-pub returns : goal.returns
-returns c = record {
-  opened = opened-short _ c.open-opened.result c.open-opened.ensures.opened _ _ _ refl c.number.result c.if-filing-gt65536.false c.number.ensures refl
-      c.append_opened-size.ensures.0 (omega (arith, c.append_opened-size.ensures.1));
-}
+pub returns-in-Ok : goal.returns-in-Ok
+returns-in-Ok c =
+    record { opened = opened-taken _ (omega arith) c.in-Ok.book _ c.in-Ok.ensures.opened (rw c.new-text.ensures at c.append_opened.ensures) }
+
+pub returns-in-Err : goal.returns-in-Err
+returns-in-Err c =
+    record { opened = opened-refused _ (omega arith) c.in-Err.refusal _ c.in-Err.ensures.opened (rw c.new-text.ensures at c.append_refused.ensures) }

@@ -1,12 +1,10 @@
--- `text_book::open_read` meets its contract: more bytes than there are, are all of them. Assumes nothing.
-use mathlib.Core.Path.{sym}
-use native.Mathlib.Omega.{arith}
-use lib.Seq.{take_all, length-take-le}
+-- `open_read` meets its contract. Assumes nothing.
+use mathlib.Core.Path.{◌≡◌}
+use lib.ListN.{take}
+use Rattle.std.proofs.lemmas.List.{take_min}
 use Rattle.text_book.proofs.open_read.Goals as goal
 
-pub returns-then-bytes-size : goal.returns-then-bytes-size
-returns-then-bytes-size c = record { opened = rw (take_all c.args.size c.args.input.now (omega (arith, c.if-bytes-size.true, c.bytes-1.given))) c.open_book.ensures.opened }
-
-pub slice_bounds-open_book-end : goal.slice_bounds-open_book-end
-slice_bounds-open_book-end c =
-    sym (length-take-le _ _ (omega (arith, c.if-bytes-size.false, c.bytes-1.given)))
+pub returns : goal.returns
+returns c =
+    let read : take c.min.result c.args.input.now ≡ take c.args.size c.args.input.now = rw (c.min.ensures, ← c.told-input) (take_min c.args.size c.args.input.now) in
+    record { opened = rw read at c.open_book.ensures.opened }

@@ -7,14 +7,16 @@ use text_numerals::Line;
 use text_numerals::number_lines::read_line;
 
 // YEAR-MONTH-DAY.
-pub(crate) fn date_line(text: &[u8], from: usize) -> Line
+#[tactic(auto, unfolding(crate::specs::Lines::date_form))]
+pub(crate) fn date_line(text: &[u8], from: usize) -> Option<Line>
     ensures { result ≡ line_at text.now from date_form }
 {
     read_line(text, from, b"--\n")
 }
 
 // YEAR-MONTH-DAY YEAR-MONTH-DAY BALANCE COUPON.
-pub(crate) fn certificate_line(text: &[u8], from: usize) -> Line
+#[tactic(auto, unfolding(crate::specs::Lines::certificate_form))]
+pub(crate) fn certificate_line(text: &[u8], from: usize) -> Option<Line>
     ensures { result ≡ line_at text.now from certificate_form }
 {
     read_line(text, from, b"-- --  \n")

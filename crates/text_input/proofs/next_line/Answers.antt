@@ -1,17 +1,7 @@
--- `next_line` meets its contract: before each byte it holds the line of the bytes read. Assumes nothing.
-use Rattle.text_input.specs.Lines.{started}
-use Rattle.text_input.proofs.LineLaws.{read_none, read_next, read_length}
+-- `next_line` meets its contract at a line feed. Assumes nothing.
+use Rattle.text_input.proofs.LineLaws.{line_feed}
 use Rattle.text_input.proofs.next_line.Goals as goal
 
-pub loop-init : goal.loop-init
-unfolding started
-loop-init g c = read_none _
-
-pub loop-preserved : goal.loop-preserved
-loop-preserved g c = read_next _ _ _ _ _ _ c.loop.invariant c.if-reading.false c.step-reading.ensures
-
-pub shape_of-line-after-loop : goal.shape_of-line-after-loop
-shape_of-line-after-loop g c = read_length _ _ _ c.loop.invariant
-
-pub shape_of-line-then-reading : goal.shape_of-line-then-reading
-shape_of-line-then-reading g c = read_length _ _ _ c.loop.invariant
+pub returns-in-Some-eq10 : goal.returns-in-Some-eq10
+returns-in-Some-eq10 g c =
+    line_feed _ _ _ _ _ _ c.loop.invariant c.in-Some-eq10.field-0 _ c.in-Some-eq10.ensures c.in-Some-eq10.field-0-test c.unwrap_or.ensures

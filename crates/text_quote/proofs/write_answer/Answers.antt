@@ -1,14 +1,13 @@
--- `write_answer` meets its contract. Assumes nothing.
-use native.Mathlib.Omega.{arith}
-use mathlib.Core.Path.{sym}
-use Rattle.text.proofs.AppendLaws.{in-front}
+-- `write_answer` meets its contract: the line of the refusal, or of the reply. Assumes nothing.
+use mathlib.Core.Path.{◌∙◌}
 use Rattle.text_quote.specs.Printed.{answer_text}
-use Rattle.text_quote.proofs.PrintedLaws.{quoted-line}
+use Rattle.text_quote.proofs.PrintedLaws.{line-refused, line-replied}
 use Rattle.text_quote.proofs.write_answer.Goals as goal
 
-pub returns : goal.returns
+pub returns-in-Ok : goal.returns-in-Ok
 unfolding answer_text
-returns c =
-    let q = c.quote_bytes in
-    let line = c.append_quoted.ensures in
-    record { printed = rw (sym (quoted-line _ _ _ q.result q.ensures)) (in-front _ _ _ _ (omega (arith, line.0.end_is, line.1)) line.0) }
+returns-in-Ok c = record { printed = c.append_reply.ensures ∙ rw c.new-text.ensures (line-replied _ _ _ c.in-Ok.reply c.in-Ok.ensures) }
+
+pub returns-in-Err : goal.returns-in-Err
+unfolding answer_text
+returns-in-Err c = record { printed = c.append_refused.ensures ∙ rw c.new-text.ensures (line-refused _ _ _ c.in-Err.refusal c.in-Err.ensures) }

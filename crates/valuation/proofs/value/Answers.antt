@@ -1,10 +1,10 @@
 -- `valuation::value` keeps its promise: each way out is one of the call's laws. Assumes nothing.
 use Prim.Native.Nat.{◌≤◌}
 use native.Mathlib.Omega.{arith}
-use mathlib.Core.Path.{◌≡◌, sym, ap, ◌∙◌}
+use mathlib.Core.Path.{ap, ◌∙◌}
 use lib.ListN.{length}
 use Rattle.form.specs.Counts.{number_count}
-use Rattle.answers.specs.Answers.{number_of}
+use Rattle.std.proofs.lemmas.Result.{err_from_is_err_and}
 use Rattle.filing_cells.specs.Inner.Sums.{column_sums}
 use Rattle.filing.proofs.ReadingLaws.{reading-valid, reading-cells}
 use Rattle.borrowing_numbers.specs.Numbers.{borrowing_number_count}
@@ -18,35 +18,33 @@ returns-then-numbers-lt-NUMBERS c = record { valued = short-list _ _ _ c.if-numb
 pub returns-then-borrowings-lt-BORROWING_NUMBERS : goal.returns-then-borrowings-lt-BORROWING_NUMBERS
 returns-then-borrowings-lt-BORROWING_NUMBERS c = record { valued = short-borrowings _ _ _ (omega arith) c.if-borrowings-lt-BORROWING_NUMBERS.true }
 
-pub returns-then-number-ne0 : goal.returns-then-number-ne0
-returns-then-number-ne0 c =
+pub returns-in_err-reading : goal.returns-in_err-reading
+returns-in_err-reading c =
+    let p = err_from_is_err_and c.from_residual.result c.from_residual.ensures.1 in
     let long : number_count ≤ length c.args.numbers.now = omega arith in
     let room : borrowing_number_count ≤ length c.args.borrowings.now = omega arith in
-    record { valued = refused-filing _ _ _ long room _ c.read-reading.ensures.answered (λ e. c.if-number-ne0.true (c.number.ensures ∙ e)) }
+    record { valued = rw (p.1, p.2) (refused-filing _ _ _ long room _ c.in_err-reading.ensures.answered) }
 
 -- an accepted filing's contents are valid, the sums are those of its cells, and the list is long enough
 pub write_numbers-requires : goal.write_numbers-requires
 write_numbers-requires c =
     let long : number_count ≤ length c.args.numbers.now = omega arith in
-    let zero : number_of c.read-reading.result.answer ≡ 0 = sym c.number.ensures ∙ c.if-number-ne0.false in (
-      reading-valid _ _ _ _ c.read-reading.ensures.answered c.read-reading.ensures.said zero,
-      c.read-reading.ensures.summed ∙ ap column_sums (reading-cells _ _ _ _ c.read-reading.ensures.answered c.read-reading.ensures.said zero),
+    let read = c.in_ok-reading.ensures in (
+      reading-valid _ _ _ read.answered read.said,
+      read.summed ∙ ap column_sums (reading-cells _ _ _ read.answered read.said),
       long,
     )
 
 pub write_borrowings-requires : goal.write_borrowings-requires
 write_borrowings-requires c =
     let room : borrowing_number_count ≤ length c.args.borrowings.now = omega arith in
-    let zero : number_of c.read-reading.result.answer ≡ 0 = sym c.number.ensures ∙ c.if-number-ne0.false in
-    let valid = reading-valid _ _ _ _ c.read-reading.ensures.answered c.read-reading.ensures.said zero in
+    let valid = reading-valid _ _ _ c.in_ok-reading.ensures.answered c.in_ok-reading.ensures.said in
     (borrowing-limits _ valid.of-borrowings, libor-within _ valid, room)
 
 pub returns : goal.returns
 returns c =
     let long : number_count ≤ length c.args.numbers.now = omega arith in
     let room : borrowing_number_count ≤ length c.args.borrowings.now = omega arith in
-    let zero : number_of c.read-reading.result.answer ≡ 0 = sym c.number.ensures ∙ c.if-number-ne0.false in
     record {
-      valued = valued-filing _ _ _ long room _ c.read-reading.ensures.answered zero
-          _ _ c.read-reading.ensures.said _ _ c.write_numbers.ensures c.write_borrowings.ensures;
+      valued = valued-filing _ _ _ long room c.in_ok-reading.ensures.answered _ _ c.in_ok-reading.ensures.said _ _ c.write_numbers.ensures c.write_borrowings.ensures;
     }

@@ -1,5 +1,5 @@
 -- The tiers that the code's arrays hold. Definitions only.
-use Rattle.std.specs.Prelude.{ℕ, ◌≤◌, ◌≡◌, List, map, length, get_or}
+use Rattle.std.specs.Prelude.{ℕ, ◌≤◌, ◌≡◌, cond, ltb, List, map, length, get_or}
 use Rattle.lists.specs.Tables.{table, padded}
 use Rattle.withdrawal.specs.declared.WithdrawalTiers.{WithdrawalTiers}
 use Rattle.form.specs.Limits.{tier_limit, edge_limit, withdrawal_limit}
@@ -42,6 +42,13 @@ held x =
       otherwise = x.otherwise;
       retained = survival x.otherwise;
     }
+
+-- at a level, counted from 0: the annual withdrawal, thousandths, and what survives a month, billionths; past the last tier those where no edge is reached
+unfoldable pub withdrawal_at : WithdrawalTiers → ℕ → ℕ
+withdrawal_at t level = cond (ltb level t.count) (get_or t.withdrawals level 0) t.otherwise
+
+unfoldable pub survival_at : WithdrawalTiers → ℕ → ℕ
+survival_at t level = cond (ltb level t.count) (get_or t.survivals level 0) t.retained
 
 -- edges in an array, within the limits of count and edge
 pub record EdgesFit (count : ℕ) (edges : List ℕ) : Type 0 where

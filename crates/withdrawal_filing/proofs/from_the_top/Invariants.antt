@@ -7,7 +7,4 @@ use Rattle.withdrawal.proofs.HeldLaws.{Stored}
 use Rattle.withdrawal_filing.proofs.from_the_top.Given as goal
 
 abbrev pub invariant-loop-i : goal.invariant-loop-i
-invariant-loop-i l = (l.i ≤ l.count) × (l.count ≤ 16) × Stored (λ (j : ℕ). get_or l.numbers (l.count - 1 - j) 0) l.i l.turned × ((j : ℕ) → get_or l.turned j 0 ≤ edge_limit)
-
-abbrev pub decreases-loop-i : goal.decreases-loop-i
-decreases-loop-i l = l.count - l.i
+invariant-loop-i l = Stored (λ (j : ℕ). get_or l.numbers (l.count - 1 - j) 0) l.i l.turned × ((j : ℕ) → get_or l.turned j 0 ≤ edge_limit)

@@ -33,7 +33,7 @@ returns-then-count-eq0 c = (c.house.ensures.0 ∙ sym (simp (eq-eqb _ 0 c.if-cou
 
 pub with_survivals-requires : goal.with_survivals-requires
 with_survivals-requires c =
-    fit c.args.filed c.requires _ _ _ c.from_the_top-edges.ensures.1 c.from_the_top-withdrawals.ensures.0 c.wide-lowest.ensures.0
+    fit c.args.filed c.requires _ _ _ c.from_the_top-edges.ensures.1 c.from_the_top-withdrawals.ensures.0 c.from-lowest.ensures
 
 -- the filing has tiers: edges and withdrawals are turned round, highest first, and padded with 0s, which as a table are its own tiers;
 -- within their limits, and falling from the top as they rose, they are usable
@@ -42,7 +42,7 @@ unfolding tiers_of own_tiers
 returns c =
     let filed = c.args.filed in
     let count = filed.count in
-    rw (c.with_survivals.ensures, c.from_the_top-edges.ensures.0, c.from_the_top-withdrawals.ensures.0, c.wide-lowest.ensures.0, ne_eqb _ 0 c.if-count-eq0.false) (
+    rw (c.with_survivals.ensures, c.from_the_top-edges.ensures.0, c.from_the_top-withdrawals.ensures.0, c.from-lowest.ensures, ne_eqb _ 0 c.if-count-eq0.false) (
       padded-table count (get_or filed.withdrawals 0 0) (λ (i : ℕ). get_or filed.edges (count - 1 - i) 0) (λ (i : ℕ). get_or filed.withdrawals (count - 1 - i) 0),
       padded-usable count (get_or filed.withdrawals 0 0) (λ (i : ℕ). get_or filed.edges (count - 1 - i) 0) (λ (i : ℕ). get_or filed.withdrawals (count - 1 - i) 0)
           (fit filed c.requires _ _ _ (rw c.from_the_top-edges.ensures.0 at c.from_the_top-edges.ensures.1) refl refl)

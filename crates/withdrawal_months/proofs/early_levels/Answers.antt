@@ -14,7 +14,7 @@ pub coupon_parts-parts-requires : goal.coupon_parts-parts-requires
 coupon_parts-parts-requires c = (c.requires.coupon_le_coupon_limit.0, c.requires.coupon_le_coupon_limit.1)
 
 pub loop-t-init : goal.loop-t-init
-loop-t-init c = (omega arith, filled-start _ [] _ c.list-1.given.0.1, omega arith, λ month h. refl)
+loop-t-init c = (filled-start _ [] _ (omega arith), λ month h. refl)
 
 pub overflow_sub-rate : goal.overflow_sub-rate
 overflow_sub-rate c = omega (arith, c.requires.by_index.1)
@@ -42,24 +42,22 @@ month_levels-requires c =
     )
 
 pub bounds-list-t : goal.bounds-list-t
-bounds-list-t c = omega (arith, c.loop-t.invariant.1.long)
+bounds-list-t c = omega (arith, c.loop-t.invariant.0.long)
 
 -- the levels of month t are set, and the months behind it stay
 pub loop-t-preserved : goal.loop-t-preserved
 loop-t-preserved c =
     let levelled : let a = c.args in
-    MonthLevelled a.brokered a.coupon a.penalty a.months a.count a.edges.now a.rates.now a.column c.loop-t.t c.month_levels.result = λ i h. let a = c.args in
+    MonthLevelled a.brokered a.coupon a.penalty a.months a.tiers.now a.rates.now a.column c.loop-t.t c.month_levels.result = λ i h. let a = c.args in
     rw (path-suc a.rates.now a.column c.loop-t.t, ← c.coupon_parts-parts.ensures, ← (add-one c.loop-t.t)) (c.month_levels.ensures i h) in
     let t = c.loop-t.t in
     let seven = c.month_levels.result in (
-      omega arith,
-      filled_more _ [] 120 t c.loop-t.list seven (omega arith) levelled c.loop-t.invariant.1,
-      omega arith,
-      λ month h. get_or-set_other c.loop-t.list t month seven [] (λ e. omega (arith, e, h)) ∙ c.loop-t.invariant.3 month (omega (arith, h)),
+      filled_more _ [] 120 t c.loop-t.list seven (omega arith) levelled c.loop-t.invariant.0,
+      λ month h. get_or-set_other c.loop-t.list t month seven [] (λ e. omega (arith, e, h)) ∙ c.loop-t.invariant.1 month (omega (arith, h)),
     )
 
 pub returns : goal.returns
 returns c = (
-  λ month h. c.loop-t.invariant.1.holds month (omega (arith, c.loop-t-test.false)),
-  λ month h. c.loop-t.invariant.3 month (omega (arith, h, c.loop-t.invariant.2)),
+  λ month h. c.loop-t.invariant.0.holds month (omega arith),
+  λ month h. c.loop-t.invariant.1 month (omega arith),
 )

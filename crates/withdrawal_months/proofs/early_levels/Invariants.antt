@@ -1,5 +1,5 @@
 -- `withdrawal_months::early_levels` meets its contract: the months before t have their levels. Assumes nothing.
-use Prim.Native.Nat.{ℕ, ◌-◌, ◌≤◌}
+use Prim.Native.Nat.{ℕ, ◌≤◌}
 use mathlib.Core.Path.{◌≡◌}
 use mathlib.Core.List.{[]}
 use lib.ListN.{get_or}
@@ -9,8 +9,5 @@ use Rattle.withdrawal_months.proofs.early_levels.Given as goal
 
 abbrev pub invariant-loop-t : goal.invariant-loop-t
 invariant-loop-t l =
-    (l.t ≤ 120) × FilledBy (MonthLevelled l.brokered l.coupon l.penalty l.months l.count l.edges l.rates l.column) [] 120 l.t l.list × (l.t ≤ l.months - 1)
+    FilledBy (MonthLevelled l.brokered l.coupon l.penalty l.months l.tiers l.rates l.column) [] 120 l.t l.list
     × ((month : ℕ) → l.t ≤ month → get_or l.list month [] ≡ get_or l.initial.list month [])
-
-abbrev pub decreases-loop-t : goal.decreases-loop-t
-decreases-loop-t l = l.months - l.t

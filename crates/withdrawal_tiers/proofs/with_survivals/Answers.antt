@@ -1,5 +1,4 @@
 -- `withdrawal_tiers::with_survivals` meets its contract. The loop's invariant: the entries below `i` hold the survivals of their withdrawals, the
--- others 0. The measure is what is left of the tiers. Assumes nothing.
 use mathlib.Core.Path.{◌≡◌}
 use native.Mathlib.Omega.{arith}
 use borrow.Author.Rules.{rules}
@@ -8,7 +7,7 @@ use Rattle.withdrawal.proofs.HeldLaws.{stored-none, stored_more, stored-all}
 use Rattle.withdrawal_tiers.proofs.with_survivals.Goals as goal
 
 pub loop-i-init : goal.loop-i-init
-loop-i-init c = (search rules, stored-none _)
+loop-i-init c = stored-none _
 
 pub survival-requires : goal.survival-requires
 survival-requires c =
@@ -16,7 +15,7 @@ survival-requires c =
     (at.all_survivals-figures.ensures, at.requires.withdrawal-le at.loop-i.i)
 
 pub loop-i-preserved : goal.loop-i-preserved
-loop-i-preserved c = (search rules, stored_more _ _ _ _ (search rules) c.survival.ensures c.loop-i.invariant.1)
+loop-i-preserved c = stored_more _ _ _ _ (search rules) c.survival.ensures c.loop-i.invariant
 
 pub survival-requires-2 : goal.survival-requires-2
 survival-requires-2 c =
@@ -28,4 +27,4 @@ unfolding with_survivals
 returns c =
     let at = c in
     let e : at.loop-i.i ≡ at.args.count = omega arith in
-    rw (stored-all _ _ _ at.loop-i.invariant.1, c.survival-2.ensures, e)
+    rw (stored-all _ _ _ at.loop-i.invariant, c.survival-2.ensures, e)

@@ -1,13 +1,17 @@
 -- `book_calls::book_changes::book_of` meets its contract. Assumes nothing.
-use mathlib.Core.Path.{sym, ◌∙◌}
-use Rattle.answers.specs.Answers.{verdict_of}
-use Rattle.book_calls.proofs.ChangingLaws.{opening-refused, opening-accepted}
+use Rattle.std.proofs.lemmas.Result.{err_from_is_err_and}
+use Rattle.book_calls.proofs.ChangingLaws.{opening-refused, opening-changed, opening-stopped}
 use Rattle.book_calls.proofs.book_changes.book_of.Goals as goal
 
-pub returns-then-number-ne0 : goal.returns-then-number-ne0
-unfolding verdict_of
-returns-then-number-ne0 c = record { changed = opening-refused _ _ _ c.open-opened.ensures.opened (λ e. c.if-number-ne0.true (c.number.ensures ∙ e)) }
+pub returns-in_err-book : goal.returns-in_err-book
+returns-in_err-book c =
+    let p = err_from_is_err_and c.from_residual.result c.from_residual.ensures.1 in
+    record { changed = rw (p.1, p.2) (opening-refused _ _ _ c.in_err-book.ensures.opened) }
+
+pub returns-in_err-made : goal.returns-in_err-made
+returns-in_err-made c =
+    let p = err_from_is_err_and c.from_residual-in_err-made.result c.from_residual-in_err-made.ensures.1 in
+    record { changed = rw (p.1, p.2) (opening-stopped _ _ _ c.in_ok-book.ensures.opened _ _ c.in_err-made.ensures) }
 
 pub returns : goal.returns
-unfolding verdict_of
-returns c = record { changed = opening-accepted _ _ _ _ c.open-opened.ensures.opened (sym c.number.ensures ∙ c.if-number-ne0.false) c.change_all.ensures }
+returns c = record { changed = opening-changed _ _ _ c.in_ok-book.ensures.opened _ _ c.in_ok-made.ensures }

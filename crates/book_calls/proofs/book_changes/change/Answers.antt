@@ -20,4 +20,4 @@ unfolding change_of fits_change changed_place
 returns c =
     let a = c.args in
     rw (sym c.clears.ensures ∙ c.if-clears.false, ne_eqb _ 0 c.if-action-eq0.false)
-    (change-refused a.book (neither_at a.place) _ refl c.refusal.ensures.0 c.refusal.ensures.1)
+    (change-refused a.book.now (neither_at a.place) refl _ refl)

@@ -1,12 +1,7 @@
 -- `book_calls::book_changes::change_all` meets its contract. The loop's invariant: none of the changes made is refused, and those still to be made give the book of all.
 -- Assumes nothing.
-use Prim.Native.Nat.{◌-◌, ◌/◌}
-use lib.ListN.{length}
 use Rattle.book_calls.proofs.ChangingLaws.{Changing}
 use Rattle.book_calls.proofs.book_changes.change_all.Given as goal
 
 abbrev pub invariant-loop-k : goal.invariant-loop-k
-invariant-loop-k l = Changing l.opened l.changes l.k l.book
-
-abbrev pub decreases-loop-k : goal.decreases-loop-k
-decreases-loop-k l = length l.changes / 6 - l.k
+invariant-loop-k l = Changing l.initial.book l.changes l.k l.book

@@ -1,12 +1,7 @@
 -- `longest_term` meets its contract. The loop's invariant: the longest of the borrowings so far. Assumes nothing.
-use Prim.Native.Nat.{◌-◌, ◌≤◌}
 use mathlib.Core.Path.{◌≡◌}
-use Rattle.form.specs.Borrowings.{borrowing_count}
 use Rattle.borrowing_numbers.specs.Inner.Rows.{longest_to}
 use Rattle.borrowing_numbers.proofs.rows.longest_term.Given as goal
 
 abbrev pub invariant-loop-i : goal.invariant-loop-i
-invariant-loop-i l = (l.i ≤ borrowing_count) × (l.longest ≡ longest_to l.cells l.i)
-
-abbrev pub decreases-loop-i : goal.decreases-loop-i
-decreases-loop-i l = borrowing_count - l.i
+invariant-loop-i l = l.longest ≡ longest_to l.cells l.i

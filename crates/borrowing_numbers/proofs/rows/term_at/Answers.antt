@@ -10,8 +10,8 @@ returns-then-cell_value-eq0 c =
     let tested : c.cell_value.result ≡ balance_of c.args.cells.now c.args.i = rw (← c.borrowing_at-b.ensures) c.cell_value.ensures in
     term-none _ _ (sym tested ∙ c.if-cell_value-eq0.true)
 
-pub returns : goal.returns
+pub returns-else-cell_value-eq0 : goal.returns-else-cell_value-eq0
 unfolding balance_of months_of
-returns c =
+returns-else-cell_value-eq0 c =
     let tested : c.cell_value.result ≡ balance_of c.args.cells.now c.args.i = rw (← c.borrowing_at-b.ensures) c.cell_value.ensures in
-    rw (← c.borrowing_at-b.ensures) c.cell_value-2.ensures ∙ term-some _ _ (λ e. c.if-cell_value-eq0.false (tested ∙ e))
+    rw (← c.borrowing_at-b.ensures) c.cell_value-else-cell_value-eq0.ensures ∙ term-some _ _ (λ e. c.if-cell_value-eq0.false (tested ∙ e))

@@ -1,7 +1,7 @@
 -- `write_rows` meets its contract. The loop's invariant: the rows of the borrowings so far are written. Assumes nothing.
 use Prim.Native.Nat.{◌+◌, ◌*◌, ◌<◌}
 use native.Mathlib.Omega.{arith}
-use mathlib.Core.Path.{◌≡◌, refl, ◌∙◌}
+use mathlib.Core.Path.{◌≡◌, ◌∙◌}
 use mathlib.Core.List.{[]}
 use Rattle.lists.specs.Tables.{table_from, joined}
 use Rattle.lists.proofs.RunLaws.{overwritten-none, overwritten-row}
@@ -15,14 +15,9 @@ use Rattle.borrowing_numbers.proofs.NumberLaws.{row-length}
 use Rattle.borrowing_numbers.proofs.RowLaws.{Tables, tables-made, table-row}
 use Rattle.borrowing_numbers.proofs.rows.write_rows.Goals as goal
 
-pub fill_factors-requires : goal.fill_factors-requires
-unfolding libor_in
-fill_factors-requires c =
-    (rw c.row_used-libor.ensures.0 c.requires.1, omega (arith, c.row_used-libor.ensures.1), refl, refl)
-
 pub loop-i-init : goal.loop-i-init
 unfolding table_from joined
-loop-i-init c = (omega arith, overwritten-none _)
+loop-i-init c = overwritten-none _
 
 pub row_of-row-requires : goal.row_of-row-requires
 row_of-row-requires c =
@@ -37,14 +32,12 @@ pub loop-i-preserved : goal.loop-i-preserved
 loop-i-preserved c =
     let prepared : Tables c.args.cells.now (libor_in c.args.sheets.now) c.fill_factors.new.lower c.fill_factors.new.upper = tables-made _ _ _ _ _ c.longest_term-longest.ensures (rw c.row_used-libor.ensures.0 at c.fill_factors.ensures.0) (rw c.row_used-libor.ensures.0 at c.fill_factors.ensures.1) in
     let state = c.loop-i in
-    let more : state.i < borrowing_count = omega arith in (
-      omega (arith, more),
-      rw c.write.ensures (overwritten-row [] (borrowing_numbers _ _) place_number_count (row-length _ _) state.i (place_number_count * state.i) (place_number_count * (state.i + 1))
-          _ state.list c.row_of-row.result state.invariant.1
-          (c.row_of-row.ensures ∙ table-row _ _ _ _ prepared c.requires.0 state.i more) (omega (arith, more)) (omega (arith, more, c.requires.2))),
-    )
+    let more : state.i < borrowing_count = omega arith in
+    rw c.write.ensures (overwritten-row [] (borrowing_numbers _ _) place_number_count (row-length _ _) state.i (place_number_count * state.i) (place_number_count * (state.i + 1))
+    _ state.list c.row_of-row.result state.invariant
+    (c.row_of-row.ensures ∙ table-row _ _ _ _ prepared c.requires.0 state.i more) (omega (arith, more)) (omega (arith, more, c.requires.2)))
 
 pub returns : goal.returns
 returns c =
     let e : c.loop-i.i ≡ borrowing_count = omega arith in
-    c.loop-i.invariant.1.is ∙ rw e
+    c.loop-i.invariant.is ∙ rw e

@@ -1,8 +1,7 @@
 -- `write_rows` meets its contract. The loop's invariant: the rows of the borrowings so far are written. Assumes nothing.
-use Prim.Native.Nat.{◌*◌, ◌-◌, ◌≤◌}
+use Prim.Native.Nat.{◌*◌}
 use Rattle.lists.specs.Tables.{table, joined}
 use Rattle.lists.proofs.RunLaws.{Overwritten}
-use Rattle.form.specs.Borrowings.{borrowing_count}
 use Rattle.form.specs.Counts.{place_number_count}
 use Rattle.filing_contents.specs.Contents.{libor_in}
 use Rattle.price_factors.specs.Inner.Factors.{sheet_yield}
@@ -11,7 +10,4 @@ use Rattle.borrowing_numbers.proofs.rows.write_rows.Given as goal
 
 abbrev pub invariant-loop-i : goal.invariant-loop-i
 invariant-loop-i l =
-    (l.i ≤ borrowing_count) × Overwritten (joined (table l.i (borrowing_numbers l.cells (sheet_yield (libor_in l.sheets))))) (place_number_count * l.i) l.initial.list l.list
-
-abbrev pub decreases-loop-i : goal.decreases-loop-i
-decreases-loop-i l = borrowing_count - l.i
+    Overwritten (joined (table l.i (borrowing_numbers l.cells (sheet_yield (libor_in l.sheets))))) (place_number_count * l.i) l.initial.list l.list

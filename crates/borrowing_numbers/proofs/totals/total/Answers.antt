@@ -2,21 +2,15 @@
 use Prim.Native.Nat.{◌+◌, ◌*◌}
 use native.Mathlib.Omega.{arith}
 use native.Mathlib.Numerals.{add-one}
-use mathlib.Core.Path.{◌≡◌, refl}
+use mathlib.Core.Path.{refl}
 use Rattle.lists.specs.Sums.{sum_where}
-use Rattle.form.specs.Borrowings.{borrowing_count}
 use Rattle.form.specs.Counts.{place_number_count}
 use Rattle.borrowing_numbers.specs.Inner.Rows.{number_at}
 use Rattle.borrowing_numbers.proofs.totals.total.Goals as goal
 
 pub loop-i-init : goal.loop-i-init
 unfolding sum_where
-loop-i-init c = (omega arith, omega arith, refl)
-
-pub overflow_add-sum-in-loop-i : goal.overflow_add-sum-in-loop-i
-overflow_add-sum-in-loop-i c =
-    let a = c.args in
-    omega (arith, c.requires.0.within (place_number_count * c.loop-i.i + a.r) (omega arith))
+loop-i-init c = (omega arith, refl)
 
 pub loop-i-preserved : goal.loop-i-preserved
 unfolding sum_where number_at
@@ -24,7 +18,4 @@ loop-i-preserved c =
     let a = c.args in
     let i = c.loop-i.i in
     let limit = c.requires.0.within (place_number_count * i + a.r) (omega arith) in
-    (omega arith, omega arith, rw (add-one, c.loop-i.invariant.2))
-
-pub returns : goal.returns
-returns c = let e : c.loop-i.i ≡ borrowing_count = omega arith in rw (c.loop-i.invariant.2, e)
+    (omega arith, rw (add-one, c.loop-i.invariant.1))

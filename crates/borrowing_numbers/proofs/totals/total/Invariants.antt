@@ -1,14 +1,10 @@
 -- `total` meets its contract. The loop's invariant: the numbers of the borrowings so far are summed. Assumes nothing.
-use Prim.Native.Nat.{◌*◌, ◌-◌, ◌≤◌}
+use Prim.Native.Nat.{◌*◌, ◌≤◌}
 use mathlib.Core.Path.{◌≡◌}
 use Rattle.lists.specs.Sums.{sum_where, everywhere}
-use Rattle.form.specs.Borrowings.{borrowing_count}
 use Rattle.borrowing_numbers.specs.Inner.Rows.{value_limit, number_at}
 use Rattle.borrowing_numbers.proofs.totals.total.Given as goal
 
 abbrev pub invariant-loop-i : goal.invariant-loop-i
 invariant-loop-i l =
-    (l.i ≤ borrowing_count) × (l.sum ≤ value_limit * l.i) × (l.sum ≡ sum_where everywhere (number_at l.list l.r) l.i)
-
-abbrev pub decreases-loop-i : goal.decreases-loop-i
-decreases-loop-i l = borrowing_count - l.i
+    (l.sum ≤ value_limit * l.i) × (l.sum ≡ sum_where everywhere (number_at l.list l.r) l.i)

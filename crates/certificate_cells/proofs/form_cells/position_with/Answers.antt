@@ -1,28 +1,14 @@
--- `position_with` meets its contract. The loop's invariant: what is left to search gives the answer. Assumes nothing.
-use native.Mathlib.Omega.{arith}
-use mathlib.Core.Path.{refl, sym, ◌∙◌}
-use Rattle.lists.proofs.RangeLaws.{search-here, search-next, search-end}
-use Rattle.certificate_cells.specs.Cells.{position_with}
+-- `position_with` meets its contract. Assumes nothing.
+use Rattle.std.proofs.Common.{rules, refl}
+use borrow.Author.Tests.{tests}
+use Rattle.std.proofs.lemmas.Iterator.{YieldsList-from_range}
+use Rattle.std.proofs.lemmas.Iterator.Search.{find_from_yields_List}
+use Rattle.certificate_cells.specs.Cells.{is_of_position, position_with}
+use Rattle.certificate_cells.proofs.SearchLaws.{find-in_range}
 use Rattle.certificate_cells.proofs.form_cells.position_with.Goals as goal
 
-pub loop-i-init : goal.loop-i-init
-unfolding position_with
-loop-i-init c = refl
-
-pub returns-then-is_of_position : goal.returns-then-is_of_position
-returns-then-is_of_position c =
-    sym
-    (c.loop-i.invariant ∙ search-here _ _ 9 c.loop-i-test.true (sym c.is_of_position.ensures ∙ c.if-is_of_position.true))
-
-pub overflow_add-i : goal.overflow_add-i
-overflow_add-i c = omega (arith, c.loop-i-test.true)
-
-pub loop-i-smaller : goal.loop-i-smaller
-loop-i-smaller c = omega (arith, c.loop-i-test.true)
-
-pub loop-i-preserved : goal.loop-i-preserved
-loop-i-preserved c =
-    c.loop-i.invariant ∙ search-next _ _ 9 c.loop-i-test.true (sym c.is_of_position.ensures ∙ c.if-is_of_position.false)
-
 pub returns : goal.returns
-returns c = sym (c.loop-i.invariant ∙ search-end _ _ 9 c.loop-i-test.false)
+unfolding position_with
+returns c =
+    find-in_range (is_of_position c.args.cell) 9 _
+    (find_from_yields_List (is_of_position c.args.cell) _ _ _ c.find.ensures.ran (YieldsList-from_range 0 9 9 refl refl) (λ x b q k. search (rules, tests)))

@@ -1,9 +1,9 @@
 -- `exports::cells::spritapricot_cells` keeps the promise of `to_cells`. Assumes nothing.
-use mathlib.Core.Path.{refl}
-use Rattle.exports.proofs.ConvertedLaws.{converted-for-c}
+use Rattle.exports.proofs.ConvertedLaws.{converted-refused, converted-accepted}
 use Rattle.exports.proofs.cells.spritapricot_cells.Goals as goal
 
-pub returns : goal.returns
-returns c =
-    let r = c.to_cells-filled in
-    record { converted = converted-for-c _ _ _ _ r.result _ _ _ r.ensures.converted c.answer_numbers.ensures.0 c.answer_numbers.ensures.1 refl c.write_cells.ensures }
+pub returns-in-Ok : goal.returns-in-Ok
+returns-in-Ok c = record { converted = converted-accepted _ _ _ _ _ _ c.in-Ok.ensures.converted c.len.ensures.value c.cell_numbers.ensures }
+
+pub returns-in-Err : goal.returns-in-Err
+returns-in-Err c = record { converted = converted-refused _ _ _ _ _ _ c.in-Err.ensures.converted c.refused.ensures.0 c.refused.ensures.1 }

@@ -11,20 +11,18 @@ use Rattle.exports.proofs.plain_numbers.cell_numbers.Goals as goal
 
 pub loop-i-init : goal.loop-i-init
 unfolding table_from joined
-loop-i-init c = (omega arith, overwritten-none _)
+loop-i-init c = overwritten-none _
 
 pub loop-i-preserved : goal.loop-i-preserved
 unfolding pair_at
 loop-i-preserved c =
     let loop = c.loop-i in
-    let cells = c.args.cells in (
-      omega arith,
-      rw c.write.ensures (overwritten-row [] (pair_at cells) 2 (λ i. refl) loop.i (2 * loop.i) (2 * (loop.i + 1)) (replicate 56 0) loop.numbers _
-          loop.invariant.1 refl (omega arith) (omega arith)),
-    )
+    rw (c.write.ensures, c.pair_at.ensures)
+    (overwritten-row [] (pair_at c.args.cells.now.items) 2 (λ i. refl) loop.i (2 * loop.i) (2 * (loop.i + 1)) (replicate 56 0) loop.numbers _ loop.invariant
+    refl (omega arith) (omega arith))
 
 pub returns : goal.returns
 unfolding numbers_of
 returns c =
     let e : c.loop-i.i ≡ 28 = omega arith in
-    overwritten-all _ _ _ _ c.loop-i.invariant.1 (omega arith) ∙ rw e
+    overwritten-all _ _ _ _ c.loop-i.invariant (omega arith) ∙ rw e

@@ -7,7 +7,6 @@ use borrow.Author.Tests.{le-leb, lt-leb}
 use lib.Dec.{lit<}
 use lib.ListN.{length, get_or}
 use Rattle.answers.specs.Verdict.{accepted, refused}
-use Rattle.answers.specs.Answers.{verdict_of}
 use Rattle.answers.proofs.VerdictLaws.{condition-holds, condition-passes}
 use Rattle.record_kinds.specs.Kinds.{kind_count, flat_rates_kind, rate_path_kind}
 use Rattle.filing_decode.specs.Contents.{sheet_offset}
@@ -16,7 +15,7 @@ use Rattle.filing_decode.proofs.ContentsLaws.{sheet-noted}
 use Rattle.filing.proofs.required_sheets.check_sheets.Goals as goal
 
 pub returns-then-s-sheets : goal.returns-then-s-sheets
-unfolding verdict_of refused sheet_verdict sheet_missing
+unfolding refused sheet_verdict sheet_missing
 returns-then-s-sheets c =
     let sheet-is : (kind : ℕ) → kind < kind_count → get_or c.args.sheets.now kind 0 ≡ sheet_offset c.args.s.now kind = λ kind h. ap (λ (sheets : List ℕ). get_or sheets kind 0) c.requires ∙ sheet-noted _ kind h in
     let s = c.args.s.now in
@@ -24,7 +23,7 @@ returns-then-s-sheets c =
 
 -- yields stand before the end and so do flat rates: 6 does not hold
 pub returns-then-sheets-s : goal.returns-then-sheets-s
-unfolding verdict_of accepted sheet_verdict sheet_missing
+unfolding accepted sheet_verdict sheet_missing
 returns-then-sheets-s c =
     let sheet-is : (kind : ℕ) → kind < kind_count → get_or c.args.sheets.now kind 0 ≡ sheet_offset c.args.s.now kind = λ kind h. ap (λ (sheets : List ℕ). get_or sheets kind 0) c.requires ∙ sheet-noted _ kind h in
     let s = c.args.s.now in
@@ -36,7 +35,7 @@ returns-then-sheets-s c =
 
 -- yields stand before the end, flat rates do not, but rates by month do: 6 does not hold
 pub returns-then-sheets-s-2 : goal.returns-then-sheets-s-2
-unfolding verdict_of accepted sheet_verdict sheet_missing
+unfolding accepted sheet_verdict sheet_missing
 returns-then-sheets-s-2 c =
     let sheet-is : (kind : ℕ) → kind < kind_count → get_or c.args.sheets.now kind 0 ≡ sheet_offset c.args.s.now kind = λ kind h. ap (λ (sheets : List ℕ). get_or sheets kind 0) c.requires ∙ sheet-noted _ kind h in
     let s = c.args.s.now in
@@ -49,7 +48,7 @@ returns-then-sheets-s-2 c =
 
 -- yields stand before the end, but neither flat rates nor rates by month do: 6 holds, at the input's length
 pub returns : goal.returns
-unfolding verdict_of refused sheet_verdict sheet_missing
+unfolding refused sheet_verdict sheet_missing
 returns c =
     let sheet-is : (kind : ℕ) → kind < kind_count → get_or c.args.sheets.now kind 0 ≡ sheet_offset c.args.s.now kind = λ kind h. ap (λ (sheets : List ℕ). get_or sheets kind 0) c.requires ∙ sheet-noted _ kind h in
     let s = c.args.s.now in

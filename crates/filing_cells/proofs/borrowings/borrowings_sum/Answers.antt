@@ -18,34 +18,33 @@ use Rattle.filing_cells.proofs.borrowings.borrowings_sum.Goals as goal
 abbrev balance_at : List ℕ → ℕ → ℕ
 balance_at cells i = cell_in cells (borrowing_at i).balance
 
-pub loop-summed-init : goal.loop-summed-init
+pub loop-i-init : goal.loop-i-init
 unfolding sum table_from
-loop-summed-init c = (omega arith, refl, omega arith)
+loop-i-init c = (refl, omega arith)
 
 pub overflow_add-total : goal.overflow_add-total
 overflow_add-total c =
-    let read : c.cell_value-total.result ≡ balance_at c.args.cells.now c.loop-summed.summed = c.cell_value-total.ensures
+    let read : c.cell_value-total.result ≡ balance_at c.args.cells.now c.loop-i.i = c.cell_value-total.ensures
     ∙ ap (λ (b : Borrowing). cell_in c.args.cells.now b.balance) c.borrowing_at.ensures in
-    let limit : c.cell_value-total.result ≤ balance_limit = rw read (c.requires c.loop-summed.summed (omega arith)) in
+    let limit : c.cell_value-total.result ≤ balance_limit = rw read (c.requires c.loop-i.i (omega arith)) in
     omega (arith, limit)
 
 -- the sum of i + 1 balances is that of the first i and the one added; each is at most the balance limit, so i + 1 are at most
 -- i + 1 limits
-pub loop-summed-preserved : goal.loop-summed-preserved
-loop-summed-preserved c =
-    let read : c.cell_value-total.result ≡ balance_at c.args.cells.now c.loop-summed.summed = c.cell_value-total.ensures
+pub loop-i-preserved : goal.loop-i-preserved
+loop-i-preserved c =
+    let read : c.cell_value-total.result ≡ balance_at c.args.cells.now c.loop-i.i = c.cell_value-total.ensures
     ∙ ap (λ (b : Borrowing). cell_in c.args.cells.now b.balance) c.borrowing_at.ensures in
-    let limit : c.cell_value-total.result ≤ balance_limit = rw read (c.requires c.loop-summed.summed (omega arith)) in
-    let i = c.loop-summed.summed in
+    let limit : c.cell_value-total.result ≤ balance_limit = rw read (c.requires c.loop-i.i (omega arith)) in
+    let i = c.loop-i.i in
     let cells = c.args.cells.now in
-    let inv = c.loop-summed.invariant in (
-      omega arith,
-      rw (inv.1, read) (sym (rw zero-add at (sum-table-suc 0 i (balance_at cells)))),
+    let inv = c.loop-i.invariant in (
+      rw (inv.0, read) (sym (rw zero-add at (sum-table-suc 0 i (balance_at cells)))),
       omega (arith, limit),
     )
 
 pub returns : goal.returns
 unfolding borrowings
 returns c =
-    let e : c.loop-summed.summed ≡ 24 = omega arith in
-    rw e at c.loop-summed.invariant.1
+    let e : c.loop-i.i ≡ 24 = omega arith in
+    rw e at c.loop-i.invariant.0

@@ -1,5 +1,5 @@
 -- `borrowings_sum` meets its contract. The loop's invariant: the sum of the first i balances, each within its limit. Assumes nothing.
-use Prim.Native.Nat.{ℕ, ◌*◌, ◌-◌, ◌≤◌}
+use Prim.Native.Nat.{ℕ, ◌*◌, ◌≤◌}
 use mathlib.Core.Path.{◌≡◌}
 use mathlib.Core.List.{List}
 use Rattle.lists.specs.Sums.{sum}
@@ -13,8 +13,5 @@ use Rattle.filing_cells.proofs.borrowings.borrowings_sum.Given as goal
 abbrev balance_at : List ℕ → ℕ → ℕ
 balance_at cells i = cell_in cells (borrowing_at i).balance
 
-abbrev pub invariant-loop-summed : goal.invariant-loop-summed
-invariant-loop-summed l = (l.summed ≤ 24) × (l.total ≡ sum (table l.summed (balance_at l.cells))) × (l.total ≤ balance_limit * l.summed)
-
-abbrev pub decreases-loop-summed : goal.decreases-loop-summed
-decreases-loop-summed l = 24 - l.summed
+abbrev pub invariant-loop-i : goal.invariant-loop-i
+invariant-loop-i l = (l.total ≡ sum (table l.i (balance_at l.cells))) × (l.total ≤ balance_limit * l.i)

@@ -4,7 +4,6 @@ use mathlib.Core.Path.{◌≡◌, sym, ap, ◌∙◌}
 use mathlib.Core.Bool.{true}
 use Rattle.form.specs.Borrowings.{coupon_cell}
 use Rattle.answers.specs.Verdict.{accepted, refused}
-use Rattle.answers.specs.Answers.{verdict_of}
 use Rattle.answers.proofs.VerdictLaws.{tried-start, tried_here, tried-next, tried-all, condition-holds, condition-refuses, condition-none}
 use Rattle.filing_cells.specs.BorrowingConditions.{coupon_outside}
 use Rattle.filing_cells.specs.BorrowingVerdicts.{coupon_verdict, coupons_verdict}
@@ -16,7 +15,7 @@ loop-class-init c = tried-start _ 8
 -- the class's coupon is outside, so that its own verdict is 19 at its coupon cell; the classes before it pass, so that the first refusal
 -- of all eight is this one
 pub returns-then-coupon_outside : goal.returns-then-coupon_outside
-unfolding verdict_of refused coupons_verdict coupon_verdict
+unfolding refused coupons_verdict coupon_verdict
 returns-then-coupon_outside c =
     let loop = c.loop-class in
     let cells = c.args.cells.now in
@@ -35,5 +34,5 @@ loop-class-preserved c =
     (condition-none _ 19 (coupon_cell loop.class) (sym c.coupon_outside.ensures ∙ c.if-coupon_outside.false))
 
 pub returns : goal.returns
-unfolding verdict_of accepted coupons_verdict
+unfolding accepted coupons_verdict
 returns c = tried-all _ 8 c.loop-class.class c.loop-class.invariant c.loop-class-test.false

@@ -4,7 +4,6 @@ use mathlib.Core.Path.{◌≡◌, sym, ap, ◌∙◌}
 use mathlib.Core.Bool.{true}
 use Rattle.form.specs.Borrowings.{term_cell}
 use Rattle.answers.specs.Verdict.{accepted, refused}
-use Rattle.answers.specs.Answers.{verdict_of}
 use Rattle.answers.proofs.VerdictLaws.{tried-start, tried_here, tried-next, tried-all, condition-holds, condition-refuses, condition-none}
 use Rattle.filing_cells.specs.BorrowingConditions.{term_outside}
 use Rattle.filing_cells.specs.BorrowingVerdicts.{term_verdict, terms_verdict}
@@ -16,7 +15,7 @@ loop-term-init c = tried-start _ 3
 -- the term is outside, so that its own verdict is 7 at its cell; the terms before it pass, so that the first refusal of all three
 -- is this one
 pub returns-then-term_outside : goal.returns-then-term_outside
-unfolding verdict_of refused terms_verdict term_verdict
+unfolding refused terms_verdict term_verdict
 returns-then-term_outside c =
     let loop = c.loop-term in
     let cells = c.args.cells.now in
@@ -35,5 +34,5 @@ loop-term-preserved c =
     (condition-none _ 7 (term_cell loop.term) (sym c.term_outside.ensures ∙ c.if-term_outside.false))
 
 pub returns : goal.returns
-unfolding verdict_of accepted terms_verdict
+unfolding accepted terms_verdict
 returns c = tried-all _ 3 c.loop-term.term c.loop-term.invariant c.loop-term-test.false

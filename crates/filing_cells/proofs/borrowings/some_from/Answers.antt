@@ -11,7 +11,7 @@ use Rattle.filing_cells.proofs.borrowings.some_from.Goals as goal
 
 pub loop-i-init : goal.loop-i-init
 unfolding some_from any_below
-loop-i-init c = (omega arith, refl)
+loop-i-init c = refl
 
 pub overflow_mul-step : goal.overflow_mul-step
 overflow_mul-step c =
@@ -33,9 +33,9 @@ pub loop-i-preserved : goal.loop-i-preserved
 unfolding some_from
 loop-i-preserved c =
     let loop = c.loop-i in
-    (omega arith, any_none _ loop.i loop.invariant.1 (filled-false _ _ c.cell_value.ensures c.if-cell_value-ne0.false))
+    any_none _ loop.i loop.invariant (filled-false _ _ c.cell_value.ensures c.if-cell_value-ne0.false)
 
 pub returns : goal.returns
 returns c =
     let e : c.loop-i.i ≡ c.args.count = omega arith in
-    rw (← e) (sym c.loop-i.invariant.1)
+    rw (← e) (sym c.loop-i.invariant)

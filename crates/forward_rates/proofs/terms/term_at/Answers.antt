@@ -1,4 +1,5 @@
 -- `term_at` meets its contract. Assumes nothing.
+use native.Mathlib.Omega.{arith}
 use Rattle.forward_rates.proofs.TermLaws.{first-term, second-term, last-term}
 use Rattle.forward_rates.proofs.terms.term_at.Goals as goal
 
@@ -9,4 +10,4 @@ pub returns-in-1 : goal.returns-in-1
 returns-in-1 c = second-term _ c.in-1.is
 
 pub returns-in_default : goal.returns-in_default
-returns-in_default c = last-term _ c.in_default.in_default-own.rest.0.1 c.in_default.in_default-own.rest.1
+returns-in_default c = last-term c.args.index (λ e. omega arith) (λ e. omega arith)

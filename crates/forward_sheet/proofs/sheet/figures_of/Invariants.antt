@@ -1,5 +1,5 @@
 -- `figures_of` meets its contract: the entries of the months passed are there. Assumes nothing.
-use Prim.Native.Nat.{suc, ◌-◌, ◌≤◌}
+use Prim.Native.Nat.{suc, ◌+◌}
 use Rattle.lists.proofs.FillLaws.{FilledBy}
 use Rattle.form.specs.Limits.{sheet_months}
 use Rattle.forward_sheet.specs.Inner.Runs.{sheet_growth}
@@ -8,7 +8,4 @@ use Rattle.forward_sheet.proofs.sheet.figures_of.Given as goal
 
 abbrev pub invariant-loop-month : goal.invariant-loop-month
 invariant-loop-month l =
-    (1 ≤ l.month) × (l.month ≤ suc sheet_months) × FilledBy (Entry (sheet_growth l.yields l.scenario)) 0 (suc sheet_months) l.month l.figures
-
-abbrev pub decreases-loop-month : goal.decreases-loop-month
-decreases-loop-month l = suc sheet_months - l.month
+    FilledBy (Entry (sheet_growth l.yields l.fn.scenario.number)) 0 (suc sheet_months) (l.month + 1) l.figures

@@ -13,22 +13,13 @@ pub overflow_mul-growth : goal.overflow_mul-growth
 unfolding lent_terms
 overflow_mul-growth c = omega (arith, coupon-le _ c.requires.0)
 
+pub overflow_sub-t-end : goal.overflow_sub-t-end
+unfolding lent_terms
+overflow_sub-t-end c = omega (arith, c.requires.0.months-pos)
+
 pub loop-t-init : goal.loop-t-init
 unfolding lent_terms balance_by
 loop-t-init c = record { before = c.requires.0.months-pos; lower-is = refl; upper_is = refl }
-
-pub overflow_add-t : goal.overflow_add-t
-unfolding lent_terms
-overflow_add-t c = omega (arith, c.loop-t.invariant, c.requires.0.months-limit)
-
-pub overflow_add-month : goal.overflow_add-month
-overflow_add-month c = omega (arith, c.loop-t-test.true)
-
-pub rate_in-rate-requires : goal.rate_in-rate-requires
-rate_in-rate-requires c = let p = c.requires in (p.1, p.2, omega arith)
-
-pub overflow_sub-left : goal.overflow_sub-left
-overflow_sub-left c = omega (arith, c.loop-t-test.true)
 
 pub early_survival-survival-requires : goal.early_survival-survival-requires
 unfolding lent_terms
@@ -48,17 +39,11 @@ closing-upper-requires c =
     let p = c.requires in
     (upper-limit _ p.0 c.loop-t.invariant, growth-le _ p.0, rw c.early_survival-survival.ensures (p.0.survival-limit _ _ _))
 
-pub overflow_add-t-in-loop-t : goal.overflow_add-t-in-loop-t
-overflow_add-t-in-loop-t c = omega (arith, c.loop-t-test.true)
-
-pub loop-t-smaller : goal.loop-t-smaller
-loop-t-smaller c = omega (arith, c.loop-t-test.true)
-
 pub loop-t-preserved : goal.loop-t-preserved
 unfolding lent_terms rounding_of
 loop-t-preserved c =
     let p = c.requires in
-    filed-next _ p.0 c.loop-t.invariant c.loop-t-test.true (c.early_survival-survival.ensures ∙ rw c.rate_in-rate.ensures.0) c.closing-lower.ensures.0 c.closing-upper.ensures.0
+    filed-next _ p.0 c.loop-t.invariant (omega (arith, c.loop-t-test.true)) (c.early_survival-survival.ensures ∙ rw c.rate_in-rate.ensures.0) c.closing-lower.ensures.0 c.closing-upper.ensures.0
 
 pub closing-requires : goal.closing-requires
 unfolding lent_terms
@@ -76,4 +61,4 @@ pub returns : goal.returns
 unfolding lent_terms rounding_of
 returns c =
     let p = c.requires in
-    (filed-last _ p.0 c.loop-t.invariant c.loop-t-test.false c.closing.ensures.0 c.closing-2.ensures.0, c.closing.ensures.1, c.closing-2.ensures.1)
+    (filed-last _ p.0 c.loop-t.invariant (omega (arith, c.loop-t-test.false)) c.closing.ensures.0 c.closing-2.ensures.0, c.closing.ensures.1, c.closing-2.ensures.1)

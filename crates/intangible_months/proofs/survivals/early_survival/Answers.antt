@@ -5,16 +5,16 @@ use Rattle.intangible_months.specs.Inner.Lent.{lent_survival}
 use Rattle.intangible_months.proofs.LentLaws.{searched, lent-reached, lent-unreached}
 use Rattle.intangible_months.proofs.survivals.early_survival.Goals as goal
 
-pub returns-then-level-count : goal.returns-then-level-count
+pub returns-then-level-tiers : goal.returns-then-level-tiers
 unfolding lent_survival
-returns-then-level-count c =
-    let found : FirstLevel c.args.count c.args.edges.now (gain c.args.coupon 0 c.args.rate c.args.left)
+returns-then-level-tiers c =
+    let found : FirstLevel c.args.tiers.now.count c.args.tiers.now.edges (gain c.args.coupon 0 c.args.rate c.args.left)
     (cost c.args.coupon c.args.left) c.reached_level-level.result.level = searched _ _ _ _ _ _ c.incentive_of-incentive.ensures.0 c.reached_level-level.ensures.first in
-    lent-reached _ _ _ _ _ _ _ found c.if-level-count.true
+    lent-reached _ _ _ _ _ _ _ found c.if-level-tiers.true
 
-pub returns-else-level-count : goal.returns-else-level-count
+pub returns-else-level-tiers : goal.returns-else-level-tiers
 unfolding lent_survival
-returns-else-level-count c =
-    let found : FirstLevel c.args.count c.args.edges.now (gain c.args.coupon 0 c.args.rate c.args.left)
+returns-else-level-tiers c =
+    let found : FirstLevel c.args.tiers.now.count c.args.tiers.now.edges (gain c.args.coupon 0 c.args.rate c.args.left)
     (cost c.args.coupon c.args.left) c.reached_level-level.result.level = searched _ _ _ _ _ _ c.incentive_of-incentive.ensures.0 c.reached_level-level.ensures.first in
-    lent-unreached _ _ _ _ _ _ _ found c.if-level-count.false
+    lent-unreached _ _ _ _ _ _ _ found c.if-level-tiers.false

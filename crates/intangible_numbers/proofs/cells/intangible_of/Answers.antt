@@ -1,5 +1,5 @@
 -- `cells::intangible_of` meets its contract: the scenarios passed are written. Assumes nothing.
-use Prim.Native.Nat.{◌+◌, ◌*◌, ◌-◌, ◌<◌}
+use Prim.Native.Nat.{◌+◌, ◌*◌, ◌<◌}
 use mathlib.Core.Path.{◌≡◌, refl, ◌∙◌}
 use mathlib.Core.List.{[]}
 use native.Mathlib.Omega.{arith}
@@ -16,25 +16,23 @@ use Rattle.intangible_numbers.proofs.cells.intangible_of.Goals as goal
 
 pub loop-scenario-init : goal.loop-scenario-init
 unfolding table_from joined
-loop-scenario-init c = (omega arith, overwritten-none _)
+loop-scenario-init c = overwritten-none _
 
 pub intangible_in-two-requires : goal.intangible_in-two-requires
 intangible_in-two-requires c =
     let p = c.requires in
-    cell-walkable _ _ _ _ _ _ _ p.0 p.1 p.2 c.loop-scenario-test.true _ _ p.3 p.4
+    cell-walkable _ _ _ _ p.0 p.1 p.2 c.loop-scenario-test.true _ _ p.3 p.4
 
 pub loop-scenario-preserved : goal.loop-scenario-preserved
 unfolding intangible_by
 loop-scenario-preserved c =
     let state = c.loop-scenario in
-    let more : state.scenario < scenario_count = omega (arith, c.loop-scenario-test.true) in (
-      omega (arith, more),
-      rw c.write_signed.ensures (overwritten-row [] _ 2 (λ s. refl) state.scenario (2 * state.scenario) (2 * (state.scenario + 1)) (replicate place_value_count (pos 0))
-          state.numbers c.intangible_in-two.result state.invariant.1 c.intangible_in-two.ensures (omega (arith, more)) (omega (arith, more))),
-    )
+    let more : state.scenario < scenario_count = omega (arith, c.loop-scenario-test.true) in
+    rw c.write_signed.ensures (overwritten-row [] _ 2 (λ s. refl) state.scenario (2 * state.scenario) (2 * (state.scenario + 1)) (replicate place_value_count (pos 0))
+    state.numbers c.intangible_in-two.result state.invariant c.intangible_in-two.ensures (omega (arith, more)) (omega (arith, more)))
 
 pub returns : goal.returns
 unfolding lent_numbers
 returns c =
     let e : c.loop-scenario.scenario ≡ scenario_count = omega arith in
-    overwritten-all _ _ _ _ c.loop-scenario.invariant.1 (omega arith) ∙ rw e
+    overwritten-all _ _ _ _ c.loop-scenario.invariant (omega arith) ∙ rw e

@@ -5,4 +5,4 @@ use Rattle.intangible_numbers.proofs.cells.retail_cell.Goals as goal
 pub returns : goal.returns
 unfolding retail_cell
 returns c =
-    rw (c.cell_value.ensures, c.cell_value-2.ensures, c.rollover_months.ensures, c.wide.ensures)
+    rw (c.cell_value.ensures, c.cell_value-2.ensures, c.rollover_months.ensures, c.from.ensures)

@@ -1,5 +1,4 @@
 -- `factors::fill_long` meets its contract: the months passed are written. Assumes nothing.
-use Prim.Native.Nat.{◌-◌}
 use mathlib.Core.Path.{◌≡◌}
 use native.Mathlib.Omega.{arith}
 use Rattle.lists.specs.Tables.{table_from, joined}
@@ -11,26 +10,17 @@ use Rattle.intangible_numbers.proofs.factors.fill_long.Goals as goal
 
 pub loop-month-init : goal.loop-month-init
 unfolding table_from joined
-loop-month-init c = let p = c.requires.lower_value in rw (p.0, p.1) (omega arith, overwritten-none _, overwritten-none _)
-
-pub yield_in-requires : goal.yield_in-requires
-yield_in-requires c = let p = c.requires.within_rates in (p.0, p.1, p.2, p.3, c.loop-month-test.true)
-
-pub fill_month-requires : goal.fill_month-requires
-fill_month-requires c =
-    let inv = c.loop-month.invariant in
-    (c.yield_in.ensures.1, omega (arith, inv.1.as_long), omega (arith, inv.2.as_long))
+loop-month-init c = let p = c.requires.zeros in rw (p.0, p.1) (overwritten-none _, overwritten-none _)
 
 pub loop-month-preserved : goal.loop-month-preserved
 loop-month-preserved c =
     let inv = c.loop-month.invariant in (
-      omega (arith, c.loop-month-test.true),
-      month-written down _ _ c.loop-month.month _ c.loop-month.lower _ c.yield_in.ensures.0 (omega (arith, c.loop-month-test.true)) inv.1 c.fill_month.ensures.0,
-      month-written up _ _ c.loop-month.month _ c.loop-month.upper _ c.yield_in.ensures.0 (omega (arith, c.loop-month-test.true)) inv.2 c.fill_month.ensures.1,
+      month-written down _ _ c.loop-month.month _ c.loop-month.factors.lower _ c.yield_in-rate.ensures.0 (omega (arith, c.loop-month-test.true)) inv.0 c.fill_month.ensures.0,
+      month-written up _ _ c.loop-month.month _ c.loop-month.factors.upper _ c.yield_in-rate.ensures.0 (omega (arith, c.loop-month-test.true)) inv.1 c.fill_month.ensures.1,
     )
 
 pub returns : goal.returns
 returns c =
     let at = c.loop-month in
     let e : at.month ≡ last_month = omega arith in
-    (all-written down _ _ at.month _ _ e (omega arith) at.invariant.1, all-written up _ _ at.month _ _ e (omega arith) at.invariant.2)
+    (all-written down _ _ at.month _ _ e (omega arith) at.invariant.0, all-written up _ _ at.month _ _ e (omega arith) at.invariant.1)

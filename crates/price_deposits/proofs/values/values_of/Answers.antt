@@ -12,13 +12,10 @@ use Rattle.form.specs.Shift.{scenario_count}
 use Rattle.form.specs.Counts.{place_value_count}
 use Rattle.withdrawal.specs.MonthSurvival.{account_of}
 use Rattle.pricing.specs.Scales.{par, coupon_growth}
-use Rattle.pricing.specs.Rounding.{down, up}
-use Rattle.withdrawal_months.proofs.LevelLaws.{level-survival-le}
 use Rattle.price_multipliers.specs.Multipliers.{multipliers_of}
 use Rattle.price_deposits.specs.DepositTerms.{servicing_cost}
-use Rattle.price_multipliers.specs.Inner.Tables.{Discounting}
+use Rattle.price_deposits.specs.Inner.Levels.{Multiplied}
 use Rattle.price_deposits.specs.Inner.Walked.{values_at}
-use Rattle.price_deposits.specs.Inner.Levels.{lent_tiers}
 use Rattle.price_deposits.specs.Inner.Values.{tabled_values}
 use Rattle.price_deposits.proofs.TermsLaws.{servicing-le}
 use Rattle.price_deposits.proofs.WalkLaws.{priceable, prices-le, bounds-are}
@@ -26,7 +23,7 @@ use Rattle.price_deposits.proofs.ValueLaws.{no-values}
 use Rattle.price_deposits.proofs.values.values_of.Goals as goal
 
 pub returns-then-balance-eq0 : goal.returns-then-balance-eq0
-returns-then-balance-eq0 c = record { value = (λ t. rw c.if-balance-eq0.true (no-values _ _ _ _ _ _)); levels_left = ((λ e. refl), λ some. absurd (ne_of_gt some c.if-balance-eq0.true)) }
+returns-then-balance-eq0 c = record { value = rw c.if-balance-eq0.true (no-values _ _ _ _ _ _); levels_left = ((λ e. refl), λ some. absurd (ne_of_gt some c.if-balance-eq0.true)) }
 
 pub multipliers_of-last-requires : goal.multipliers_of-last-requires
 multipliers_of-last-requires c = (
@@ -37,44 +34,38 @@ multipliers_of-last-requires c = (
 
 pub early_levels-requires : goal.early_levels-requires
 early_levels-requires c =
-    let limits = c.requires.balance_le_balance_limit in record { coupon_le_coupon_limit = (limits.1.coupon-le, limits.1.penalty-le, limits.1.months-le, limits.3.usable.edges_fit); by_index = (limits.2.within, limits.2.first-le, limits.2.last-le, limits.2.long) }
-
--- coupon, servicing cost and survivals are within the limits of a deposit and of usable tiers
-pub level_multipliers-requires : goal.level_multipliers-requires
-level_multipliers-requires c =
-    let limits = c.requires.balance_le_balance_limit in record {
-      growth_le_growth_limit = (
-        rw c.coupon_growth-growth.ensures (mul-le-mul_left _ limits.1.coupon-le),
-        rw c.servicing_cost-servicing.ensures (servicing-le (account_of c.args.d.brokered)),
-        limits.3.usable.edges_fit.count-le,
-        λ i. level-survival-le c.args.d.brokered (lent_tiers limits.3) i limits.3.usable,
-      );
-      paid_value = (refl, refl, refl, refl);
+    let limits = c.requires.balance_le_balance_limit in
+    record {
+      coupon_le_coupon_limit = (limits.1.coupon-le, limits.1.penalty-le, limits.1.months-le, limits.3);
+      by_index = (limits.2.within, limits.2.first-le, limits.2.last-le, limits.2.long);
     }
+
+pub level_multipliers-multipliers-requires : goal.level_multipliers-multipliers-requires
+level_multipliers-multipliers-requires c =
+    let limits = c.requires.balance_le_balance_limit in (
+      rw c.coupon_growth-growth.ensures (mul-le-mul_left _ limits.1.coupon-le),
+      rw c.servicing_cost-servicing.ensures (servicing-le (account_of c.args.d.brokered)),
+      limits.3,
+    )
 
 pub loop-scenario-init : goal.loop-scenario-init
 unfolding table_from joined
-loop-scenario-init c = (omega arith, overwritten-none _)
+loop-scenario-init c = overwritten-none _
 
 -- the deposit is priceable with these levels and multipliers, and its prices are within the limit
 pub value_bounds-two-requires : goal.value_bounds-two-requires
 value_bounds-two-requires c =
-    let last-known : let a = c.args in
-    (c.multipliers_of-last.result ≡ multipliers_of (coupon_growth * a.d.coupon) (servicing_cost (account_of a.d.brokered)) par)
-    × Discounting down a.d.months a.lower.now
-    × Discounting up a.d.months a.upper.now = let tables = c.requires.discounting (pos_of_ne-zero c.if-balance-eq0.false) in
-    (rw (← c.coupon_growth-growth.ensures, ← c.servicing_cost-servicing.ensures) c.multipliers_of-last.ensures, tables.0, tables.1) in
     let a = c.args in
     let limits = c.requires.balance_le_balance_limit in
-    let known = last-known in
-    let lt : c.loop-scenario.scenario < scenario_count = omega (arith, c.loop-scenario-test.true) in record {
+    let tables = c.requires.discounting (pos_of_ne-zero c.if-balance-eq0.false) in
+    let last-is : c.multipliers_of-last.result ≡ multipliers_of (coupon_growth * a.d.coupon) (servicing_cost (account_of a.d.brokered)) par =
+    rw (← c.coupon_growth-growth.ensures, ← c.servicing_cost-servicing.ensures) c.multipliers_of-last.ensures in
+    let multiplied : Multiplied a.tiers.now a.d c.level_multipliers-multipliers.result =
+    rw (← c.coupon_growth-growth.ensures, ← c.servicing_cost-servicing.ensures) c.level_multipliers-multipliers.ensures.0 in
+    let lt : c.loop-scenario.scenario < scenario_count = omega arith in record {
       balance_le_balance_limit = (limits.0, limits.1.months-le, lt);
-      priceable = priceable (lent_tiers limits.3) a.d a.rates.now a.column _ _ _ _ _ a.lower.now a.upper.now _ limits.1 limits.3.usable c.early_levels.ensures.0
-          (rw (← c.coupon_growth-growth.ensures, ← c.servicing_cost-servicing.ensures) c.level_multipliers.ensures.0) lt
-          known.1 known.2 known.0;
-      months_bound = prices-le (lent_tiers limits.3) a.d a.rates.now a.column _ _ _ _ _ a.lower.now a.upper.now _ limits.1 limits.3.usable c.early_levels.ensures.0
-          (rw (← c.coupon_growth-growth.ensures, ← c.servicing_cost-servicing.ensures) c.level_multipliers.ensures.0) lt
-          known.1 known.2 known.0;
+      priceable = priceable a.tiers.now a.d a.rates.now a.column _ _ a.discounts.now _ limits.1 limits.3 c.early_levels.ensures.0 multiplied lt tables.0 tables.1 last-is;
+      months_bound = prices-le a.tiers.now a.d a.rates.now a.column _ _ a.discounts.now _ limits.1 limits.3 c.early_levels.ensures.0 multiplied lt tables.0 tables.1 last-is;
     }
 
 -- lower and upper value of one scenario more are written
@@ -82,30 +73,24 @@ pub loop-scenario-preserved : goal.loop-scenario-preserved
 unfolding values_at
 loop-scenario-preserved c =
     let state = c.loop-scenario in
-    let more : state.scenario < scenario_count = omega (arith, c.loop-scenario-test.true) in (
-      omega (arith, more),
-      rw c.write.ensures (overwritten-row [] _ 2 (λ s. refl) state.scenario (2 * state.scenario) (2 * (state.scenario + 1)) (replicate place_value_count 0) state.values
-          c.value_bounds-two.result state.invariant.1 c.value_bounds-two.ensures (omega (arith, more)) (omega (arith, more))),
-    )
+    rw c.write.ensures (overwritten-row [] _ 2 (λ s. refl) state.scenario (2 * state.scenario) (2 * (state.scenario + 1)) (replicate place_value_count 0) state.values
+    c.value_bounds-two.result state.invariant c.value_bounds-two.ensures (omega arith) (omega arith))
 
 -- all seven scenarios are written, each with the values by the tables
 pub returns : goal.returns
 unfolding tabled_values
 returns c =
-    let last-known : let a = c.args in
-    (c.multipliers_of-last.result ≡ multipliers_of (coupon_growth * a.d.coupon) (servicing_cost (account_of a.d.brokered)) par)
-    × Discounting down a.d.months a.lower.now
-    × Discounting up a.d.months a.upper.now = let tables = c.requires.discounting (pos_of_ne-zero c.if-balance-eq0.false) in
-    (rw (← c.coupon_growth-growth.ensures, ← c.servicing_cost-servicing.ensures) c.multipliers_of-last.ensures, tables.0, tables.1) in
     let a = c.args in
     let limits = c.requires.balance_le_balance_limit in
-    let known = last-known in
+    let tables = c.requires.discounting (pos_of_ne-zero c.if-balance-eq0.false) in
+    let last-is : c.multipliers_of-last.result ≡ multipliers_of (coupon_growth * a.d.coupon) (servicing_cost (account_of a.d.brokered)) par =
+    rw (← c.coupon_growth-growth.ensures, ← c.servicing_cost-servicing.ensures) c.multipliers_of-last.ensures in
+    let multiplied : Multiplied a.tiers.now a.d c.level_multipliers-multipliers.result =
+    rw (← c.coupon_growth-growth.ensures, ← c.servicing_cost-servicing.ensures) c.level_multipliers-multipliers.ensures.0 in
     let e : c.loop-scenario.scenario ≡ scenario_count = omega arith in record {
-      value = λ t. overwritten-all _ _ _ _ c.loop-scenario.invariant.1 (omega arith)
+      value = overwritten-all _ _ _ _ c.loop-scenario.invariant (omega arith)
           ∙ rw e
           (ap joined (table-ext scenario_count _ _
-          (λ s h. bounds-are (lent_tiers t) a.d a.rates.now a.column _ _ _ _ _ a.lower.now a.upper.now s limits.1 t.usable c.early_levels.ensures.0
-          (rw (← c.coupon_growth-growth.ensures, ← c.servicing_cost-servicing.ensures) c.level_multipliers.ensures.0) h
-          known.1 known.2 known.0 a.balance)));
+          (λ s h. bounds-are a.tiers.now a.d a.rates.now a.column _ _ a.discounts.now s limits.1 limits.3 c.early_levels.ensures.0 multiplied h tables.0 tables.1 last-is a.balance)));
       levels_left = ((λ none. absurd (c.if-balance-eq0.false none)), λ some. c.early_levels.ensures);
     }

@@ -1,10 +1,11 @@
--- `price_factors::month_factors::upper_factors` meets its contract: the factors before i are filled. Assumes nothing.
-use Prim.Native.Nat.{◌≤◌}
-use mathlib.Core.Path.{◌≡◌, ◌∙◌}
+-- `price_factors::month_factors::upper_factors` meets its contract. Assumes nothing.
+use Prim.Native.Nat.{ℕ, suc, ◌≤◌}
+use mathlib.Core.Path.{◌∙◌}
 use native.Mathlib.Numerals.{add-one}
-use native.Mathlib.Omega.{arith}
 use lib.ListN.{get_or}
-use Rattle.lists.proofs.FillLaws.{fill_none, fill_more, fill-all}
+use Rattle.std.proofs.Common.{rules}
+use Rattle.std.proofs.iter.Serving.{serving}
+use Rattle.lists.proofs.ChainLaws.{table-from_fn}
 use Rattle.form.specs.Shift.{scenario_count}
 use Rattle.pricing.specs.Scales.{par}
 use Rattle.pricing.specs.Rounding.{rounding_of}
@@ -14,20 +15,14 @@ pub chained-chain-requires : goal.chained-chain-requires
 unfolding rounding_of
 chained-chain-requires c = c.requires
 
-pub loop-i-init : goal.loop-i-init
-loop-i-init c = (omega arith, fill_none _ 0 0 scenario_count)
-
-pub overflow_add-factors : goal.overflow_add-factors
+pub from_fn-requires : goal.from_fn-requires
 unfolding rounding_of
-overflow_add-factors c =
-    let held : get_or c.chained-chain.result c.loop-i.i 0 ≤ par = rw c.chained-chain.ensures (c.requires c.args.n c.loop-i.i) in
-    omega (arith, held)
-
-pub loop-i-preserved : goal.loop-i-preserved
-loop-i-preserved c = (omega arith, fill_more _ 0 scenario_count _ _ _ (omega arith) (add-one _) c.loop-i.invariant.1)
+from_fn-requires c =
+    let held : ((i : ℕ) → get_or c.chained-chain.result i 0 ≤ par) = λ i. rw c.chained-chain.ensures (c.requires c.args.n i) in
+    grind (serving, held)
 
 pub returns : goal.returns
 unfolding rounding_of
 returns c =
-    let e : c.loop-i.i ≡ scenario_count = omega arith in
-    fill-all _ 0 scenario_count c.loop-i.factors (rw e at c.loop-i.invariant.1) ∙ rw c.chained-chain.ensures
+    table-from_fn 0 (λ i. suc (get_or c.chained-chain.result i 0)) scenario_count c.from_fn.ensures.items (λ i y q l k. search (rules, add-one))
+    ∙ rw c.chained-chain.ensures

@@ -1,22 +1,12 @@
--- `price_factors::rate_multipliers::upper_multipliers` meets its contract: the multipliers before i are filled. Assumes nothing.
-use mathlib.Core.Path.{◌≡◌}
-use native.Mathlib.Omega.{arith}
-use Rattle.lists.proofs.FillLaws.{fill_none, fill_more, fill-all}
+-- `price_factors::rate_multipliers::upper_multipliers` meets its contract. Assumes nothing.
+use lib.ListN.{get_or}
+use Rattle.std.proofs.Common.{rules}
+use Rattle.lists.proofs.ChainLaws.{table-from_fn}
 use Rattle.form.specs.Shift.{scenario_count}
-use Rattle.pricing.specs.Inner.Multipliers.{multipliers_by}
+use Rattle.pricing.specs.Rounding.{up}
+use Rattle.pricing.specs.Inner.Multipliers.{multiplier_by, multipliers_by}
 use Rattle.price_factors.proofs.rate_multipliers.upper_multipliers.Goals as goal
-
-pub loop-i-init : goal.loop-i-init
-loop-i-init c = (omega arith, fill_none _ 0 0 scenario_count)
-
-pub upper_multiplier-requires : goal.upper_multiplier-requires
-upper_multiplier-requires c = c.requires _
-
-pub loop-i-preserved : goal.loop-i-preserved
-loop-i-preserved c = (omega arith, fill_more _ 0 scenario_count _ _ _ (omega arith) c.upper_multiplier.ensures c.loop-i.invariant.1)
 
 pub returns : goal.returns
 unfolding multipliers_by
-returns c =
-    let e : c.loop-i.i ≡ scenario_count = omega arith in
-    fill-all _ 0 scenario_count c.loop-i.multipliers (rw e at c.loop-i.invariant.1)
+returns c = table-from_fn 0 (λ i. multiplier_by up (get_or c.args.rates.now i 0)) scenario_count c.from_fn.ensures.items (λ i y q l k. search rules)

@@ -4,4 +4,4 @@ use Rattle.price_months.proofs.walk.level_at.Goals as goal
 
 pub returns : goal.returns
 unfolding level_at
-returns c = c.wide.ensures
+returns c = c.from.ensures

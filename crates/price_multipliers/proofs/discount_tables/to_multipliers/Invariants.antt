@@ -1,5 +1,5 @@
 -- `price_multipliers::discount_tables::to_multipliers` meets its contract: the entries before i hold multipliers, the others their factors. Assumes nothing.
-use Prim.Native.Nat.{ℕ, ◌-◌, ◌≤◌}
+use Prim.Native.Nat.{ℕ, ◌≤◌}
 use mathlib.Core.Path.{◌≡◌}
 use lib.ListN.{get_or}
 use Rattle.lists.proofs.FillLaws.{FilledBy}
@@ -10,7 +10,5 @@ use Rattle.price_multipliers.proofs.discount_tables.to_multipliers.Given as goal
 
 abbrev pub invariant-loop-i : goal.invariant-loop-i
 invariant-loop-i l =
-    (l.i ≤ l.count) × FilledBy (λ (j n : ℕ). n ≡ discount_multiplier (rounding_of l.up) (get_or l.initial.list j 0)) 0 factor_count l.i l.list × ((j : ℕ) → l.i ≤ j → get_or l.list j 0 ≡ get_or l.initial.list j 0)
-
-abbrev pub decreases-loop-i : goal.decreases-loop-i
-decreases-loop-i l = l.count - l.i
+    FilledBy (λ (j n : ℕ). n ≡ discount_multiplier (rounding_of l.up) (get_or l.initial.list j 0)) 0 factor_count l.i l.list
+    × ((j : ℕ) → l.i ≤ j → get_or l.list j 0 ≡ get_or l.initial.list j 0)

@@ -15,7 +15,7 @@ use Rattle.record_checks.proofs.repetitions.first_repetition.Goals as goal
 
 pub loop-i-init : goal.loop-i-init
 unfolding repetitions_below
-loop-i-init c = (omega arith, refl)
+loop-i-init c = refl
 
 -- the first repetition so far is at most `end`, which is within the bytes; what is noted of block i is whether its numbers fall before `end`,
 -- and where they do not there is no repetition up to there
@@ -25,7 +25,7 @@ block_repetition-first-requires c =
     let s = c.args.s.now in
     let end = c.args.end in
     let i = loop.i in
-    let first-le : loop.first ≤ end = rw loop.invariant.1 (repetitions-le s i end) in
+    let first-le : loop.first ≤ end = rw loop.invariant (repetitions-le s i end) in
     let falling = ap (λ (l : List Bool). get_or l i false) c.requires.1 in
     let is = noted-falling s end i (omega arith) in
     record { end_in_bounds = (omega (arith, first-le, c.requires.0), omega arith); end_value = λ rises. rising-single s i end loop.first (sym is ∙ sym falling ∙ rises) first-le }
@@ -34,9 +34,9 @@ pub loop-i-preserved : goal.loop-i-preserved
 unfolding repetitions_below
 loop-i-preserved c =
     let loop = c.loop-i in
-    (omega arith, c.block_repetition-first.ensures ∙ rw (loop.invariant.1, add-one))
+    c.block_repetition-first.ensures ∙ rw (loop.invariant, add-one)
 
 pub returns : goal.returns
 returns c =
     let e : c.loop-i.i ≡ block_count = omega arith in
-    rw e at c.loop-i.invariant.1
+    rw e at c.loop-i.invariant

@@ -1,13 +1,8 @@
 -- `first_repetition` meets its contract. The loop's invariant: the first repetition of the blocks passed. A block whose numbers rise has none.
 -- Assumes nothing.
-use Prim.Native.Nat.{◌-◌, ◌≤◌}
 use mathlib.Core.Path.{◌≡◌}
-use Rattle.record_offsets.specs.Inner.Notes.{block_count}
 use Rattle.record_checks.specs.Inner.Repetitions.{repetitions_below}
 use Rattle.record_checks.proofs.repetitions.first_repetition.Given as goal
 
 abbrev pub invariant-loop-i : goal.invariant-loop-i
-invariant-loop-i l = (l.i ≤ block_count) × (l.first ≡ repetitions_below l.s l.i l.end)
-
-abbrev pub decreases-loop-i : goal.decreases-loop-i
-decreases-loop-i l = block_count - l.i
+invariant-loop-i l = l.first ≡ repetitions_below l.s l.i l.end

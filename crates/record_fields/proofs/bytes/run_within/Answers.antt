@@ -1,4 +1,4 @@
--- `run_within` meets its contract. The loop's invariant: the value is the number that the bytes from `left` on spell.
+-- `run_within` meets its contract. The loop's invariant: the value is the number that the bytes from `i` on spell.
 -- Assumes nothing.
 use Prim.Native.Nat.{◌+◌, ◌*◌, ◌-◌, ◌^◌, ◌≤◌}
 use native.Mathlib.Nat.{add-zero, sub-zero}
@@ -8,17 +8,17 @@ use Rattle.record_fields.specs.Bytes.{number_at}
 use Rattle.record_fields.proofs.ByteLaws.{number_lt, number_step, number-byte-le}
 use Rattle.record_fields.proofs.bytes.run_within.Goals as goal
 
-pub loop-left-init : goal.loop-left-init
+pub loop-i-init : goal.loop-i-init
 unfolding number_at
-loop-left-init c =
+loop-i-init c =
     let n : c.args.width - c.args.width ≡ 0 = omega arith in
-    (omega arith, rw n)
+    rw n
 
 pub overflow_mul-value : goal.overflow_mul-value
 overflow_mul-value c =
-    let room : c.loop-left.value * 256 + 256 ≤ 2 ^ 64 = let start = c in
+    let room : c.loop-i.value * 256 + 256 ≤ 2 ^ 64 = let start = c in
     let h =
-    number-byte-le start.args.s.now (start.args.at + c.loop-left.left) (start.args.width - c.loop-left.left)
+    number-byte-le start.args.s.now (start.args.at + c.loop-i.i) (start.args.width - c.loop-i.i)
     c.shared_slice_known-1.given (omega arith)
     in
     omega arith in
@@ -27,9 +27,9 @@ overflow_mul-value c =
 -- 256 times the value leaves room for 256 below 2^64, and a byte is less
 pub overflow_add-value : goal.overflow_add-value
 overflow_add-value c =
-    let room : c.loop-left.value * 256 + 256 ≤ 2 ^ 64 = let start = c in
+    let room : c.loop-i.value * 256 + 256 ≤ 2 ^ 64 = let start = c in
     let h =
-    number-byte-le start.args.s.now (start.args.at + c.loop-left.left) (start.args.width - c.loop-left.left)
+    number-byte-le start.args.s.now (start.args.at + c.loop-i.i) (start.args.width - c.loop-i.i)
     c.shared_slice_known-1.given (omega arith)
     in
     omega arith in
@@ -37,26 +37,24 @@ overflow_add-value c =
     omega (
       arith,
       room,
-      c.wide.ensures,
-      (c.shared_slice_known-1.given (start.args.at + (c.loop-left.left - 1))).fits,
+      c.from.ensures,
+      (c.shared_slice_known-1.given (start.args.at + (c.loop-i.i - 1))).fits,
     )
 
--- the number from byte left - 1 on is that byte and 256 times the number from byte left on
-pub loop-left-preserved : goal.loop-left-preserved
-loop-left-preserved c =
-    let start = c in (
-      omega arith,
-      omega (
-        arith,
-        c.wide.ensures,
-        number_step start.args.s.now start.args.at start.args.width c.loop-left.left
-            c.loop-left-test.true c.loop-left.invariant.0,
-      ),
+-- the number from byte i - 1 on is that byte and 256 times the number from byte i on
+pub loop-i-preserved : goal.loop-i-preserved
+loop-i-preserved c =
+    let start = c in
+    omega (
+      arith,
+      c.from.ensures,
+      number_step start.args.s.now start.args.at start.args.width c.loop-i.i
+          c.loop-i-test.true (omega arith),
     )
 
 pub returns : goal.returns
 returns c =
-    let n : c.loop-left.left ≡ 0 = omega arith in
+    let n : c.loop-i.i ≡ 0 = omega arith in
     let start = c in
-    let is : c.loop-left.value ≡ number_at start.args.s.now start.args.at start.args.width = c.loop-left.invariant.1 ∙ rw (n, add-zero, sub-zero) in
+    let is : c.loop-i.value ≡ number_at start.args.s.now start.args.at start.args.width = c.loop-i.invariant ∙ rw (n, add-zero, sub-zero) in
     (is, rw is (number_lt start.args.s.now start.args.at start.args.width c.shared_slice_known-1.given))

@@ -4,7 +4,7 @@ use Prim.Native.Nat.{◌+◌, ◌*◌}
 use mathlib.Core.Path.{◌≡◌, refl, sym, subst, ◌∙◌}
 use native.Mathlib.Omega.{arith}
 use lib.Dec.{lit<}
-use Rattle.lists.proofs.FillLaws.{fill_none, fill-all}
+use Rattle.lists.proofs.FillLaws.{fill-all}
 use Rattle.filing_cells.specs.ValidCells.{ValidCells}
 use Rattle.form.specs.Places.{no_place}
 use Rattle.form.specs.PlaceOrder.{sub_balance_count}
@@ -14,14 +14,8 @@ use Rattle.shares.proofs.RowLaws.{row_within}
 use Rattle.shares.proofs.PlaceLaws.{place_of, fill-place}
 use Rattle.shares.proofs.places.places_of.Goals as goal
 
-pub loop-i-init : goal.loop-i-init
-loop-i-init c = (omega arith, fill_none (place_at _) no_place no_place sub_balance_count)
-
-pub row_at-row-requires : goal.row_at-row-requires
-row_at-row-requires c = (c.requires.1, c.loop-i-test.true)
-
-pub row_shares-four-requires : goal.row_shares-four-requires
-row_shares-four-requires c =
+pub shares-four-requires : goal.shares-four-requires
+shares-four-requires c =
     let valid : ValidCells c.args.cells.now = c.requires.0 in
     subst RowWithin (sym c.row_at-row.ensures) (row_within _ valid c.loop-i.i c.loop-i-test.true)
 
@@ -32,16 +26,14 @@ loop-i-preserved c =
     let cells = c.args.cells.now in
     let loop = c.loop-i in
     let i = loop.i in
-    let place = place_of cells valid i c.loop-i-test.true _ c.row_at-row.ensures _ c.row_shares-four.ensures in (
-      omega arith,
-      fill-place cells (4 * i + 3) (4 * (i + 1)) _ _ (omega arith) (omega arith) (c.place_in-in-loop-i-3.ensures ∙ place 3 (4 * i + 3) refl (lit< tt))
-          (fill-place cells (4 * i + 2) (4 * i + 3) _ _ (omega arith) (omega arith) (c.place_in-in-loop-i-2.ensures ∙ place 2 (4 * i + 2) refl (lit< tt))
-          (fill-place cells (4 * i + 1) (4 * i + 2) _ _ (omega arith) (omega arith) (c.place_in-in-loop-i.ensures ∙ place 1 (4 * i + 1) refl (lit< tt))
-          (fill-place cells (4 * i) (4 * i + 1) _ _ refl (omega arith) (c.place_in.ensures ∙ place 0 (4 * i) (omega arith) (lit< tt)) loop.invariant.1))),
-    )
+    let place = place_of cells valid i c.loop-i-test.true _ c.row_at-row.ensures _ c.shares-four.ensures in
+    fill-place cells (4 * i + 3) (4 * (i + 1)) _ _ (omega arith) (omega arith) (c.place-in-loop-i-3.ensures ∙ place 3 (4 * i + 3) refl (lit< tt))
+    (fill-place cells (4 * i + 2) (4 * i + 3) _ _ (omega arith) (omega arith) (c.place-in-loop-i-2.ensures ∙ place 2 (4 * i + 2) refl (lit< tt))
+    (fill-place cells (4 * i + 1) (4 * i + 2) _ _ (omega arith) (omega arith) (c.place-in-loop-i.ensures ∙ place 1 (4 * i + 1) refl (lit< tt))
+    (fill-place cells (4 * i) (4 * i + 1) _ _ refl (omega arith) (c.place.ensures ∙ place 0 (4 * i) (omega arith) (lit< tt)) loop.invariant)))
 
 pub returns : goal.returns
 unfolding places_of
 returns c =
     let e : 4 * c.loop-i.i ≡ sub_balance_count = omega arith in
-    fill-all (place_at _) no_place sub_balance_count _ (rw e at c.loop-i.invariant.1)
+    fill-all (place_at _) no_place sub_balance_count _ (rw e at c.loop-i.invariant)

@@ -1,5 +1,5 @@
 -- `row_at` meets its contract. Assumes nothing.
-use Prim.Native.Nat.{◌-◌, ◌≤◌}
+use Prim.Native.Nat.{ℕ, ◌-◌, ◌≤◌, ◌<◌}
 use mathlib.Core.Path.{◌≡◌, ap, ◌∙◌}
 use native.Mathlib.Omega.{arith}
 use lib.ListN.{get_or}
@@ -11,41 +11,27 @@ use Rattle.filing_cells.proofs.SumLaws.{column-range, totals-are, above_at_lem, 
 use Rattle.shares.specs.Inner.Rows.{row_at}
 use Rattle.shares.proofs.places.row_at.Goals as goal
 
+-- the column of a position is 1, 2 or 3
+column-in : (i : ℕ) → i < 9 → (p : Position) → p ≡ position_at i → (1 ≤ p.column) × (p.column ≤ 3)
+column-in i l p e = rw e (column-range i l)
+
 pub overflow_sub-column : goal.overflow_sub-column
-overflow_sub-column c =
-    let column-is : c.position-p.result.column ≡ (position_at c.args.i).column = ap (λ (p : Position). p.column) c.position-p.ensures in
-    let in-range : (1 ≤ c.position-p.result.column) × (c.position-p.result.column ≤ 3) = rw column-is (column-range c.args.i c.requires.1) in
-    in-range.0
+overflow_sub-column c = omega (arith, column-in c.args.i c.requires.1 c.position-p.result c.position-p.ensures)
 
 pub offset_bounds-sums-column : goal.offset_bounds-sums-column
-offset_bounds-sums-column c =
-    let column-is : c.position-p.result.column ≡ (position_at c.args.i).column = ap (λ (p : Position). p.column) c.position-p.ensures in
-    let in-range : (1 ≤ c.position-p.result.column) × (c.position-p.result.column ≤ 3) = rw column-is (column-range c.args.i c.requires.1) in
-    omega (arith, in-range)
+offset_bounds-sums-column c = omega (arith, column-in c.args.i c.requires.1 c.position-p.result c.position-p.ensures)
 
 pub bounds-sums-column : goal.bounds-sums-column
-bounds-sums-column c =
-    let column-is : c.position-p.result.column ≡ (position_at c.args.i).column = ap (λ (p : Position). p.column) c.position-p.ensures in
-    let in-range : (1 ≤ c.position-p.result.column) × (c.position-p.result.column ≤ 3) = rw column-is (column-range c.args.i c.requires.1) in
-    omega (arith, in-range)
+bounds-sums-column c = omega (arith, column-in c.args.i c.requires.1 c.position-p.result c.position-p.ensures)
 
 pub overflow_add-p : goal.overflow_add-p
-overflow_add-p c =
-    let column-is : c.position-p.result.column ≡ (position_at c.args.i).column = ap (λ (p : Position). p.column) c.position-p.ensures in
-    let in-range : (1 ≤ c.position-p.result.column) × (c.position-p.result.column ≤ 3) = rw column-is (column-range c.args.i c.requires.1) in
-    omega (arith, in-range)
+overflow_add-p c = omega (arith, column-in c.args.i c.requires.1 c.position-p.result c.position-p.ensures)
 
 pub overflow_add-p-2 : goal.overflow_add-p-2
-overflow_add-p-2 c =
-    let column-is : c.position-p.result.column ≡ (position_at c.args.i).column = ap (λ (p : Position). p.column) c.position-p.ensures in
-    let in-range : (1 ≤ c.position-p.result.column) × (c.position-p.result.column ≤ 3) = rw column-is (column-range c.args.i c.requires.1) in
-    omega (arith, in-range)
+overflow_add-p-2 c = omega (arith, column-in c.args.i c.requires.1 c.position-p.result c.position-p.ensures)
 
 pub overflow_add-p-3 : goal.overflow_add-p-3
-overflow_add-p-3 c =
-    let column-is : c.position-p.result.column ≡ (position_at c.args.i).column = ap (λ (p : Position). p.column) c.position-p.ensures in
-    let in-range : (1 ≤ c.position-p.result.column) × (c.position-p.result.column ≤ 3) = rw column-is (column-range c.args.i c.requires.1) in
-    omega (arith, in-range)
+overflow_add-p-3 c = omega (arith, column-in c.args.i c.requires.1 c.position-p.result c.position-p.ensures)
 
 -- each number of the row is read from its own cell, or is a sum over the position's column
 pub returns : goal.returns

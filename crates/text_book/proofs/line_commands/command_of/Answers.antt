@@ -1,39 +1,31 @@
--- `command_of` meets its contract. Assumes nothing.
+-- `command_of` meets its contract: a line over the limit, the commands in turn, and none. Assumes nothing.
 use mathlib.Core.Path.{sym, ◌∙◌}
 use Rattle.text_book.specs.Commands.{set_word, clear_word, place_word, five_numbers, one_number}
-use Rattle.text_book.proofs.CommandLaws.{command-long, command-set, command-clear, command-place, command-totals, command-none}
+use Rattle.text_book.proofs.CommandLaws.{command_long, command_set, command_clear, command_place, command_totals}
 use Rattle.text_book.proofs.line_commands.command_of.Goals as goal
 
-pub returns-then-line-gt1024 : goal.returns-then-line-gt1024
-returns-then-line-gt1024 c = command-long _ c.if-line-gt1024.true
+pub returns-then-line-gt-LINE_LIMIT : goal.returns-then-line-gt-LINE_LIMIT
+returns-then-line-gt-LINE_LIMIT c = command_long _ c.if-line-gt-LINE_LIMIT.true
 
-pub returns-then-set : goal.returns-then-set
+pub returns-in-Some : goal.returns-in-Some
 unfolding set_word five_numbers
-returns-then-set c =
-    command-set _ c.if-line-gt1024.false _ c.numbers_behind-set.ensures c.if-set.true
+returns-in-Some c = command_set _ c.if-line-gt-LINE_LIMIT.false _ (sym c.numbers_behind.ensures ∙ c.in-Some.is)
 
-pub returns-then-clear : goal.returns-then-clear
+pub returns-in-Some-numbers_behind : goal.returns-in-Some-numbers_behind
 unfolding set_word five_numbers clear_word one_number
-returns-then-clear c =
-    command-clear _ c.if-line-gt1024.false _ c.numbers_behind-set.ensures c.if-set.false _ c.numbers_behind-clear.ensures c.if-clear.true
+returns-in-Some-numbers_behind c =
+    command_clear _ c.if-line-gt-LINE_LIMIT.false (sym c.numbers_behind.ensures ∙ c.in_default.is) _
+    (sym c.numbers_behind-2.ensures ∙ c.in-Some-numbers_behind.is)
 
--- the line is neither `set` nor `clear` with their numbers and is `place` with its own
-pub returns-then-place : goal.returns-then-place
+pub returns-in-Some-numbers_behind-2 : goal.returns-in-Some-numbers_behind-2
 unfolding set_word five_numbers clear_word place_word one_number
-returns-then-place c =
-    command-place _ c.if-line-gt1024.false _ c.numbers_behind-set.ensures c.if-set.false _ c.numbers_behind-clear.ensures c.if-clear.false _
-    c.numbers_behind-place.ensures c.if-place.true
+returns-in-Some-numbers_behind-2 c =
+    command_place _ c.if-line-gt-LINE_LIMIT.false (sym c.numbers_behind.ensures ∙ c.in_default.is) (sym c.numbers_behind-2.ensures ∙ c.in_default-numbers_behind.is) _
+    (sym c.numbers_behind-3.ensures ∙ c.in-Some-numbers_behind-2.is)
 
--- the line is none of `set`, `clear` and `place` with their numbers and is `totals`
-pub returns-then-is_totals : goal.returns-then-is_totals
-unfolding set_word five_numbers clear_word place_word one_number
-returns-then-is_totals c =
-    command-totals _ c.if-line-gt1024.false _ c.numbers_behind-set.ensures c.if-set.false _ c.numbers_behind-clear.ensures c.if-clear.false _
-    c.numbers_behind-place.ensures c.if-place.false (sym c.is_totals.ensures ∙ c.if-is_totals.true)
-
--- the line is none of `set`, `clear` and `place` with their numbers and is not `totals`: no command
 pub returns : goal.returns
 unfolding set_word five_numbers clear_word place_word one_number
 returns c =
-    command-none _ c.if-line-gt1024.false _ c.numbers_behind-set.ensures c.if-set.false _ c.numbers_behind-clear.ensures c.if-clear.false _
-    c.numbers_behind-place.ensures c.if-place.false (sym c.is_totals.ensures ∙ c.if-is_totals.false)
+    let totals = command_totals _ c.if-line-gt-LINE_LIMIT.false (sym c.numbers_behind.ensures ∙ c.in_default.is) (sym c.numbers_behind-2.ensures ∙ c.in_default-numbers_behind.is)
+    (sym c.numbers_behind-3.ensures ∙ c.in_default-numbers_behind-2.is) in
+    c.then_some.ensures ∙ rw c.is_totals.ensures totals

@@ -1,27 +1,22 @@
--- `text_listing::borrowings::write_borrowings` meets its contract. Assumes nothing.
-use mathlib.Core.Path.{sym, ◌∙◌}
+-- `write_borrowings` meets its contract. Assumes nothing.
+use mathlib.Core.Path.{◌∙◌}
 use native.Mathlib.Omega.{arith}
-use Rattle.text.specs.Lines.{too_long}
-use Rattle.text.proofs.AppendLaws.{in-front}
 use Rattle.text_listing.specs.BorrowingListing.{borrowing_lines, borrowings_text}
 use Rattle.text_listing.proofs.ListingLaws.{text-too-long, text-refused, borrowings-accepted}
 use Rattle.text_listing.proofs.borrowings.write_borrowings.Goals as goal
 
-pub returns-then-filing-gt65536 : goal.returns-then-filing-gt65536
-unfolding too_long borrowings_text
-returns-then-filing-gt65536 c =
-    let s = c.args.filing.now in
-    record { printed = rw (sym (text-too-long borrowing_lines s (omega arith))) (in-front _ _ _ _ (omega arith) c.append_too_long.ensures) }
-
-pub returns-then-number-ne0 : goal.returns-then-number-ne0
+pub returns-then-filing-gt-FILING_LIMIT : goal.returns-then-filing-gt-FILING_LIMIT
 unfolding borrowings_text
-returns-then-number-ne0 c =
-    let s = c.args.filing.now in
-    let refusal = text-refused s _ _ _ _ _ (omega arith) (omega arith) (omega arith) c.value-answer.ensures.valued borrowing_lines (λ e. c.if-number-ne0.true (c.number.ensures ∙ e)) in
-    record { printed = rw (sym refusal) (in-front _ _ _ _ (omega (arith, c.append_refused.ensures.1)) c.append_refused.ensures.0) }
+returns-then-filing-gt-FILING_LIMIT c =
+    record { printed = c.append_too_long.ensures ∙ rw c.new-text.ensures (text-too-long borrowing_lines c.args.filing.now (omega arith)) }
+
+pub returns-in-Err : goal.returns-in-Err
+unfolding borrowings_text
+returns-in-Err c =
+    let refusal = text-refused c.args.filing.now _ _ _ _ _ (omega arith) (omega arith) (omega arith) c.value.ensures.valued borrowing_lines _ c.in-Err.is in
+    record { printed = c.append_refused.ensures ∙ rw c.new-text.ensures refusal }
 
 pub returns : goal.returns
 returns c =
-    let s = c.args.filing.now in
-    let lines = borrowings-accepted s _ _ _ _ _ (omega arith) (omega arith) (omega arith) c.value-answer.ensures.valued (sym c.number.ensures ∙ c.if-number-ne0.false) in
-    record { printed = rw (sym lines) (in-front _ _ _ _ (omega (arith, c.append_scenarios.ensures.0.end_is)) c.append_scenarios.ensures.0) }
+    let lines = borrowings-accepted c.args.filing.now _ _ _ _ _ (omega arith) (omega arith) (omega arith) c.value.ensures.valued _ c.in_default.is in
+    record { printed = c.append_scenarios.ensures ∙ rw c.new-text.ensures lines }

@@ -1,67 +1,39 @@
 -- `digits_value` meets its contract. The loop's invariant: the value of the digits so far. Assumes nothing.
-use Prim.Native.Nat.{◌+◌, ◌*◌, ◌-◌}
+use Prim.Native.Nat.{◌+◌, ◌-◌}
 use native.Mathlib.Omega.{arith}
-use mathlib.Core.Path.{◌≡◌, sym, ap, ◌∙◌}
-use Rattle.text_numerals.specs.declared.fields.Whole.TheVariants.{Value}
+use mathlib.Core.Path.{◌≡◌, refl, ap, ◌∙◌}
+use Rattle.std.specs.Prelude.{Some}
 use Rattle.text_numerals.specs.Numerals.{decimal}
-use Rattle.text_numerals.proofs.NumeralLaws.{byte_inside, decimal-suc, whole-value, whole-large}
+use Rattle.text_numerals.proofs.NumeralLaws.{decimal_next, whole_value, whole_large}
 use Rattle.text_numerals.proofs.fields.digits_value.Goals as goal
 
-pub loop-i-init : goal.loop-i-init
+pub loop-byte-init : goal.loop-byte-init
 unfolding decimal
-loop-i-init c = let none : c.args.at - c.args.at ≡ 0 = omega arith in
-    (omega arith, (c.requires.at_le_end, (rw none, omega arith)))
+loop-byte-init c = (refl, omega arith)
 
-pub bounds-text-i : goal.bounds-text-i
-bounds-text-i c = omega (arith, c.loop-i-test.true, c.requires.end_in_bounds)
-
-pub overflow_sub-digit : goal.overflow_sub-digit
-overflow_sub-digit c = omega (arith, c.digit_of-digit.ensures.1)
-
-pub returns-then-digit-value : goal.returns-then-digit-value
-returns-then-digit-value c =
-    let next : decimal c.args.text.now c.args.at (c.loop-i.i + 1 - c.args.at)
-    ≡ 10 * c.loop-i.value + c.digit_of-digit.result = let a = c.args in
-    let at = c.loop-i in
-    let byte = byte_inside a.text.now at.i (omega (arith, c.loop-i-test.true, c.requires.end_in_bounds)) in
-    decimal-suc a.text.now a.at at.i at.invariant.0
-    ∙ rw (sym at.invariant.1.1.0, sym byte, sym c.digit_of-digit.ensures.0) in
+pub returns-in_err-checked_mul : goal.returns-in_err-checked_mul
+returns-in_err-checked_mul c =
     let a = c.args in
-    let at = c.loop-i in
-    whole-large a.text.now a.at (at.i + 1) a.end (omega (arith, at.invariant.0)) (omega (arith, c.loop-i-test.true))
-    (omega (arith, next, c.if-digit-value.true, c.digit_of-digit.ensures.1))
+    let next = decimal_next a.text.now a.at c.loop-byte.byte-index a.end (omega arith) c.requires.end_in_bounds in
+    c.from_residual.ensures
+    ∙ whole_large a.text.now a.at (c.loop-byte.byte-index + 1) a.end (omega arith) (omega (arith, next, c.in_err-checked_mul.ensures))
 
-pub overflow_mul-value : goal.overflow_mul-value
-overflow_mul-value c = omega (arith, c.if-digit-value.false)
+pub returns-in_err-value : goal.returns-in_err-value
+returns-in_err-value c =
+    let a = c.args in
+    let next = decimal_next a.text.now a.at c.loop-byte.byte-index a.end (omega arith) c.requires.end_in_bounds in
+    c.from_residual-in_err-value.ensures
+    ∙ whole_large a.text.now a.at (c.loop-byte.byte-index + 1) a.end (omega arith) (omega (arith, next, c.in_ok-checked_mul.ensures, c.in_err-value.ensures))
 
-pub overflow_add-value : goal.overflow_add-value
-overflow_add-value c = omega (arith, c.if-digit-value.false, c.digit_of-digit.ensures.1)
-
-pub overflow_add-i : goal.overflow_add-i
-overflow_add-i c = omega (arith, c.loop-i-test.true)
-
-pub loop-i-smaller : goal.loop-i-smaller
-loop-i-smaller c = omega (arith, c.loop-i-test.true)
-
-pub loop-i-preserved : goal.loop-i-preserved
-loop-i-preserved c =
-    let next : decimal c.args.text.now c.args.at (c.loop-i.i + 1 - c.args.at)
-    ≡ 10 * c.loop-i.value + c.digit_of-digit.result = let a = c.args in
-    let at = c.loop-i in
-    let byte = byte_inside a.text.now at.i (omega (arith, c.loop-i-test.true, c.requires.end_in_bounds)) in
-    decimal-suc a.text.now a.at at.i at.invariant.0
-    ∙ rw (sym at.invariant.1.1.0, sym byte, sym c.digit_of-digit.ensures.0) in
-    let at = c.loop-i in (
-      omega (arith, at.invariant.0),
-      (
-        omega (arith, c.loop-i-test.true),
-        (sym next, omega (arith, c.if-digit-value.false, c.digit_of-digit.ensures.1)),
-      ),
-    )
+pub loop-byte-preserved : goal.loop-byte-preserved
+loop-byte-preserved c =
+    let a = c.args in
+    let next = decimal_next a.text.now a.at c.loop-byte.byte-index a.end (omega arith) c.requires.end_in_bounds in
+    (omega (arith, next, c.in_ok-checked_mul.ensures, c.in_ok-value.ensures), omega (arith, c.in_ok-value.ensures))
 
 pub returns : goal.returns
-returns c = let a = c.args in
-    let at = c.loop-i in
-    let end : at.i ≡ a.end = omega (arith, at.invariant.1.0, c.loop-i-test.false) in
-    let value : at.value ≡ decimal a.text.now a.at (a.end - a.at) = rw end at at.invariant.1.1.0 in
-    ap Value value ∙ whole-value a.text.now a.at a.end (rw value at at.invariant.1.1.1)
+returns c =
+    let a = c.args in
+    let all : c.loop-byte.byte-index ≡ a.end - a.at = omega arith in
+    let value : c.loop-byte.value ≡ decimal a.text.now a.at (a.end - a.at) = rw all at c.loop-byte.invariant.0 in
+    ap Some value ∙ whole_value a.text.now a.at a.end (omega (arith, value))

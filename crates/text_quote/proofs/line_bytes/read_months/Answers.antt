@@ -2,30 +2,29 @@
 use Prim.Native.Nat.{◌+◌, ◌*◌}
 use native.Mathlib.Nat.{add-zero}
 use native.Mathlib.Omega.{arith}
-use mathlib.Core.Path.{◌≡◌, refl, ◌∙◌}
-use Rattle.lists.proofs.FillLaws.{filled-start, fill_more, fill-first}
+use mathlib.Core.Path.{sym, ap, ◌∙◌}
+use mathlib.Core.List.{append-nil}
+use lib.ListN.{length, length-append}
+use Rattle.std.proofs.Common.{rules}
+use Rattle.lists.specs.Tables.{table_from}
+use Rattle.lists.proofs.TableLaws.{table-length}
 use Rattle.record_fields.proofs.ByteLaws.{number_lt}
 use Rattle.text_quote.specs.LineBytes.{line_bytes, months_in}
+use Rattle.text_quote.proofs.ByteLaws.{read_more}
 use Rattle.text_quote.proofs.line_bytes.read_months.Goals as goal
 
 pub loop-i-init : goal.loop-i-init
-loop-i-init c = (omega arith, filled-start _ 0 _ refl)
+unfolding table_from
+loop-i-init g c = sym (append-nil _)
 
-pub overflow_cast-months : goal.overflow_cast-months
-overflow_cast-months c =
-    let lines = c.args.lines.now in
-    let at = c.loop-i.i in
-    omega (arith, c.field_within.ensures, number_lt lines (line_bytes * at + 0) 2 c.type_inv.lines)
+pub overflow_cast-field_within : goal.overflow_cast-field_within
+overflow_cast-field_within g c =
+    omega (arith, c.field_within.ensures, number_lt c.args.lines.now (line_bytes * c.loop-i.i + 0) 2 c.type_inv.lines)
+
+pub push-requires : goal.push-requires
+push-requires g c =
+    (search rules, omega (arith, c.requires, table-length 0 c.loop-i.i (months_in c.args.lines.now), simp length-append at (ap length c.loop-i.invariant)))
 
 pub loop-i-preserved : goal.loop-i-preserved
 unfolding months_in
-loop-i-preserved c = (
-  omega arith,
-  fill_more _ 0 _ _ _ _ (omega (arith, c.loop-i.invariant.1.long)) (c.field_within.ensures ∙ rw add-zero) c.loop-i.invariant.1,
-)
-
-pub returns : goal.returns
-returns c =
-    let all : c.loop-i.i ≡ c.args.count = omega arith in
-    let filled = rw all at c.loop-i.invariant.1 in
-    (fill-first _ 0 _ _ _ (omega arith) filled, c.loop-i.invariant.1.long)
+loop-i-preserved g c = read_more _ _ _ _ _ _ c.loop-i.invariant c.push.ensures.items (c.field_within.ensures ∙ rw add-zero)

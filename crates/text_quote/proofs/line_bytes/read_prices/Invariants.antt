@@ -1,13 +1,9 @@
 -- `read_prices` meets its contract: the prices before i are read. Assumes nothing.
-use Prim.Native.Nat.{◌-◌, ◌≤◌}
-use lib.Ieee.{nan}
-use lib.ListN.{length}
-use Rattle.lists.proofs.FillLaws.{Filled}
+use mathlib.Core.Path.{◌≡◌}
+use mathlib.Core.List.{◌++◌}
+use Rattle.lists.specs.Tables.{table}
 use Rattle.text_quote.specs.LineBytes.{price_at}
 use Rattle.text_quote.proofs.line_bytes.read_prices.Given as goal
 
 abbrev pub invariant-loop-i : goal.invariant-loop-i
-invariant-loop-i l = (l.i ≤ l.priced) × Filled (price_at l.lines) nan (length l.initial.prices) l.i l.prices
-
-abbrev pub decreases-loop-i : goal.decreases-loop-i
-decreases-loop-i l = l.priced - l.i
+invariant-loop-i g l = l.prices.items ≡ l.initial.prices.items ++ table l.i (price_at l.lines)

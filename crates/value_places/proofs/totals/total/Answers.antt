@@ -1,5 +1,5 @@
 -- `value_places::totals::total` meets its contract: the sum is that of the places before, each at most the limit. Assumes nothing.
-use Prim.Native.Nat.{◌+◌, ◌*◌, ◌-◌}
+use Prim.Native.Nat.{◌+◌, ◌*◌}
 use mathlib.Core.Path.{◌≡◌, refl, ◌∙◌}
 use native.Mathlib.Omega.{arith}
 use Rattle.lists.specs.Sums.{sum}
@@ -11,7 +11,7 @@ use Rattle.value_places.proofs.totals.total.Goals as goal
 
 pub loop-i-init : goal.loop-i-init
 unfolding sum table_from
-loop-i-init c = (omega arith, omega arith, refl)
+loop-i-init c = (omega arith, refl)
 
 pub overflow_add-sum-in-loop-i-2 : goal.overflow_add-sum-in-loop-i-2
 overflow_add-sum-in-loop-i-2 c =
@@ -24,9 +24,9 @@ loop-i-preserved c =
     let a = c.args in
     let i = c.loop-i.i in
     let limit = c.requires.0.within (place_number_count * (a.first + i) + a.r) (omega arith) in
-    (omega arith, omega arith, omega (arith, sum-table-suc a.first i (number_at a.list.now a.r)))
+    (omega arith, omega (arith, sum-table-suc a.first i (number_at a.list.now a.r)))
 
 pub returns : goal.returns
 returns c =
     let e : c.loop-i.i ≡ c.args.count = omega arith in
-    c.loop-i.invariant.2 ∙ rw e
+    c.loop-i.invariant.1 ∙ rw e

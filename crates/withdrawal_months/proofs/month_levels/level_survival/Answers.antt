@@ -11,10 +11,6 @@ pub returns-else-level-lt1 : goal.returns-else-level-lt1
 unfolding level_survival
 returns-else-level-lt1 c = rw (c.if-brokered.true, le-ltb _ _ c.if-level-lt1.false)
 
-pub returns-then-level-count : goal.returns-then-level-count
+pub returns : goal.returns
 unfolding level_survival
-returns-then-level-count c = rw (c.if-brokered.false, lt-ltb _ _ c.if-level-count.true)
-
-pub returns-else-level-count : goal.returns-else-level-count
-unfolding level_survival
-returns-else-level-count c = rw (c.if-brokered.false, le-ltb _ _ c.if-level-count.false)
+returns c = rw c.if-brokered.false c.survival_at.ensures

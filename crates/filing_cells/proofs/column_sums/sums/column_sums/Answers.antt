@@ -15,7 +15,7 @@ use Rattle.filing_cells.proofs.column_sums.sums.column_sums.Goals as goal
 
 pub loop-i-init : goal.loop-i-init
 unfolding sums_before column_sum table_from sum_where
-loop-i-init c = (omega arith, refl, fill_none _ 0 0 9)
+loop-i-init c = (refl, fill_none _ 0 0 9)
 
 pub overflow_sub-column : goal.overflow_sub-column
 overflow_sub-column c =
@@ -53,8 +53,8 @@ overflow_add-totals c =
     ∙ ap (λ (p : Position). cell_in c.args.cells.now p.balance) c.position-p.ensures in
     let loop = c.loop-i in
     let within = c.requires loop.i c.loop-i-test.true in
-    let limit = sums-limit c.args.cells.now c.requires loop.i (c.position-p.result.column - 1) loop.invariant.0 in
-    omega (arith, within, balance-is, rw (← loop.invariant.1) at limit)
+    let limit = sums-limit c.args.cells.now c.requires loop.i (c.position-p.result.column - 1) (omega arith) in
+    omega (arith, within, balance-is, rw (← loop.invariant.0) at limit)
 
 pub bounds-totals-column-in-loop-i-2 : goal.bounds-totals-column-in-loop-i-2
 bounds-totals-column-in-loop-i-2 c =
@@ -72,9 +72,8 @@ loop-i-preserved c =
     let loop = c.loop-i in
     let h = c.loop-i-test.true in
     let column = column-is in (
-      omega arith,
-      rw (loop.invariant.1, balance-is) (balance-added cells loop.i _ h column),
-      fill_more (above_at cells) 0 9 loop.i loop.above _ h (rw loop.invariant.1 (sum-at cells loop.i loop.i _ h column)) loop.invariant.2,
+      rw (loop.invariant.0, balance-is) (balance-added cells loop.i _ h column),
+      fill_more (above_at cells) 0 9 loop.i loop.above _ h (rw loop.invariant.0 (sum-at cells loop.i loop.i _ h column)) loop.invariant.1,
     )
 
 pub returns : goal.returns
@@ -82,4 +81,4 @@ unfolding column_sums sums_before
 returns c =
     let loop = c.loop-i in
     let e : loop.i ≡ 9 = omega arith in
-    rw (rw e at loop.invariant.1, fill-all (above_at _) 0 9 loop.above (rw e at loop.invariant.2))
+    rw (rw e at loop.invariant.0, fill-all (above_at _) 0 9 loop.above (rw e at loop.invariant.1))

@@ -1,6 +1,7 @@
 -- `meets` meets its contract.
 -- Assumes nothing.
 use Prim.Native.Nat.{ℕ, ◌/◌}
+use Rattle.std.specs.Prelude.{Some}
 use mathlib.Core.Path.{◌≡◌, sym, ap, ◌∙◌}
 use borrow.Author.Tests.{eq-eqb}
 use Rattle.record_offsets.specs.Inner.Notes.{block_size, block_of}
@@ -18,30 +19,30 @@ returns-then-amendment_number-block c =
 
 pub key_of-key-requires : goal.key_of-key-requires
 key_of-key-requires c =
-    let of-amendment : OfAmendment c.args.s.now c.args.at c.in-Amendment.cell c.in-Amendment.number = record-of-amendment _ _ _ _ (sym c.record_item.ensures ∙ c.in-Amendment.is) in
+    let of-amendment : OfAmendment c.args.s.now c.args.at c.in-Some-Amendment.cell c.in-Some-Amendment.number = record-of-amendment _ _ _ _ (sym c.record_item.ensures ∙ c.in-Some-Amendment.is ∙ ap Some c.in-Some-Amendment.field-0-is) in
     let of = of-amendment in
     (of.from_first, of.to_last)
 
-pub returns-in-Cell : goal.returns-in-Cell
+pub returns-in-Some-Cell : goal.returns-in-Some-Cell
 unfolding met_again met_with
-returns-in-Cell c = (rw (← c.record_item.ensures, c.in-Cell.is), rw (← c.record_item.ensures, c.in-Cell.is))
+returns-in-Some-Cell c = (rw (← c.record_item.ensures, c.in-Some-Cell.is, c.in-Some-Cell.field-0-is), rw (← c.record_item.ensures, c.in-Some-Cell.is, c.in-Some-Cell.field-0-is))
 
-pub returns-in-Sheet : goal.returns-in-Sheet
+pub returns-in-Some-Sheet : goal.returns-in-Some-Sheet
 unfolding met_again met_with
-returns-in-Sheet c = (rw (← c.record_item.ensures, c.in-Sheet.is), rw (← c.record_item.ensures, c.in-Sheet.is))
+returns-in-Some-Sheet c = (rw (← c.record_item.ensures, c.in-Some-Sheet.is, c.in-Some-Sheet.field-0-is), rw (← c.record_item.ensures, c.in-Some-Sheet.is, c.in-Some-Sheet.field-0-is))
 
 -- the record is an amendment whose number is of the block: whether it was met is whether its key is in the set, and its key is put there
-pub returns-in-Amendment : goal.returns-in-Amendment
+pub returns-in-Some-Amendment : goal.returns-in-Some-Amendment
 unfolding met_again met_with
-returns-in-Amendment c =
-    let same_block : block_of c.in-Amendment.number ≡ c.args.block = sym (number-block _ _ _ _ c.type_inv.s (sym c.record_item.ensures ∙ c.in-Amendment.is))
+returns-in-Some-Amendment c =
+    let same_block : block_of c.in-Some-Amendment.number ≡ c.args.block = sym (number-block _ _ _ _ c.type_inv.s (sym c.record_item.ensures ∙ c.in-Some-Amendment.is ∙ ap Some c.in-Some-Amendment.field-0-is))
     ∙ ap (λ (n : ℕ). n / block_size) (sym c.amendment_number.ensures)
     ∙ c.if-amendment_number-block.false in
     let same = eq-eqb _ _ same_block in (
-      rw (← c.record_item.ensures, c.in-Amendment.is, ← c.key_of-key.ensures) (simp same c.holds-again.ensures),
-      rw (← c.record_item.ensures, c.in-Amendment.is, ← c.key_of-key.ensures) (simp same c.put.ensures),
+      rw (← c.record_item.ensures, c.in-Some-Amendment.is, c.in-Some-Amendment.field-0-is, ← c.key_of-key.ensures) (simp same c.holds-again.ensures),
+      rw (← c.record_item.ensures, c.in-Some-Amendment.is, c.in-Some-Amendment.field-0-is, ← c.key_of-key.ensures) (simp same c.put.ensures),
     )
 
-pub returns-in-Nothing : goal.returns-in-Nothing
+pub returns-in-None : goal.returns-in-None
 unfolding met_again met_with
-returns-in-Nothing c = (rw (← c.record_item.ensures, c.in-Nothing.is), rw (← c.record_item.ensures, c.in-Nothing.is))
+returns-in-None c = (rw (← c.record_item.ensures, c.in-None.is), rw (← c.record_item.ensures, c.in-None.is))

@@ -1,9 +1,0 @@
--- `hex_digit` meets its contract. Assumes nothing.
-use Rattle.text_quote.proofs.HexLaws.{digit_low, digit-high}
-use Rattle.text_quote.proofs.reply_lines.hex_digit.Goals as goal
-
-pub returns-then-d-lt10 : goal.returns-then-d-lt10
-returns-then-d-lt10 c = digit_low _ c.if-d-lt10.true
-
-pub returns-else-d-lt10 : goal.returns-else-d-lt10
-returns-else-d-lt10 c = digit-high _ c.if-d-lt10.false
