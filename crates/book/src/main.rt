@@ -8,7 +8,7 @@ use std::fs::File;
 use std::io;
 use std::io::Read;
 use std::rt::Files;
-use text_book::{Opened, obey_read, open_read};
+use text_book::{Opened, Reply, obey_read, open_read};
 use text_input::{next_line, read_full};
 
 // One byte more than the 65,536 of a filing is read, so that a longer one shows.
@@ -26,7 +26,8 @@ fn main(rt: HostRuntime) -> io::Result<()> {
     let mut input = [0u8; 65537];
     let n = read_full(&mut file, &mut input);
     drop(file);
-    let Opened { book, text } = open_read(&input, n);
+    let mut text = Reply::new();
+    let Opened { book } = open_read(&input, n, &mut text);
     rt.write_all(text.as_slice())?;
     match book {
         Some(book) => obey_lines(&rt, &mut rt.stdin(), book),

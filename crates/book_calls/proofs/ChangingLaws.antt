@@ -1,6 +1,6 @@
 -- Changes made in turn: what is still to be made gives the book of all. Assumes nothing.
 use Prim.Native.Nat.{ℕ, suc, ◌+◌, ◌-◌, ◌<◌}
-use mathlib.Core.Path.{◌≡◌, sym, ap, ◌∙◌}
+use mathlib.Core.Path.{◌≡◌, refl, sym, ap, ◌∙◌}
 use mathlib.Core.Bool.{not}
 use mathlib.Core.List.{List}
 use native.Mathlib.Nat.{sub-zero}
@@ -10,7 +10,7 @@ use borrow.Author.Tests.{eq-eqb, ne_eqb}
 use Rattle.lists.specs.Ranges.{first_from}
 use Rattle.lists.specs.Tables.{table_from}
 use Rattle.lists.proofs.RangeLaws.{search-here, search-next, search-end}
-use Rattle.std.specs.Prelude.{Ok, Err}
+use Rattle.std.specs.Prelude.{Ok, Err, None, Some}
 use Rattle.answers.specs.declared.Refusal.{Refusal}
 use Rattle.answers.specs.Verdict.{Verdict, accepted}
 use Rattle.answers.proofs.AnswerLaws.{refusal-refuses}
@@ -49,12 +49,13 @@ module _ (opened : Book) (l : List ℕ) where
           made-is = sym (at.made ∙ search-end (refused_change l) k (change_count l) (omega arith) ∙ h);
           book-is = sym (at.rest ∙ rw e);
           kept = at.kept;
+          left-is = tt;
         }
 
     module _ (h : k < change_count l) where
-      -- change k is refused, and those before it are not: its refusal is the first of all, and k changes were made
+      -- change k is refused, and those before it are not: its refusal is the first of all, k changes were made, and the book is as it was opened
       pub changing-refused : {after : Book} (r : Refusal) → ChangedOf {A = Unit {0}} b (change_at l k) (Err r) after
-          → ChangedAll opened l (Err (record { refusal = r; made = k })) after
+          → ChangedAll opened l (Err (record { refusal = r; made = k; book = Some opened })) opened
       unfolding changes_verdict refused_change
       changing-refused r c =
           let z : (verdict_at k).number ≡ 0 → ⊥ = λ e. refusal-refuses r (ap number-of c.answer-is ∙ e) in
@@ -63,6 +64,7 @@ module _ (opened : Book) (l : List ℕ) where
             made-is = sym (at.made ∙ search-here (refused_change l) k (change_count l) h (ap not (ne_eqb _ 0 z)));
             book-is = tt;
             kept = tt;
+            left-is = (refl, refl);
           }
 
       -- change k is made
@@ -79,7 +81,7 @@ module _ (opened : Book) (l : List ℕ) where
           }
 
 -- a refused filing opens no book that is changed: its verdict comes before that of the changes, and none is made
-pub opening-refused : (s l : List ℕ) (r : Refusal) → OpenedOf s (Err r) → BookOf s l (Err (record { refusal = r; made = 0 }))
+pub opening-refused : (s l : List ℕ) (r : Refusal) → OpenedOf s (Err r) → BookOf s l (Err (record { refusal = r; made = 0; book = None }))
 unfolding book_verdict made_of
 opening-refused s l r o =
     let some : (filing_verdict s).number ≡ 0 → ⊥ = λ e. refusal-refuses r (ap number-of o.answer-is ∙ e) in
@@ -88,6 +90,7 @@ opening-refused s l r o =
       made-is = rw (ne_eqb (filing_verdict s).number 0 some);
       book-is = tt;
       kept = tt;
+      left-is = rw (ne_eqb (filing_verdict s).number 0 some);
     }
 
 -- an accepted one opens the book that is changed: its verdict refuses nothing, so that answer, book and count are those of the changes
@@ -108,9 +111,16 @@ module _ (s l : List ℕ) (b : Book) (o : OpenedOf s (Ok b)) where
         made-is = rw (eq-eqb (filing_verdict s).number 0 none) c.made-is;
         book-is = rw (← o.book-is) c.book-is;
         kept = c.kept s o.kept;
+        left-is = tt;
       }
 
   pub opening-stopped : (n : NotChanged) (after : Book) → ChangedAll b l (Err n) after → BookOf s l (Err n)
   unfolding made_of
   opening-stopped n after c =
-      record { answer-is = c.answer-is ∙ sym passed; made-is = rw (eq-eqb (filing_verdict s).number 0 none) c.made-is; book-is = tt; kept = tt }
+      record {
+        answer-is = c.answer-is ∙ sym passed;
+        made-is = rw (eq-eqb (filing_verdict s).number 0 none) c.made-is;
+        book-is = tt;
+        kept = tt;
+        left-is = rw (eq-eqb (filing_verdict s).number 0 none) (c.left-is.1 ∙ ap Some o.book-is);
+      }

@@ -1,5 +1,5 @@
 -- A list of changes made in turn on the book that a filing opens (02:CR 7). Definitions only.
-use Rattle.std.specs.Prelude.{ℕ, ◌+◌, ◌*◌, ◌/◌, ◌≡◌, Bool, cond, not, ◌&&◌, Result, Ok, Err, IfOk, List, eqb, length, get_or}
+use Rattle.std.specs.Prelude.{ℕ, ◌+◌, ◌*◌, ◌/◌, ◌≡◌, Bool, cond, not, ◌&&◌, None, Some, Result, Ok, Err, IfOk, IfErr, List, eqb, length, get_or}
 use Rattle.lists.specs.Ranges.{first_from}
 use Rattle.lists.specs.Tables.{table}
 use Rattle.answers.specs.declared.Refusal.{Refusal}
@@ -60,12 +60,14 @@ abbrev pub made_by : {A : Type 0} → (A → ℕ) → Result A NotChanged → �
 made_by made (Ok x) = made x
 made_by made (Err n) = n.made
 
--- what a list of changes does to a book: the answer, how many are made, and where none is refused the book after them all, which stays kept
+-- what a list of changes does to a book: the answer, how many are made, and where none is refused the book after them all, which stays kept; with one of
+-- them refused the book is as it was, and answered so
 pub record ChangedAll (before : Book) (l : List ℕ) (r : Result ℕ NotChanged) (after : Book) : Type 0 where
   pub answer-is : verdict_of (answer_on r) ≡ changes_verdict l
   pub made-is : made_by (λ (k : ℕ). k) r ≡ changes_made l
   pub book-is : IfOk r (λ k. after ≡ book_after_all before (changes_of l))
   pub kept : IfOk r (λ k. (s : List ℕ) → Kept s before → Kept s after)
+  pub left-is : IfErr r (λ n. (after ≡ before) × (n.book ≡ Some before))
 
 -- the refusal of the filing, then those of the changes in turn
 unfoldable pub book_verdict : List ℕ → List ℕ → Verdict
@@ -75,9 +77,11 @@ book_verdict s l = first_refusal (filing_verdict s) (changes_verdict l)
 unfoldable pub made_of : List ℕ → List ℕ → ℕ
 made_of s l = cond (eqb (filing_verdict s).number 0) (changes_made l) 0
 
--- what is answered on a filing s and a list of changes l: the first refusal with the count of those made, or the book after them all, which is kept
+-- what is answered on a filing s and a list of changes l: the first refusal with the count of those made and the book as it was opened, where the filing is
+-- not refused, or the book after them all, which is kept
 pub record BookOf (s l : List ℕ) (r : Result Changed NotChanged) : Type 0 where
   pub answer-is : verdict_of (answer_on r) ≡ book_verdict s l
   pub made-is : made_by (λ (c : Changed). c.made) r ≡ made_of s l
   pub book-is : IfOk r (λ c. c.book ≡ book_after_all (opened_book s) (changes_of l))
   pub kept : IfOk r (λ c. Kept s c.book)
+  pub left-is : IfErr r (λ n. n.book ≡ cond (eqb (filing_verdict s).number 0) (Some (opened_book s)) None)

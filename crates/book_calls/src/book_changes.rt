@@ -1,5 +1,5 @@
 // A list of changes made in turn on the book that a filing opens (02:CR 7): the totals that it then shows, without a book to keep.
-ghost use Rattle.std.specs.Prelude.{◌≡◌, ◌<◌};
+ghost use Rattle.std.specs.Prelude.{◌≡◌, ◌<◌, None};
 ghost use Rattle.book_promise.specs.Promise.{ChangedOf};
 ghost use Rattle.book_calls.specs.Changing.{leaves_nothing, clears, change_of, change_count, change_at, ChangedAll, BookOf};
 
@@ -14,23 +14,30 @@ pub struct Changed {
     pub made: usize,
 }
 
-// Why the changes of a list are not made: the first refusal, of the filing or of a change, and how many changes were made before it.
-#[derive(Clone, Copy, Debug, PartialEq, Eq)]
+// Why the changes of a list are not made: the first refusal, of the filing or of a change, how many changes were made before it, and the book as it was
+// opened, where the filing opens one.
+#[derive(Clone, Copy)]
 pub struct NotChanged {
     pub refusal: Refusal,
     pub made: usize,
+    pub book: Option<Book>,
 }
 
 impl From<Refusal> for NotChanged {
-    ghost from_gives = { λ refusal none. none ≡ record { refusal = refusal; made = 0 } };
+    ghost from_gives = { λ refusal none. none ≡ record { refusal = refusal; made = 0; book = None } };
 
     fn from(refusal: Refusal) -> NotChanged {
-        NotChanged { refusal, made: 0 }
+        NotChanged {
+            refusal,
+            made: 0,
+            book: None,
+        }
     }
 }
 
 // Opens a book from a filing and makes the changes of a list in turn. A change is six numbers: 0 to set a place or 1 to clear it, the place, then balance,
-// coupon, months and penalty as `set` takes them, or 0 each. Only whole changes count. The first refusal answers.
+// coupon, months and penalty as `set` takes them, or 0 each. Only whole changes count. The first refusal answers, and leaves the
+// book as it was opened.
 pub fn book_of(filing: &[u8], changes: &[u64]) -> Result<Changed, NotChanged>
     ensures changed { BookOf filing.now changes.now result }
 {
@@ -39,14 +46,20 @@ pub fn book_of(filing: &[u8], changes: &[u64]) -> Result<Changed, NotChanged>
     Ok(Changed { book, made })
 }
 
-// The changes in turn, up to the first that is refused: how many were made.
+// The changes in turn: how many were made. One that is refused leaves the book as it was before them all.
 fn change_all(book: &mut Book, changes: &[u64]) -> Result<usize, NotChanged>
     ensures { ChangedAll book.old changes.now result book.new }
 {
+    let opened = *book;
     let count = changes.len() / 6;
     for k in 0..count {
         if let Err(refusal) = change_at(book, changes, k) {
-            return Err(NotChanged { refusal, made: k });
+            *book = opened;
+            return Err(NotChanged {
+                refusal,
+                made: k,
+                book: Some(opened),
+            });
         }
     }
     Ok(count)

@@ -1,3 +1,4 @@
 pub mod ListingLaws
+pub mod MeanLaws
 pub mod SearchLaws
 pub mod ValueLaws

@@ -5,15 +5,15 @@ use native.Mathlib.Omega.{arith}
 use mathlib.Core.Path.{◌≡◌, refl, sym, ap, ◌∙◌}
 use mathlib.Core.Bool.{Bool, true, false, cond, ◌&&◌}
 use mathlib.Core.List.{List, [], ◌∷◌, map, ◌++◌, append-nil}
-use lib.ListN.{length, length-append, length-map}
-use lib.Seq.{append_snoc}
-use Rattle.lists.specs.Tables.{table_from, those, contains}
+use lib.ListN.{length, set, replicate, take, length-append, length-map}
+use lib.Seq.{set_at, append_snoc, take_at}
+use Rattle.lists.specs.Tables.{table_from, those, padded, contains}
 use Rattle.form.specs.Cells.{first_cell, total_cell, position, positions, position_at, brokered_cell, penalty_balance_cell, penalty_months_cell, unused_cells}
 use Rattle.form.specs.Borrowings.{borrowing, borrowing_at, coupon_cell, term_cell}
 use Rattle.form.specs.Classes.{cell_class}
 use Rattle.certificate_cells.specs.declared.filled_cells.Totals.{Totals}
 use Rattle.certificate_cells.specs.declared.filled_cells.CellValue.{CellValue}
-use Rattle.certificate_cells.specs.Cells.{FormCell, is_filled, form_count, is_of_position, position_with, form_cell, form_cells, is_present, value_of, cell_value, cells_of}
+use Rattle.certificate_cells.specs.Cells.{FormCell, is_filled, form_count, is_of_position, position_with, form_cell, form_cells, is_present, value_of, cell_value, cells_of, no_cell, cell_array}
 use Rattle.certificate_cells.specs.Inner.Listing.{listed, value_filled}
 use Rattle.std.specs.Prelude.{None, Some}
 use Rattle.lists.specs.Ranges.{within, first_from}
@@ -78,18 +78,21 @@ module _ (t : Totals) where
       by true false e = rw e
       by false y e = refl
 
-  -- the cells before a number are listed
-  pub record Listing (cells : List CellValue) (cell : ℕ) : Type 0 where
+  -- the cells before a number are listed, the rest of 28 entries is empty
+  pub record Listing (cells : List CellValue) (count cell : ℕ) : Type 0 where
+    pub sofar : List CellValue
     pub left : ℕ
+    pub long : length sofar ≡ count
     pub through : cell + left ≡ first_cell + form_count
-    pub rest : cells ++ cells_from cell left ≡ cells_of t
+    pub stored : cells ≡ sofar ++ replicate (28 - count) no_cell
+    pub rest : sofar ++ cells_from cell left ≡ cells_of t
 
   -- before the first
-  pub listing_start : Listing [] first_cell
+  pub listing_start : Listing (replicate 28 no_cell) 0 first_cell
   unfolding cells_from cells_of form_cells
-  listing_start = record { left = form_count; through = refl; rest = refl }
+  listing_start = record { sofar = []; left = form_count; long = refl; through = refl; stored = refl; rest = refl }
 
-  module _ (cells : List CellValue) (cell : ℕ) (at : Listing cells cell) (h : cell < suc total_cell) where
+  module _ (cells : List CellValue) (count cell : ℕ) (at : Listing cells count cell) (h : cell < suc total_cell) where
     -- one number less is left
     abbrev fewer : ℕ
     fewer = at.left - 1
@@ -101,30 +104,52 @@ module _ (t : Totals) where
     next = ap (cells_from cell) more ∙ rw add-one (from_suc cell fewer)
 
     -- a cell that is listed has room: no more than 28 are
-    pub listing-room : listed t cell ≡ true → length cells < 28
+    pub listing-room : listed t cell ≡ true → count < 28
     listing-room p =
-        let counted : length (cells ++ cells_from cell at.left) ≡ length (cells_of t) = ap length at.rest in
-        omega (arith, cells_count t, rw (next, p, length-append) at counted)
+        let counted : length (at.sofar ++ cells_from cell at.left) ≡ length (cells_of t) = ap length at.rest in
+        omega (arith, cells_count t, at.long, rw (next, p, length-append) at counted)
 
-    -- the cell is the first of those left, and joins those so far: all together are the same list
-    pub listing-present : (x : CellValue) → x ≡ cell_value t (form_cell cell) → listed t cell ≡ true → Listing (cells ++ (x ∷ [])) (cell + 1)
+    -- the cell is the first of those left, and goes to the first empty entry: it joins those so far, one entry fewer is empty, one cell fewer
+    -- is left, and all together are the same list
+    pub listing-present : (x : CellValue) → x ≡ cell_value t (form_cell cell) → listed t cell ≡ true → Listing (set cells count x) (count + 1) (cell + 1)
     listing-present x e p =
+        let room = listing-room p in
+        let behind : 28 - count ≡ suc (28 - (count + 1)) = omega (arith, room) in
         let here : cells_from cell at.left ≡ x ∷ cells_from (cell + 1) fewer = next ∙ rw (p, e) in
+        let empty : List CellValue = replicate (28 - (count + 1)) no_cell in
         record {
+          sofar = at.sofar ++ (x ∷ []);
           left = fewer;
+          long = length-append at.sofar (x ∷ []) ∙ ap (λ (n : ℕ). n + 1) at.long;
           through = omega (arith, at.through, more);
-          rest = append_snoc cells x (cells_from (cell + 1) fewer) ∙ rw (sym here) at.rest;
+          stored = rw (at.stored, behind) (set_at at.sofar no_cell empty x count at.long ∙ sym (append_snoc at.sofar x empty));
+          rest = append_snoc at.sofar x (cells_from (cell + 1) fewer) ∙ rw (sym here) at.rest;
         }
 
-    -- a cell that stays absent: those left without it are those left with it
-    pub listing-absent : listed t cell ≡ false → Listing cells (cell + 1)
+    -- a cell that stays absent: those left without it are those left with it, and nothing is stored
+    pub listing-absent : listed t cell ≡ false → Listing cells count (cell + 1)
     listing-absent p =
         let same : cells_from cell at.left ≡ cells_from (cell + 1) fewer = next ∙ rw p in
-        record { left = fewer; through = omega (arith, at.through, more); rest = rw (sym same) at.rest }
+        record {
+          sofar = at.sofar;
+          left = fewer;
+          long = at.long;
+          through = omega (arith, at.through, more);
+          stored = at.stored;
+          rest = rw (sym same) at.rest;
+        }
 
   -- all cells
-  pub listing-done : (cells : List CellValue) (cell : ℕ) → Listing cells cell → total_cell < cell → cells ≡ cells_of t
-  unfolding cells_from those table_from
-  listing-done cells cell at h =
+  pub listing-done : (cells : List CellValue) (count cell : ℕ) → Listing cells count cell → total_cell < cell
+      → (count ≡ length (cells_of t)) × (cells ≡ cell_array (cells_of t))
+  unfolding padded cells_from those table_from
+  listing-done cells count cell at h =
       let none : at.left ≡ 0 = omega (arith, at.through) in
-      sym (append-nil cells) ∙ rw none at at.rest
+      let all : at.sofar ≡ cells_of t = sym (append-nil at.sofar) ∙ rw none at at.rest in
+      let counted : count ≡ length (cells_of t) = sym at.long ∙ ap length all in
+      (counted, at.stored ∙ rw (all, counted))
+
+-- cells in an array, counted, are themselves
+pub counted-items : (l : List CellValue) (count : ℕ) (cells : List CellValue) → count ≡ length l → cells ≡ cell_array l → take count cells ≡ l
+unfolding padded
+counted-items l count cells n e = rw (n, e) (take_at l (replicate (28 - length l) no_cell) (length l) refl)

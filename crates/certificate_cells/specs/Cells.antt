@@ -1,11 +1,12 @@
 -- The cells that sums of positions fill (02:CR 5), by ascending number: balance, WAC and WARM of each position that does not sum to 0, and the total.
 -- Definitions only.
-use Rattle.std.specs.Prelude.{ℕ, suc, ◌-◌, Bool, cond, not, ◌||◌, List, map, eqb}
+use Rattle.std.specs.Prelude.{ℕ, suc, ◌-◌, Bool, cond, not, ◌||◌, List, map, take, eqb}
 use Rattle.lists.specs.Sums.{sum}
-use Rattle.lists.specs.Tables.{table_from, those}
+use Rattle.lists.specs.Tables.{table_from, those, padded}
 use Rattle.form.specs.Cells.{position_at, first_cell, total_cell}
 use Rattle.form.specs.Classes.{cell_class}
 use Rattle.certificate_cells.specs.declared.filled_cells.Totals.{Totals}
+use Rattle.certificate_cells.specs.declared.filled_cells.Cells.{Cells}
 use Rattle.certificate_cells.specs.declared.filled_cells.CellValue.{CellValue}
 use Rattle.certificate_cells.specs.Means.{balance_at, coupon_at, months_at}
 use Rattle.lists.specs.Ranges.{within, first_from}
@@ -60,3 +61,11 @@ cells_of t = map (cell_value t) (those (is_present t) form_cells)
 -- no cell
 abbrev pub no_cell : CellValue
 no_cell = record { cell = 0; value = 0 }
+
+-- cells in an array of 28, which is as many as there can be: no cell past the last
+abbrev pub cell_array : List CellValue → List CellValue
+cell_array l = padded 28 no_cell l
+
+-- the cells that are counted
+abbrev pub items_of : Cells → List CellValue
+items_of c = take c.count c.cells

@@ -1,11 +1,14 @@
 // The cells of Schedule CMR that sums of positions fill: balance, WAC and WARM of each, and the total. Nothing runs here.
-use arrayvec::ArrayVec;
 
 // The most cells that there can be: three of each of the nine positions, and the total.
 pub const MOST_CELLS: usize = 28;
 
-// Cells with their values, by ascending number.
-pub type Cells = ArrayVec<CellValue, MOST_CELLS>;
+// How many cells there are, and these with their values, by ascending number, at the front of the array.
+#[derive(Clone, Copy, Debug, PartialEq, Eq)]
+pub struct Cells {
+    pub count: usize,
+    pub cells: [CellValue; MOST_CELLS],
+}
 
 // A cell of Schedule CMR with its value.
 #[derive(Clone, Copy, Debug, Default, PartialEq, Eq)]

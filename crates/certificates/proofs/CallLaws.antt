@@ -12,7 +12,6 @@ use Rattle.lists.specs.Tables.{table}
 use Rattle.lists.proofs.OrderLaws.{lt-or-le}
 use Rattle.lists.proofs.TableLaws.{table-length, table-get_or, table-le}
 use Rattle.form.specs.Limits.{balance_limit, filed_coupon_limit, months_limit}
-use Rattle.arrayvec.specs.ArrayVec.{ArrayVec}
 use Rattle.std.specs.Prelude.{Ok, Err}
 use Rattle.answers.specs.declared.Refusal.{Refusal}
 use Rattle.answers.specs.Verdict.{Verdict, accepted, refused}
@@ -20,16 +19,16 @@ use Rattle.answers.specs.Answers.{number_of, location_of}
 use Rattle.answers.proofs.VerdictLaws.{first-passed, first-refused, tried-none, condition-holds, condition-refuses, condition-none}
 use Rattle.certificate_calendar.specs.declared.Date.{Date}
 use Rattle.certificate_terms.specs.Terms.{certificate_count}
-use Rattle.certificate_cells.specs.declared.filled_cells.CellValue.{CellValue}
-use Rattle.certificate_cells.specs.Cells.{cells_of}
-use Rattle.certificate_cells.specs.Inner.Listing.{Bounded}
+use Rattle.certificate_cells.specs.declared.filled_cells.Cells.{Cells}
+use Rattle.certificate_cells.specs.Cells.{cells_of, cell_array}
+use Rattle.certificate_cells.specs.Inner.Listing.{Bounded, accepted_cells}
 use Rattle.certificates.specs.Sums.{position_sum, balance_of, weighted_coupon, weighted_months, totals_of}
 use Rattle.certificates.specs.EachVerdict.{certificate_verdict, each_verdict}
 use Rattle.certificates.specs.Verdict.{count_verdict, certificates_verdict}
 use Rattle.certificates.specs.Filled.{filled_cells}
 use Rattle.certificates.specs.Promise.{Converted}
 use Rattle.lists.specs.Ranges.{within}
-use Rattle.certificate_cells.proofs.ListingLaws.{cells_count}
+use Rattle.certificate_cells.proofs.ListingLaws.{cells_count, counted-items}
 use Rattle.certificates.proofs.SumLaws.{Passed, balance-sum-le, coupon-sum-le, months-sum-le}
 
 module _ (v : Date) (s : List ℕ) where
@@ -83,13 +82,17 @@ module _ (v : Date) (s : List ℕ) where
 
   -- a refusal
   pub call-refused : (r : Refusal) → refused (number_of r) (location_of r) ≡ certificates_verdict v s → Converted v s (Err r)
-  call-refused r h = record { answer-is = h; cells_are = tt }
+  call-refused r h = record { answer-is = h; count-is = tt; cells_are = tt; array-is = tt }
 
   -- acceptance
-  pub call-accepted : (cells : ArrayVec CellValue) → cells.items ≡ cells_of (totals_of v s (certificate_count s)) → accepted ≡ certificates_verdict v s
+  pub call-accepted : (cells : Cells) → cells ≡ accepted_cells (totals_of v s (certificate_count s)) → accepted ≡ certificates_verdict v s
       → Converted v s (Ok cells)
-  unfolding accepted
-  call-accepted cells e h = record { answer-is = h; cells_are = e ∙ sym (filled-some (sym (ap (λ (u : Verdict). u.number) h))) }
+  unfolding accepted accepted_cells
+  call-accepted cells e h =
+      let some = filled-some (sym (ap (λ (u : Verdict). u.number) h)) in
+      let count : cells.count ≡ length (filled_cells v s) = rw (e, some) in
+      let array : cells.cells ≡ cell_array (filled_cells v s) = rw (e, some) in
+      record { answer-is = h; count-is = count; cells_are = counted-items (filled_cells v s) cells.count cells.cells count array; array-is = array }
 
   pub filled-count : length (filled_cells v s) ≤ 28
   unfolding filled_cells

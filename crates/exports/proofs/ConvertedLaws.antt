@@ -2,16 +2,15 @@
 use Prim.Native.Nat.{ℕ}
 use mathlib.Core.Path.{◌≡◌, sym, ap, ◌∙◌}
 use mathlib.Core.List.{List}
-use lib.ListN.{length}
 use borrow.Author.Tests.{eq-eqb, ne_eqb}
-use Rattle.arrayvec.specs.ArrayVec.{ArrayVec}
 use Rattle.std.specs.Prelude.{Ok, Err}
 use Rattle.answers.specs.declared.Refusal.{Refusal}
 use Rattle.answers.specs.Answers.{number_of, location_of}
 use Rattle.answers.specs.Verdict.{Verdict, accepted, refused}
 use Rattle.answers.proofs.AnswerLaws.{refusal-refuses}
 use Rattle.certificate_calendar.specs.declared.Date.{Date}
-use Rattle.certificate_cells.specs.declared.filled_cells.CellValue.{CellValue}
+use Rattle.certificate_cells.specs.declared.filled_cells.Cells.{Cells}
+use Rattle.certificate_cells.specs.Cells.{items_of}
 use Rattle.certificates.specs.Verdict.{certificates_verdict}
 use Rattle.certificates.specs.Filled.{filled_cells}
 use Rattle.certificates.specs.Promise.{Converted}
@@ -34,14 +33,14 @@ module _ (valuation : Date) (s before : List ℕ) where
       }
 
   -- the cells that `to_cells` promises, and their count
-  pub converted-accepted : (cells : ArrayVec CellValue) (count : ℕ) (after : List ℕ) → Converted valuation s (Ok cells) → count ≡ length cells.items
-      → after ≡ numbers_of cells.items → ConvertedForC valuation s before 0 0 count after
+  pub converted-accepted : (cells : Cells) (count : ℕ) (after : List ℕ) → Converted valuation s (Ok cells) → count ≡ cells.count
+      → after ≡ numbers_of (items_of cells) → ConvertedForC valuation s before 0 0 count after
   unfolding accepted
   converted-accepted cells count after kept n e =
       record {
         number_is = ap (λ (v : Verdict). v.number) kept.answer-is;
         location-is = ap (λ (v : Verdict). v.location) kept.answer-is;
-        count-is = n ∙ ap length kept.cells_are;
+        count-is = n ∙ kept.count-is;
         list-is = rw (eq-eqb (certificates_verdict valuation s).number 0 (sym (ap (λ (v : Verdict). v.number) kept.answer-is)))
             (e ∙ ap numbers_of kept.cells_are);
       }

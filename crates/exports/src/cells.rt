@@ -22,8 +22,8 @@ pub extern "C" fn spritapricot_cells(
     match to_cells(Date { year, month, day }, certificates) {
         Ok(filled) => {
             *location = 0;
-            *count = filled.len() as u64;
-            *cells = cell_numbers(&filled);
+            *count = filled.count as u64;
+            *cells = cell_numbers(filled.as_slice());
             0
         }
         Err(refusal) => {

@@ -4,7 +4,7 @@ ghost use Rattle.answers.specs.Answers.{number_of, location_of};
 ghost use Rattle.exports.specs.CellNumbers.{pair_at, numbers_of};
 
 use answers::Refusal;
-use certificate_cells::filled_cells::{Cells, MOST_CELLS};
+use certificate_cells::filled_cells::{CellValue, MOST_CELLS};
 use form::sub_balances::TOTALS;
 use lists::write;
 
@@ -17,8 +17,8 @@ pub(crate) fn refused(refusal: Refusal, at: &mut u64) -> u64
 }
 
 // The number and the value of each cell; 0 past the last.
-pub(crate) fn cell_numbers(cells: &Cells) -> [u64; 2 * MOST_CELLS]
-    ensures { result ≡ numbers_of cells.now.items }
+pub(crate) fn cell_numbers(cells: &[CellValue]) -> [u64; 2 * MOST_CELLS]
+    ensures { result ≡ numbers_of cells.now }
 {
     let mut numbers = [0; 2 * MOST_CELLS];
     for i in 0..MOST_CELLS {
@@ -29,8 +29,8 @@ pub(crate) fn cell_numbers(cells: &Cells) -> [u64; 2 * MOST_CELLS]
 
 // The number and the value of the cell at an index.
 #[tactic(auto, unfolding(crate::specs::CellNumbers::pair_at))]
-fn pair_at(cells: &Cells, i: usize) -> [u64; 2]
-    ensures { result ≡ pair_at cells.now.items i }
+fn pair_at(cells: &[CellValue], i: usize) -> [u64; 2]
+    ensures { result ≡ pair_at cells.now i }
 {
     match cells.get(i) {
         Some(c) => [c.cell as u64, c.value],

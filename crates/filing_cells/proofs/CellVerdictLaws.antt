@@ -9,7 +9,7 @@ use borrow.Author.Tests.{ltb-false, eqb-true, ne_eqb, not-false}
 use lib.Dec.{T, eqb}
 use Rattle.lists.specs.Sums.{sum}
 use Rattle.form.specs.Cells.{position_at, within_row, total_cell, first_column_cell}
-use Rattle.answers.specs.Verdict.{Verdict}
+use Rattle.answers.specs.Verdict.{Verdict, first_refusal}
 use Rattle.answers.proofs.VerdictLaws.{first-none, tried-none, condition-fails}
 use Rattle.filing_cells.specs.Balances.{cell_in, column_balances, balances}
 use Rattle.filing_cells.specs.Conditions.{months_outside, above_column, total_differs}
@@ -22,6 +22,18 @@ within : (zero inside : Bool) → zero ≡ false → (not zero && not inside) �
 within true inside e h = absurd (true≢false e)
 within false true e h = tt
 within false false e h = absurd (true≢false h)
+
+-- the verdicts on the cells in their order, each before those behind it
+pub cells-in-turn : (cells : List ℕ) {coupons months terms columns total borrowed from-coupons from-months from-terms from-columns from-total : Verdict}
+    → borrowed ≡ borrowings_verdict cells
+    → total ≡ total_verdict cells → from-total ≡ first_refusal total borrowed
+    → columns ≡ columns_verdict cells → from-columns ≡ first_refusal columns from-total
+    → terms ≡ terms_verdict cells → from-terms ≡ first_refusal terms from-columns
+    → months ≡ months_verdict cells → from-months ≡ first_refusal months from-terms
+    → coupons ≡ coupons_verdict cells → from-coupons ≡ first_refusal coupons from-months
+    → from-coupons ≡ cells_verdict cells
+unfolding cells_verdict
+cells-in-turn cells b t t' k k' n n' m m' c c' = rw (c', c, m', m, n', n, k', k, t', t, b)
 
 -- none of the verdicts on the cells refuses
 pub record CellsPassed (cells : List ℕ) : Type 0 where

@@ -29,7 +29,7 @@ impl Scenario {
         ensures { result ≡ shifted_rate self.number rate }
     {
         let raised = rate as u64 + Self::STEP * self.number as u64;
-        let middle = Self::STEP * (Self::COUNT / 2);
+        let middle = Self::STEP * (Self::COUNT - 1) / 2;
         if raised < middle { 0 } else { raised - middle }
     }
 }

@@ -1,6 +1,6 @@
 -- A cell with a balance can be walked in every scenario, and its terms are those of the definitions. Assumes nothing.
 use Prim.Native.Nat.{ℕ, ◌*◌, ◌≤◌, ◌<◌}
-use mathlib.Core.Path.{◌≡◌, refl, ap, fun_ext}
+use mathlib.Core.Path.{◌≡◌, refl, ap, fun_ext, ◌∙◌}
 use mathlib.Core.List.{List}
 use native.Mathlib.Nat.{le_trans, mul-le-mul_left}
 use native.Mathlib.Omega.{arith}
@@ -14,10 +14,11 @@ use Rattle.form.specs.Cells.{position_at}
 use Rattle.filing_cells.proofs.SumLaws.{by-column, column-range}
 use Rattle.withdrawal.specs.MonthSurvival.{retail, early_survival}
 use Rattle.withdrawal.specs.declared.WithdrawalTiers.{WithdrawalTiers}
-use Rattle.withdrawal.specs.Inner.TierArrays.{tier_table, Usable}
+use Rattle.withdrawal.specs.Inner.TierArrays.{tier_table}
 use Rattle.withdrawal.proofs.SurvivalLaws.{survival-le}
 use Rattle.pricing.specs.Scales.{par}
 use Rattle.price_factors.specs.Inner.Factors.{AtMostPar}
+use Rattle.price_deposits.specs.Inner.Levels.{TiersLent, lent_tiers}
 use Rattle.price_deposits.proofs.TermsLaws.{servicing-le}
 use Rattle.intangible.specs.RollingTerms.{RollingTerms}
 use Rattle.intangible.specs.RolledMonths.{term_coupon}
@@ -46,13 +47,19 @@ pub rate-within : (rates : List ℕ) (column scenario month : ℕ) → ((n : ℕ
 unfolding rolling_rate path_rate
 rate-within rates column scenario month f h = shifted-rate-le scenario _ (omega arith) (f _)
 
--- no more survives than all
-survival-within : (t : WithdrawalTiers) → Usable t → (c r n : ℕ) → lent_survival t c r n ≤ par
-unfolding early_survival
-survival-within t u c r n = rw (lent-survival t u c r n) (survival-le _)
+-- what survives is what survives under the tiers that the edges and survivals are lent of
+survival-lent : (t : WithdrawalTiers) (l : TiersLent t.count t.edges t.survivals t.retained) (c r n : ℕ)
+    → lent_survival t c r n ≡ lent_survival (lent_tiers l) c r n
+unfolding lent_survival
+survival-lent t l c r n = refl
 
-module _ (cell : RetailCell) (scenario : ℕ) (rates : List ℕ) (t : WithdrawalTiers) (fit : RollingCell cell) (rates-fit : RatesFit rates) (usable : Usable t)
-    (hs : scenario < scenario_count) where
+-- no more survives than all
+survival-within : (t : WithdrawalTiers) → TiersLent t.count t.edges t.survivals t.retained → (c r n : ℕ) → lent_survival t c r n ≤ par
+unfolding early_survival
+survival-within t l c r n = rw (survival-lent t l c r n, lent-survival (lent_tiers l) l.usable c r n) (survival-le _)
+
+module _ (cell : RetailCell) (scenario : ℕ) (rates : List ℕ) (t : WithdrawalTiers) (fit : RollingCell cell) (rates-fit : RatesFit rates)
+    (tiers : TiersLent t.count t.edges t.survivals t.retained) (hs : scenario < scenario_count) where
   pub cell-bounded : RollingBounded rolled_coupon_limit (lent_terms cell scenario rates t)
   unfolding lent_terms
   cell-bounded =
@@ -64,7 +71,7 @@ module _ (cell : RetailCell) (scenario : ℕ) (rates : List ℕ) (t : Withdrawal
         months-limit = fit.months-le;
         share-limit = fit.share-le;
         servicing-limit = servicing-le retail;
-        survival-limit = survival-within t usable;
+        survival-limit = survival-within t tiers;
         horizon-is = refl;
       }
 
@@ -79,7 +86,7 @@ module _ (cell : RetailCell) (scenario : ℕ) (rates : List ℕ) (t : Withdrawal
         term-le = rw fit.term_is term.1;
         rates-fit = record { within = rates-fit.rate-le; first-le = fit.column-pos; last-le = fit.column-le; long = rates-fit.long };
         scenario-lt = hs;
-        edges_fit = usable.edges_fit;
+        edges_fit = tiers.usable.edges_fit;
         lower-par = hl;
         upper-par = hu;
       }
@@ -113,12 +120,12 @@ with_survival k q =
       horizon = k.horizon;
     }
 
--- its terms by usable tiers are those of the definitions
-module _ (cells yields long rates shares : List ℕ) (t : WithdrawalTiers) (u : Usable t) where
+-- its terms by tiers that are lent are those of the definitions
+module _ (cells yields long rates shares : List ℕ) (t : WithdrawalTiers) (l : TiersLent t.count t.edges t.survivals t.retained) where
   pub terms-are : (scenario i : ℕ)
       → lent_terms (retail_cell cells shares (position_at i)) scenario rates t
-      ≡ cell_terms cells (sheets_of yields long rates shares (tier_table t)) scenario i
+      ≡ cell_terms cells (sheets_of yields long rates shares (tier_table (lent_tiers l))) scenario i
   unfolding lent_terms retail_cell cell_terms
   terms-are scenario i =
-      ap (with_survival (cell_terms cells (sheets_of yields long rates shares (tier_table t)) scenario i))
-      (fun_ext (λ c. fun_ext (λ r. fun_ext (λ n. lent-survival t u c r n))))
+      ap (with_survival (cell_terms cells (sheets_of yields long rates shares (tier_table (lent_tiers l))) scenario i))
+      (fun_ext (λ c. fun_ext (λ r. fun_ext (λ n. survival-lent t l c r n ∙ lent-survival (lent_tiers l) l.usable c r n))))

@@ -17,11 +17,12 @@ use Rattle.form.specs.Counts.{place_value_count}
 use Rattle.form.specs.Shift.{scenario_count}
 use Rattle.withdrawal.specs.Tiers.{TierTable}
 use Rattle.withdrawal.specs.declared.WithdrawalTiers.{WithdrawalTiers}
-use Rattle.withdrawal.specs.Inner.TierArrays.{tier_table, Usable}
+use Rattle.withdrawal.specs.Inner.TierArrays.{tier_table}
 use Rattle.pricing.specs.Rounding.{Rounding, down, up}
 use Rattle.pricing.specs.Run.{discount_factor_by}
 use Rattle.pricing.proofs.FlowWidthLaws.{discounted-ext}
 use Rattle.price_factors.specs.Inner.Factors.{factor_in}
+use Rattle.price_deposits.specs.Inner.Levels.{TiersLent, lent_tiers}
 use Rattle.intangible.specs.RollingTerms.{RollingTerms, last_month}
 use Rattle.intangible.specs.Run.{later_flow_by, first_by, sum_by, lower_intangible, upper_intangible}
 use Rattle.intangible_months.specs.Inner.Lent.{lent_terms}
@@ -68,11 +69,11 @@ pub row-length : (cells : List ℕ) (x : RollingSheets) (i : ℕ) → length (ce
 unfolding cell_numbers bounds_of
 row-length cells x i = joined_length 2 0 scenario_count _ (λ s. refl)
 
--- the cells of a filing by usable tiers
-module _ (cells yields long rates shares : List ℕ) (t : WithdrawalTiers) (u : Usable t)
+-- the cells of a filing by tiers that are lent
+module _ (cells yields long rates shares : List ℕ) (t : WithdrawalTiers) (l : TiersLent t.count t.edges t.survivals t.retained)
     (f : RollingCells cells) (i : ℕ) (h : i < position_count) where
   abbrev y : RollingSheets
-  y = sheets_of yields long rates shares (tier_table t)
+  y = sheets_of yields long rates shares (tier_table (lent_tiers l))
 
   -- one with a balance in a scenario
   bounds-are : 0 < balance_of cells i → (s : ℕ) → s < scenario_count
@@ -80,8 +81,8 @@ module _ (cells yields long rates shares : List ℕ) (t : WithdrawalTiers) (u : 
       ≡ bounds_of cells y i s
   unfolding bounds_of lower_at upper_at cell_terms
   bounds-are p s hs =
-      rw (terms-are cells yields long rates shares t u s i, ne_eqb (balance_of cells i) 0 (λ e. omega (arith, e)))
-      (results-are yields long rates shares (tier_table t) s hs (cell_terms cells y s i) (f.months-pos i h p) (omega (arith, f.months-le i h)) (le_refl last_month))
+      rw (terms-are cells yields long rates shares t l s i, ne_eqb (balance_of cells i) 0 (λ e. omega (arith, e)))
+      (results-are yields long rates shares (tier_table (lent_tiers l)) s hs (cell_terms cells y s i) (f.months-pos i h p) (omega (arith, f.months-le i h)) (le_refl last_month))
 
   lent-are : 0 < balance_of cells i
       → lent_numbers (retail_cell cells shares (position_at i)) rates t (long_factors down yields long) (long_factors up yields long)
@@ -112,9 +113,9 @@ tabled-length cells rates shares t lower upper i =
     either (λ (l : List ℤ). length l ≡ place_value_count) (eqb (balance_of cells i) 0) refl (joined_length 2 0 scenario_count _ (λ s. refl))
 
 -- all nine
-pub rows_are : (cells yields long rates shares : List ℕ) (t : WithdrawalTiers) → Usable t
+pub rows_are : (cells yields long rates shares : List ℕ) (t : WithdrawalTiers) (l : TiersLent t.count t.edges t.survivals t.retained)
     → RollingCells cells → {lower upper : List ℕ} → lower ≡ long_factors down yields long → upper ≡ long_factors up yields long
     → joined (table position_count (λ (i : ℕ). cell_numbers_by cells i rates shares t lower upper))
-    ≡ numbers cells (sheets_of yields long rates shares (tier_table t))
+    ≡ numbers cells (sheets_of yields long rates shares (tier_table (lent_tiers l)))
 unfolding numbers
-rows_are cells yields long rates shares t u f el eu = rw (el, eu) (ap joined (table-ext position_count _ _ (λ i h. cell_row cells yields long rates shares t u f i h)))
+rows_are cells yields long rates shares t l f el eu = rw (el, eu) (ap joined (table-ext position_count _ _ (λ i h. cell_row cells yields long rates shares t l f i h)))

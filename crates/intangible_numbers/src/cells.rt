@@ -1,7 +1,7 @@
 // The numbers of one cell: lower and upper in each scenario.
 ghost use Rattle.std.specs.Prelude.{◌≡◌, ◌≤◌, ◌<◌, length};
-ghost use Rattle.withdrawal.specs.Inner.TierArrays.{Usable};
 ghost use Rattle.price_factors.specs.Inner.Factors.{AtMostPar};
+ghost use Rattle.price_deposits.specs.Inner.Levels.{TiersLent};
 ghost use Rattle.intangible_numbers.specs.Sheets.{rollover_months};
 ghost use Rattle.intangible_numbers.specs.Inner.Limits.{RollingCells, RollingCell, WithinShares, RatesFit, position_count, retail_cell, lent_numbers, cell_numbers_by};
 
@@ -22,7 +22,7 @@ pub(crate) fn cell_numbers<'a>(
     market: &Market<'a>,
 ) -> [i64; PLACE_VALUES]
     requires rolling_cells { RollingCells cells.now × (i < position_count) × RatesFit market.now.rates.now × WithinShares shares.now }
-    requires tiers_usable { Usable market.now.tiers.now × AtMostPar market.now.factors.now.lower × AtMostPar market.now.factors.now.upper }
+    requires tiers_lent { TiersLent market.now.tiers.now.count market.now.tiers.now.edges market.now.tiers.now.survivals market.now.tiers.now.retained × AtMostPar market.now.factors.now.lower × AtMostPar market.now.factors.now.upper }
     ensures { result ≡ cell_numbers_by cells.now i market.now.rates.now shares.now market.now.tiers.now market.now.factors.now.lower market.now.factors.now.upper }
 {
     let p = position(i);
@@ -35,7 +35,7 @@ pub(crate) fn cell_numbers<'a>(
 
 // Lower and upper intangible of a cell in each of the seven scenarios.
 pub(crate) fn intangible_of<'a>(cell: RetailCell, market: &Market<'a>) -> [i64; PLACE_VALUES]
-    requires { RollingCell cell × RatesFit market.now.rates.now × Usable market.now.tiers.now × AtMostPar market.now.factors.now.lower × AtMostPar market.now.factors.now.upper }
+    requires { RollingCell cell × RatesFit market.now.rates.now × TiersLent market.now.tiers.now.count market.now.tiers.now.edges market.now.tiers.now.survivals market.now.tiers.now.retained × AtMostPar market.now.factors.now.lower × AtMostPar market.now.factors.now.upper }
     ensures { result ≡ lent_numbers cell market.now.rates.now market.now.tiers.now market.now.factors.now.lower market.now.factors.now.upper }
 {
     let mut numbers = [0; PLACE_VALUES];

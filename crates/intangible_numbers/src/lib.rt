@@ -6,7 +6,8 @@ mod factors;
 mod signed;
 
 ghost use Rattle.std.specs.Prelude.{◌≡◌, ◌++◌, ◌≤◌, length, drop};
-ghost use Rattle.withdrawal.specs.Inner.TierArrays.{tier_table, Usable};
+ghost use Rattle.withdrawal.specs.Inner.TierArrays.{tier_table};
+ghost use Rattle.price_deposits.specs.Inner.Levels.{TiersLent, lent_tiers};
 ghost use Rattle.intangible_numbers.specs.Numbers.{numbers, intangible_count};
 ghost use Rattle.intangible_numbers.specs.Inner.Limits.{RollingCells, RollingLimits, sheets_of};
 
@@ -34,9 +35,9 @@ pub fn write_intangible(
     list: &mut [i64],
 )
     requires rolling_cells { RollingCells cells.now × RollingLimits yields.now long.now rates.now shares.now }
-    requires tiers_usable { Usable tiers.now × (intangible_count ≤ length list.old) }
-    ensures { list.new
-        ≡ numbers cells.now (sheets_of yields.now long.now rates.now shares.now (tier_table tiers.now))
+    requires tiers_lent { TiersLent tiers.now.count tiers.now.edges tiers.now.survivals tiers.now.retained × (intangible_count ≤ length list.old) }
+    ensures { (t : TiersLent tiers.now.count tiers.now.edges tiers.now.survivals tiers.now.retained) → list.new
+        ≡ numbers cells.now (sheets_of yields.now long.now rates.now shares.now (tier_table (lent_tiers t)))
         ++ drop intangible_count list.old }
 {
     let mut factors = Bounds {

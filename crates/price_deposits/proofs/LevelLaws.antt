@@ -1,6 +1,6 @@
 -- The months of a deposit by levels of tiers: each level's multipliers are those of the month's survival. Assumes nothing.
 use Prim.Native.Nat.{ℕ, suc, ◌*◌, ◌-◌, ◌≤◌, ◌<◌}
-use mathlib.Core.Path.{◌≡◌, refl, ap}
+use mathlib.Core.Path.{◌≡◌, refl, ap, sym, ◌∙◌}
 use mathlib.Core.List.{List}
 use native.Mathlib.Nat.{le_trans}
 use Rattle.form.specs.Limits.{tier_limit}
@@ -11,14 +11,29 @@ use Rattle.withdrawal.specs.Inner.TierArrays.{tier_table, Usable}
 use Rattle.withdrawal.specs.Inner.Incentives.{parts_of, incentive_from}
 use Rattle.withdrawal.proofs.MonthSurvivalLaws.{early-month}
 use Rattle.withdrawal_months.specs.TierLevels.{LevelFor, last_level}
-use Rattle.withdrawal_months.proofs.LevelLaws.{level-last, last-le, level-survival}
+use Rattle.withdrawal_months.proofs.LevelLaws.{level-last, last-le, level-alike, survival-alike, level-survival}
 use Rattle.price_multipliers.specs.Multipliers.{multipliers_of}
 use Rattle.pricing.specs.Scales.{coupon_growth}
 use Rattle.price_deposits.specs.declared.Deposit.{Deposit}
 use Rattle.price_deposits.specs.DepositTerms.{servicing_cost}
 use Rattle.price_deposits.specs.Inner.Prices.{shifted_path, DepositLimits}
-use Rattle.price_deposits.specs.Inner.Levels.{Levelled}
+use Rattle.price_deposits.specs.Inner.Levels.{TiersLent, lent_tiers, Levelled, Multiplied}
 use Rattle.withdrawal_months.specs.Levels.{level_at, multipliers_at}
+use Rattle.price_multipliers.specs.declared.MonthMultipliers.{MonthMultipliers}
+
+-- what is lent of usable tiers
+abbrev pub lent : (t : WithdrawalTiers) → Usable t → TiersLent t.count t.edges t.survivals t.retained
+lent t u = record { withdrawals = t.withdrawals; otherwise = t.otherwise; usable = u }
+
+-- levels and multipliers are those of the tiers that the edges and survivals are lent of
+module _ (t : WithdrawalTiers) (l : TiersLent t.count t.edges t.survivals t.retained) (d : Deposit) where
+  pub levelled-lent : (rates : List ℕ) (column : ℕ) (levels : List (List ℕ)) → Levelled t d rates column levels → Levelled (lent_tiers l) d rates column levels
+  levelled-lent rates column levels f = λ month h i s. level-alike t l.withdrawals l.otherwise d.brokered _ _ (f month h i s)
+
+  pub multiplied-lent : (multipliers : List MonthMultipliers) → Multiplied t d multipliers → Multiplied (lent_tiers l) d multipliers
+  unfolding last_level multipliers_at
+  multiplied-lent multipliers f = λ level h.
+      f level h ∙ ap (multipliers_of (coupon_growth * d.coupon) (servicing_cost (account_of d.brokered))) (sym (survival-alike t l.withdrawals l.otherwise d.brokered level))
 
 -- a month before the last, counted from 0, in a scenario
 module _ (t : WithdrawalTiers) (d : Deposit) (rates : List ℕ) (column : ℕ) (levels : List (List ℕ)) (scenario month : ℕ) (u : Usable t)
@@ -34,7 +49,7 @@ module _ (t : WithdrawalTiers) (d : Deposit) (rates : List ℕ) (column : ℕ) (
   level-within = level-last d.brokered t _ (level_at levels month scenario) level-here
 
   pub level-at-le : level_at levels month scenario ≤ tier_limit
-  level-at-le = le_trans level-within (last-le d.brokered t u)
+  level-at-le = le_trans level-within (last-le d.brokered t u.edges_fit.count-le)
 
   -- its multipliers are those of the month's survival
   pub multipliers-here : DepositLimits d

@@ -2,11 +2,11 @@
 ghost use Rattle.std.specs.Prelude.{◌≡◌, ◌<◌, ◌≤◌};
 ghost use Rattle.form.specs.Limits.{balance_limit};
 ghost use Rattle.withdrawal.specs.MonthSurvival.{account_of};
-ghost use Rattle.withdrawal.specs.Inner.TierArrays.{tier_table, Usable};
+ghost use Rattle.withdrawal.specs.Inner.TierArrays.{tier_table};
 ghost use Rattle.pricing.specs.Rounding.{down, up};
 ghost use Rattle.price_multipliers.specs.Inner.Tables.{factors_of, Discounting};
 ghost use Rattle.price_deposits.specs.DepositTerms.{servicing_cost};
-ghost use Rattle.price_deposits.specs.Inner.Levels.{LevelsLeft};
+ghost use Rattle.price_deposits.specs.Inner.Levels.{LevelsLeft, TiersLent, lent_tiers};
 ghost use Rattle.price_deposits.specs.Inner.Prices.{ColumnRates, DepositLimits};
 ghost use Rattle.price_deposits.specs.Inner.Values.{tabled_values};
 
@@ -21,7 +21,8 @@ use withdrawal::WithdrawalTiers;
 use withdrawal_months::{Levels, early_levels, level_multipliers};
 
 // Values in dollars of a balance in thousands of dollars: lower, upper, lower, upper and so on by scenario, at the retail rates of a column, 1 to 3, which
-// are not shifted. The tables hold the multipliers of the discount factors. In the last month nothing is withdrawn early. A zero balance walks no month.
+// are not shifted. Of the tiers the edges are read and what survives at each. The tables hold the multipliers of the discount factors. In the last month
+// nothing is withdrawn early. A zero balance walks no month.
 // `levels` is room for the levels of its months: for a zero balance, and from the last month on, it is left as it was.
 pub fn values_of(
     balance: u64,
@@ -32,9 +33,9 @@ pub fn values_of(
     discounts: &Bounds<MultiplierTable>,
     levels: &mut Levels,
 ) -> [u64; PLACE_VALUES]
-    requires balance_le_balance_limit { (balance ≤ balance_limit) × DepositLimits d × ColumnRates rates.now column × Usable tiers.now }
+    requires balance_le_balance_limit { (balance ≤ balance_limit) × DepositLimits d × ColumnRates rates.now column × TiersLent tiers.now.count tiers.now.edges tiers.now.survivals tiers.now.retained }
     requires discounting { 0 < balance → Discounting down d.months discounts.now.lower × Discounting up d.months discounts.now.upper }
-    ensures value { result ≡ tabled_values (tier_table tiers.now) balance d rates.now column (factors_of down d.months discounts.now.lower) (factors_of up d.months discounts.now.upper) }
+    ensures value { (t : TiersLent tiers.now.count tiers.now.edges tiers.now.survivals tiers.now.retained) → result ≡ tabled_values (tier_table (lent_tiers t)) balance d rates.now column (factors_of down d.months discounts.now.lower) (factors_of up d.months discounts.now.upper) }
     ensures levels_left { LevelsLeft tiers.now balance d rates.now column levels.old levels.new }
 {
     let mut values = [0u64; PLACE_VALUES];

@@ -1,5 +1,5 @@
 // The run one month on, by multipliers: the lower run, or the upper one where `UP`. `discount` is what a table holds of the month's discount factor.
-ghost use Rattle.std.specs.Prelude.{◌≡◌, cond, true, ◌*◌, ◌<◌, ◌≤◌};
+ghost use Rattle.std.specs.Prelude.{◌≡◌, cond, true, false, ◌*◌, ◌<◌, ◌≤◌};
 ghost use Rattle.pricing.specs.Scales.{amount_limit};
 ghost use Rattle.pricing.specs.Rounding.{rounding_of};
 ghost use Rattle.price_months.specs.Walks.{Raised};
@@ -67,7 +67,7 @@ fn left_of<const UP: bool>(balance: u64, m: MonthMultipliers) -> u64
 // A flow times a discount factor. An upper table holds one less.
 fn product_of<const UP: bool>(flow: u64, discount: u64) -> u64
     requires { (flow ≤ 2 * month_limit) × (UP ≡ true → 0 < flow) }
-    ensures { (result ≡ product_by (rounding_of UP) discount flow) × (result ≤ 5 * month_limit) }
+    ensures { (result ≡ product_by (rounding_of UP) discount flow) × (result ≤ 5 * month_limit) × (UP ≡ false → result ≤ 4 * month_limit) }
 {
     if UP {
         upper_half(2 * flow, discount) + 1

@@ -53,11 +53,9 @@ impl Lines<'_> {
         ensures { result ≡ line_in self.now.months.now self.now.prices.now i }
     {
         let first = SCENARIOS * i;
-        let mut prices = [0.0; SCENARIOS];
-        prices.copy_from_slice(&self.prices[first..first + SCENARIOS]);
         PriceLine {
             months: self.months[i],
-            prices,
+            prices: std::array::from_fn(|k| self.prices[first + k]),
         }
     }
 }

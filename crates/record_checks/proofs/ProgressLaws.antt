@@ -1,12 +1,12 @@
 -- The scan over the records: its state before each of them, what a record makes of it, and what it answers at the end.
 -- Assumes nothing.
 use Prim.Native.Nat.{ℕ, ◌≤◌, ◌<◌}
-use native.Mathlib.Nat.{le_antisymm}
+use native.Mathlib.Nat.{le_refl, le_antisymm}
 use native.Mathlib.Omega.{arith}
 use mathlib.Core.Path.{◌≡◌, refl, sym, ap, ◌∙◌}
 use mathlib.Core.Bool.{Bool, true, false, cond, not}
 use mathlib.Core.List.{List}
-use borrow.Author.Tests.{ltb-true, ltb-false, eqb-false, eq-eqb, ne_eqb, not-true}
+use borrow.Author.Tests.{ltb-true, ltb-false, lt-ltb, le-ltb, eqb-false, eq-eqb, ne_eqb, not-true}
 use lib.Dec.{ltb, eqb}
 use lib.ListN.{length}
 use Rattle.std.specs.Prelude.{Result, Ok, is_err}
@@ -17,7 +17,7 @@ use Rattle.answers.proofs.AnswerLaws.{refused-number, accepted-number}
 use Rattle.record_fields.specs.Records.{next_record}
 use Rattle.record_kinds.specs.Items.{record_item}
 use Rattle.record_verdicts.specs.RecordVerdicts.{first_refused, verdict_by, first_faulty, record_verdict, records_verdict}
-use Rattle.record_verdicts.specs.Inner.PlainVerdicts.{plain_verdict, first_plain}
+use Rattle.record_verdicts.specs.Inner.PlainVerdicts.{plain_verdict, first_plain, plains_verdict}
 use Rattle.record_verdicts.specs.Inner.SoundRecords.{sound_named}
 use Rattle.record_verdicts.proofs.NamedLaws.{passes, sound-told}
 use Rattle.record_offsets.specs.Inner.Notes.{Noted, noted_before, nothing_noted, note_item}
@@ -37,8 +37,9 @@ pub record Scanning (s : List ℕ) (noted : Noted) (at : ℕ) : Type 0 where
   pub ahead : Ahead s (faulty s) (length s) at
   pub noted-is : noted ≡ noted_before s at
 
--- what the scan answers: what is noted of the records before the first faulty one, and where that stands
-pub record Scanned (s : List ℕ) (noted : Noted) (end : ℕ) : Type 0 where
+-- what the scan ends with: the verdict on the records by all tests but 16, what is noted of those before the first faulty one, and where that stands
+pub record Scanned (s : List ℕ) (noted : Noted) (end : ℕ) (verdict : Verdict) : Type 0 where
+  pub verdict-is : verdict ≡ plains_verdict s
   pub noted-is : noted ≡ noted_before s (first_plain s)
   pub end_is : end ≡ first_plain s
 
@@ -64,34 +65,36 @@ module _ (s : List ℕ) (noted : Noted) (at : ℕ) (state : Scanning s noted at)
         noted-is = rw state.noted-is (noted-next s at state.reached f.single);
       }
 
-  -- here: a faulty record ends the scan
-  pub scanning-faulty : at < length s → ((plain_verdict s at).number ≡ 0 → ⊥) → Scanned s noted at
-  unfolding first_refused
+  -- here: a faulty record ends the scan with its verdict
+  pub scanning-faulty : at < length s → ((plain_verdict s at).number ≡ 0 → ⊥) → Scanned s noted at (plain_verdict s at)
+  unfolding first_refused verdict_by
   scanning-faulty l h =
       let found : first_plain s ≡ at =
       ahead-here s (faulty s) (length s) at state.ahead l (simp (ne_eqb (plain_verdict s at).number 0 h)) in
       record {
+        verdict-is = rw (found, lt-ltb at (length s) l);
         noted-is = rw found state.noted-is;
         end_is = sym found;
       }
 
   -- done: all records are read, and none is faulty
-  pub scanning-done : length s ≤ at → Scanned s noted at
-  unfolding first_refused
+  pub scanning-done : length s ≤ at → Scanned s noted at accepted
+  unfolding first_refused verdict_by
   scanning-done l =
       let found : first_plain s ≡ length s = ahead-done s (faulty s) (length s) at state.ahead l in
       let e : at ≡ length s = omega (arith, state.within) in
       record {
+        verdict-is = rw (found, le-ltb (length s) (length s) (le_refl (length s)));
         noted-is = rw (found, ← e) state.noted-is;
         end_is = e ∙ sym found;
       }
 
   -- the record at hand is visited: a faulty one ends the scan, and after a sound one it goes on
   module _ {A : Type 0} (within : at < length s) (answer : Result A Refusal) (after : Noted) (visited : Visited s at answer after) where
-    pub visited-ends : is_err answer ≡ true → Scanned s after at
+    pub visited-ends : is_err answer ≡ true → Scanned s after at (verdict_of answer)
     visited-ends h =
         let faulty : (plain_verdict s at).number ≡ 0 → ⊥ = λ e. refused-number answer h (ap (λ (v : Verdict). v.number) visited.verdict-is ∙ e) in
-        rw (visited.faulty-left faulty, ← state.noted-is) (scanning-faulty within faulty)
+        rw (visited.verdict-is, visited.faulty-left faulty, ← state.noted-is) (scanning-faulty within faulty)
 
     pub visited-next : is_err answer ≡ false → Scanning s after (next_record s at)
     visited-next h =

@@ -9,10 +9,11 @@ use answers::Refusal;
 use arrayvec::ArrayVec;
 
 // The number of a refusal and its location: 50 bytes at most.
-#[tactic(auto, using(crate::proofs::LineLaws::refusal_short))]
+#[tactic(auto, using(std::proofs::lemmas::Grind::common_steps, crate::proofs::LineLaws::refusal_short))]
 pub fn append_refused<const CAP: usize>(text: &mut ArrayVec<u8, CAP>, refusal: Refusal)
     requires { array_vec_len text.old + 50 ≤ CAP }
-    ensures { text.new.items ≡ text.old.items ++ refusal_line (number_of refusal) (location_of refusal) }
+    ensures line { text.new.items ≡ text.old.items ++ refusal_line (number_of refusal) (location_of refusal) }
+    ensures short { array_vec_len text.new ≤ array_vec_len text.old + 50 }
 {
     append_refusal(text, refusal.number(), refusal.location() as u64);
 }

@@ -29,18 +29,17 @@ pub type LineInput = [u8; 1025];
 // What is printed to a line: the balance total and seven lines, 644 bytes at most.
 pub type Reply = ArrayVec<u8, 644>;
 
-// The book under a filing, where it is open, and what is printed of its opening.
-#[derive(Drop)]
+// The book under a filing, where it is open.
+#[derive(Clone, Copy)]
 pub struct Opened {
     pub book: Option<Book>,
-    pub text: Reply,
 }
 
 // Opens a book as `open_book` does, under the first `size` bytes that were read of a filing.
-pub fn open_read(input: &FilingInput, size: usize) -> Opened
-    ensures opened { OpenedAs (take size input.now) result.book result.text.items }
+pub fn open_read(input: &FilingInput, size: usize, text: &mut Reply) -> Opened
+    ensures opened { OpenedAs (take size input.now) result.book text.new.items }
 {
-    open_book(&input[..size.min(input.len())])
+    open_book(&input[..size.min(input.len())], text)
 }
 
 // Obeys a line as `obey` does: the first `size` bytes that were read of it.
@@ -50,26 +49,23 @@ pub fn obey_read(book: &mut Book, input: &LineInput, size: usize) -> Reply
     obey(book, &input[..size.min(input.len())])
 }
 
-// Opens a book under a filing, and answers what is printed of it.
-pub fn open_book(filing: &[u8]) -> Opened
-    ensures opened { OpenedAs filing.now result.book result.text.items }
+// Opens a book under a filing. The text that is lent, whatever it held, is what is printed of it.
+pub fn open_book(filing: &[u8], text: &mut Reply) -> Opened
+    ensures opened { OpenedAs filing.now result.book text.new.items }
 {
-    let mut text = ArrayVec::new();
+    text.clear();
     if FILING_LIMIT < filing.len() {
-        append_too_long(&mut text);
-        return Opened { book: None, text };
+        append_too_long(text);
+        return Opened { book: None };
     }
     match open(filing) {
         Ok(book) => {
-            append_opened(&mut text);
-            Opened {
-                book: Some(book),
-                text,
-            }
+            append_opened(text);
+            Opened { book: Some(book) }
         }
         Err(refusal) => {
-            append_refused(&mut text, refusal);
-            Opened { book: None, text }
+            append_refused(text, refusal);
+            Opened { book: None }
         }
     }
 }

@@ -4,12 +4,12 @@ use mathlib.Core.Path.{◌≡◌, ap, ◌∙◌}
 use mathlib.Core.List.{List}
 use borrow.Author.Tests.{lt-ltb, le-ltb, eq-eqb, ne_eqb}
 use lib.ListN.{length}
-use Rattle.arrayvec.specs.ArrayVec.{ArrayVec}
 use Rattle.std.specs.Prelude.{Ok, Err}
 use Rattle.answers.specs.declared.Refusal.{Refusal}
 use Rattle.answers.specs.Answers.{number_of, location_of}
 use Rattle.certificate_calendar.specs.declared.Date.{Date}
-use Rattle.certificate_cells.specs.declared.filled_cells.CellValue.{CellValue}
+use Rattle.certificate_cells.specs.declared.filled_cells.Cells.{Cells}
+use Rattle.certificate_cells.specs.Cells.{items_of}
 use Rattle.certificates.specs.Verdict.{certificates_verdict}
 use Rattle.certificates.specs.Filled.{filled_cells}
 use Rattle.certificates.specs.Promise.{Converted}
@@ -40,7 +40,7 @@ module _ (v : Date) (c : List ℕ) where
   unfolding answer_text
   answer-refused r converted = printed-refused r (certificates_verdict v c) (cell_lines (filled_cells v c)) converted.answer-is
 
-  pub answer-accepted : (cells : ArrayVec CellValue) → Converted v c (Ok cells) → cell_lines cells.items ≡ answer_text v c
+  pub answer-accepted : (cells : Cells) → Converted v c (Ok cells) → cell_lines (items_of cells) ≡ answer_text v c
   unfolding answer_text
   answer-accepted cells converted =
       ap cell_lines converted.cells_are ∙ printed-accepted (certificates_verdict v c) (cell_lines (filled_cells v c)) converted.answer-is

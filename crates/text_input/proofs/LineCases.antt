@@ -4,7 +4,8 @@ use Prim.Native.Nat.{ℕ}
 use mathlib.Core.Path.{◌≡◌, refl}
 use mathlib.Core.List.{List, [], ◌∷◌}
 use Rattle.std.specs.Prelude.{Option, None, Some}
-use Rattle.text_input.specs.Lines.{Held, is_feed, first_line, is_empty, kept_in, held_of, next_line}
+use Rattle.text_input.specs.declared.Reading.TheVariants.{Going, Ended}
+use Rattle.text_input.specs.Lines.{Held, is_feed, first_line, has_feed, is_empty, kept_in, held_of, next_line, line_of}
 
 -- three bytes, and how many are kept
 abbrev held : List ℕ → Option ℕ → Held
@@ -27,3 +28,13 @@ lines-hold : next_line (0 ∷ 0 ∷ 0 ∷ []) []
     ∷ []
 unfolding held_of next_line kept_in first_line is_empty is_feed
 lines-hold = refl
+
+-- before the stream's end is known a line is complete at its line feed alone
+parts-hold : line_of (0 ∷ []) [] ∷ line_of (0 ∷ []) (97 ∷ []) ∷ line_of (0 ∷ []) (97 ∷ 98 ∷ 13 ∷ []) ∷ line_of (0 ∷ []) (97 ∷ 10 ∷ []) ∷ []
+    ≡ record { line = 0 ∷ []; reading = Going None }
+    ∷ record { line = 97 ∷ []; reading = Going (Some 1) }
+    ∷ record { line = 97 ∷ []; reading = Going (Some 1) }
+    ∷ record { line = 97 ∷ []; reading = Ended (Some 1) }
+    ∷ []
+unfolding line_of held_of next_line kept_in first_line has_feed is_empty is_feed
+parts-hold = refl

@@ -2,7 +2,7 @@
 use Prim.Native.Nat.{ℕ, zero, suc, ◌+◌, ◌*◌, ◌-◌, ◌^◌, ◌≤◌, ◌<◌}
 use mathlib.Core.Path.{◌≡◌, sym, ◌∙◌}
 use mathlib.Core.List.{List, [], ◌++◌}
-use native.Mathlib.Nat.{mul-suc}
+use native.Mathlib.Nat.{mul-suc, mul-le-mul_right}
 use native.Mathlib.Numerals.{add-one}
 use native.Mathlib.Omega.{arith}
 use lib.IntN.{sub_ℕ}
@@ -41,6 +41,10 @@ module _ (l : List ℕ) (from each : ℕ) where
   pub lines_end : (i : ℕ) → i ≡ scenario_count → lines_from i ≡ []
   unfolding table_from joined
   lines_end i e = rw e
+
+-- the totals of a scenario stand within a list that has those of all seven
+pub totals-inside : (from each scenario n : ℕ) → scenario < scenario_count → from + each * scenario_count ≤ n → from + each * scenario + each ≤ n
+totals-inside from each scenario n h fits = omega (arith, mul-le-mul_right each h)
 
 -- totals that are read off a list one by one
 pub totals-read : (l : List ℕ) (from each scenario : ℕ) (totals : List ℕ) → from + each * scenario + each ≤ length l → length totals ≡ each

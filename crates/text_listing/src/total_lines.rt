@@ -17,7 +17,8 @@ pub fn append_scenarios<const CAP: usize>(
     each: usize,
 )
     requires { (each ≤ 4) × (array_vec_len text.old + 623 ≤ CAP) × (from + each * scenario_count ≤ length numbers.now) }
-    ensures { text.new.items ≡ text.old.items ++ lines_in numbers.now from each }
+    ensures lines { text.new.items ≡ text.old.items ++ lines_in numbers.now from each }
+    ensures short { array_vec_len text.new ≤ array_vec_len text.old + 623 }
 {
     for scenario in 0..SCENARIOS {
         append_scenario(text, numbers, from, each, scenario);

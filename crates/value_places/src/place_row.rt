@@ -2,10 +2,10 @@
 ghost use Rattle.std.specs.Prelude.{◌≡◌, ◌≤◌, ◌<◌, length};
 ghost use Rattle.form.specs.Limits.{balance_limit, rate_count};
 ghost use Rattle.form.specs.PlaceOrder.{sub_balance_count, position_of};
-ghost use Rattle.withdrawal.specs.Inner.TierArrays.{tier_table, Usable};
+ghost use Rattle.withdrawal.specs.Inner.TierArrays.{tier_table};
 ghost use Rattle.pricing.specs.Rounding.{down, up};
 ghost use Rattle.price_factors.specs.Inner.Factors.{WithinRates};
-ghost use Rattle.price_deposits.specs.Inner.Levels.{LevelsLeft};
+ghost use Rattle.price_deposits.specs.Inner.Levels.{LevelsLeft, TiersLent, lent_tiers};
 ghost use Rattle.price_deposits.specs.Inner.Prices.{DepositLimits};
 ghost use Rattle.price_multipliers.specs.Inner.Tables.{factors_of, Discounting};
 ghost use Rattle.value_places.specs.PlaceTerms.{deposit_at};
@@ -31,9 +31,9 @@ pub fn row_of(
     months: &mut MonthLevels,
 ) -> [u64; PLACE_NUMBERS]
     requires place_lt_sub_balance_count { (place < sub_balance_count) × (held.balance ≤ balance_limit) × DepositLimits (deposit_at place held) }
-    requires within_rates { WithinRates rates.now × (rate_count ≤ length rates.now) × Usable tiers.now }
+    requires within_rates { WithinRates rates.now × (rate_count ≤ length rates.now) × TiersLent tiers.now.count tiers.now.edges tiers.now.survivals tiers.now.retained }
     requires discounting { 0 < held.balance → Discounting down (deposit_at place held).months discounts.now.lower × Discounting up (deposit_at place held).months discounts.now.upper }
-    ensures value { result ≡ row_of held place rates.now (tier_table tiers.now) (factors_of down (deposit_at place held).months discounts.now.lower) (factors_of up (deposit_at place held).months discounts.now.upper) }
+    ensures value { (t : TiersLent tiers.now.count tiers.now.edges tiers.now.survivals tiers.now.retained) → result ≡ row_of held place rates.now (tier_table (lent_tiers t)) (factors_of down (deposit_at place held).months discounts.now.lower) (factors_of up (deposit_at place held).months discounts.now.upper) }
     ensures levels_left { LevelsLeft tiers.now held.balance (deposit_at place held) rates.now (position_of place).column months.old months.new }
 {
     if held.balance == 0 {
@@ -55,9 +55,9 @@ pub fn held_values(
     months: &mut MonthLevels,
 ) -> [u64; PLACE_VALUES]
     requires place_lt_sub_balance_count { (place < sub_balance_count) × (held.balance ≤ balance_limit) × DepositLimits (deposit_at place held) }
-    requires within_rates { WithinRates rates.now × (rate_count ≤ length rates.now) × Usable tiers.now }
+    requires within_rates { WithinRates rates.now × (rate_count ≤ length rates.now) × TiersLent tiers.now.count tiers.now.edges tiers.now.survivals tiers.now.retained }
     requires discounting { 0 < held.balance → Discounting down (deposit_at place held).months discounts.now.lower × Discounting up (deposit_at place held).months discounts.now.upper }
-    ensures value { result ≡ tabled_held held place rates.now (tier_table tiers.now) (factors_of down (deposit_at place held).months discounts.now.lower) (factors_of up (deposit_at place held).months discounts.now.upper) }
+    ensures value { (t : TiersLent tiers.now.count tiers.now.edges tiers.now.survivals tiers.now.retained) → result ≡ tabled_held held place rates.now (tier_table (lent_tiers t)) (factors_of down (deposit_at place held).months discounts.now.lower) (factors_of up (deposit_at place held).months discounts.now.upper) }
     ensures levels_left { LevelsLeft tiers.now held.balance (deposit_at place held) rates.now (position_of place).column months.old months.new }
 {
     let d = deposit_at(place, held);

@@ -2,6 +2,7 @@
 use Prim.Native.Nat.{ℕ, suc, ◌≤◌, zero-le}
 use mathlib.Core.Path.{◌≡◌, refl, ap}
 use mathlib.Core.Bool.{Bool, true, false, cond}
+use mathlib.Core.List.{List}
 use native.Mathlib.Nat.{le_refl}
 use native.Mathlib.Omega.{arith}
 use lib.Dec.{ltb, lit≤}
@@ -30,16 +31,31 @@ level-last true t x level p = by (at_most (suc x.cost) (gain_of x)) p
 level-last false t x level p = p.within
 
 -- and that at most the limit of the tiers
-pub last-le : (b : Bool) (t : WithdrawalTiers) → Usable t → last_level b t ≤ tier_limit
+pub last-le : (b : Bool) (t : WithdrawalTiers) → t.count ≤ tier_limit → last_level b t ≤ tier_limit
 unfolding last_level
-last-le true t u = lit≤ tt
-last-le false t u = u.edges_fit.count-le
+last-le true t h = lit≤ tt
+last-le false t h = h
 
 -- at every level no more survives than all
 pub level-survival-le : (b : Bool) (t : WithdrawalTiers) (level : ℕ) → Usable t → level_survival b t level ≤ full_survival
 unfolding level_survival survival_at
 level-survival-le true t level u = either (λ (n : ℕ). n ≤ full_survival) (ltb level 1) zero-le (le_refl full_survival)
 level-survival-le false t level u = either (λ (n : ℕ). n ≤ full_survival) (ltb level t.count) (survivals-le t u level) (retained-le t u)
+
+-- a level and what survives at it are those of any tiers with the same edges and survivals
+module _ (t : WithdrawalTiers) (withdrawals : List ℕ) (otherwise : ℕ) where
+  abbrev pub with_withdrawals : WithdrawalTiers
+  with_withdrawals =
+      record { count = t.count; edges = t.edges; withdrawals = withdrawals; survivals = t.survivals; otherwise = otherwise; retained = t.retained }
+
+  pub level-alike : (b : Bool) (x : Incentive) (level : ℕ) → LevelFor b t x level → LevelFor b with_withdrawals x level
+  level-alike true x level p = p
+  level-alike false x level p = p
+
+  pub survival-alike : (b : Bool) (level : ℕ) → level_survival b with_withdrawals level ≡ level_survival b t level
+  unfolding level_survival survival_at
+  survival-alike true level = refl
+  survival-alike false level = refl
 
 -- what survives at the level of an incentive is what survives under it: of brokered money nothing at 0 and all at 1, by whether the gain is
 -- above the cost; of other money that of the tier reached, or of the lowest withdrawal where none is

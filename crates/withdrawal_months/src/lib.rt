@@ -4,10 +4,10 @@
 pub mod month_levels;
 
 ghost use Rattle.std.specs.Prelude.{ℕ, ◌≤◌, ◌≡◌, length, get_or};
-ghost use Rattle.form.specs.Limits.{coupon_limit, penalty_limit, months_limit, rate_limit, rate_count};
-ghost use Rattle.withdrawal.specs.Inner.TierArrays.{Usable};
-ghost use Rattle.pricing.specs.Scales.{growth_limit, servicing_limit};
-ghost use Rattle.withdrawal_months.specs.TierLevels.{last_level};
+ghost use Rattle.form.specs.Limits.{coupon_limit, penalty_limit, months_limit, rate_limit, rate_count, tier_limit};
+ghost use Rattle.withdrawal.specs.Inner.TierArrays.{EdgesFit};
+ghost use Rattle.pricing.specs.Scales.{growth_limit, servicing_limit, par};
+ghost use Rattle.withdrawal_months.specs.TierLevels.{last_level, level_survival};
 ghost use Rattle.withdrawal_months.specs.Levels.{Levelled, LeftBehind, Multiplied, NothingPast};
 
 use crate::month_levels::{last_level, level_survival, month_levels};
@@ -38,7 +38,7 @@ pub fn early_levels(
     tiers: &WithdrawalTiers,
     levels: &mut Levels,
 )
-    requires coupon_le_coupon_limit { (coupon ≤ coupon_limit) × (penalty ≤ penalty_limit) × (months ≤ months_limit) × Usable tiers.now }
+    requires coupon_le_coupon_limit { (coupon ≤ coupon_limit) × (penalty ≤ penalty_limit) × (months ≤ months_limit) × EdgesFit tiers.now.count tiers.now.edges }
     requires by_index { ((i : ℕ) → get_or rates.now i 0 ≤ rate_limit) × (1 ≤ column) × (column ≤ 3) × (rate_count ≤ length rates.now) }
     ensures { Levelled brokered coupon penalty months tiers.now rates.now column levels.new
         × LeftBehind months levels.old levels.new }
@@ -59,7 +59,7 @@ pub fn level_multipliers(
     servicing: u64,
     tiers: &WithdrawalTiers,
 ) -> LevelMultipliers
-    requires { (growth ≤ growth_limit) × (servicing ≤ servicing_limit) × Usable tiers.now }
+    requires { (growth ≤ growth_limit) × (servicing ≤ servicing_limit) × (tiers.now.count ≤ tier_limit) × ((i : ℕ) → level_survival brokered tiers.now i ≤ par) }
     ensures { Multiplied brokered growth servicing tiers.now result × NothingPast (last_level brokered tiers.now) result }
 {
     let mut multipliers = [MonthMultipliers::NONE; LEVELS];

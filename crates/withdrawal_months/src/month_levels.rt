@@ -1,8 +1,8 @@
 // The withdrawal of a deposit in a month before its term's end, in the seven scenarios, as the levels of the tiers that are reached.
 ghost use Rattle.std.specs.Prelude.{◌≡◌, ℕ, ◌<◌, ◌≤◌, get_or};
-ghost use Rattle.form.specs.Limits.{rate_limit, months_limit};
+ghost use Rattle.form.specs.Limits.{rate_limit, months_limit, tier_limit};
 ghost use Rattle.form.specs.Shift.{scenario_count, shifted_rate};
-ghost use Rattle.withdrawal.specs.Inner.TierArrays.{Usable};
+ghost use Rattle.withdrawal.specs.Inner.TierArrays.{EdgesFit};
 ghost use Rattle.withdrawal.specs.Inner.Incentives.{incentive_from, PartsWithin, Small};
 ghost use Rattle.withdrawal_months.specs.TierLevels.{LevelFor, last_level, level_survival};
 
@@ -20,7 +20,7 @@ pub(crate) fn month_levels(
     rate: u16,
     left: u64,
 ) -> [u8; SCENARIOS]
-    requires { Usable tiers.now × PartsWithin parts × (rate ≤ rate_limit) × (left ≤ months_limit) }
+    requires { EdgesFit tiers.now.count tiers.now.edges × PartsWithin parts × (rate ≤ rate_limit) × (left ≤ months_limit) }
     ensures { (i : ℕ) → i < scenario_count → LevelFor brokered tiers.now (incentive_from parts (shifted_rate i rate) left) (get_or result i 0) }
 {
     std::array::from_fn(|i| level_in(i, brokered, tiers, parts, rate, left))
@@ -35,7 +35,7 @@ fn level_in(
     rate: u16,
     left: u64,
 ) -> u8
-    requires { (scenario < scenario_count) × Usable tiers.now × PartsWithin parts × (rate ≤ rate_limit) × (left ≤ months_limit) }
+    requires { (scenario < scenario_count) × EdgesFit tiers.now.count tiers.now.edges × PartsWithin parts × (rate ≤ rate_limit) × (left ≤ months_limit) }
     ensures { LevelFor brokered tiers.now (incentive_from parts (shifted_rate scenario rate) left) result }
 {
     let shifted = Scenario::new(scenario as u8).shifted(rate);
@@ -52,7 +52,7 @@ pub(crate) fn last_level(brokered: bool, tiers: &WithdrawalTiers) -> usize
 
 // q at a level in billionths.
 pub(crate) fn level_survival(brokered: bool, tiers: &WithdrawalTiers, level: usize) -> u64
-    requires { Usable tiers.now }
+    requires { tiers.now.count ≤ tier_limit }
     ensures { result ≡ level_survival brokered tiers.now level }
 {
     if brokered {
@@ -63,7 +63,7 @@ pub(crate) fn level_survival(brokered: bool, tiers: &WithdrawalTiers, level: usi
 
 // The level of an incentive. Brokered money is withdrawn whole, at level 0, or not, at level 1.
 fn level_for(brokered: bool, tiers: &WithdrawalTiers, incentive: Incentive) -> usize
-    requires { Usable tiers.now × Small incentive }
+    requires { EdgesFit tiers.now.count tiers.now.edges × Small incentive }
     ensures { LevelFor brokered tiers.now incentive result }
 {
     if brokered {

@@ -9,6 +9,7 @@ use Rattle.value_places.specs.PlaceTerms.{deposit_at}
 use Rattle.value_places.proofs.HeldLaws.{held_by}
 use Rattle.book_values.specs.Sheets.{values_under}
 use Rattle.book_values.proofs.SheetLaws.{Limits, usable-limits, values-tabled}
+use Rattle.price_deposits.proofs.LevelLaws.{lent}
 use Rattle.book_values.proofs.values_in.Goals as goal
 
 pub returns-then-not-usable : goal.returns-then-not-usable
@@ -41,7 +42,7 @@ held_values-requires c =
     let l = limits in
     let months : a.held.remaining_months ≤ months_limit = c.requires.2.months-le in record {
       place_lt_sub_balance_count = c.requires;
-      within_rates = (l.rates-le, omega arith, c.tiers_of-own.ensures.1);
+      within_rates = (l.rates-le, omega arith, lent _ c.tiers_of-own.ensures.1);
       discounting = λ pos. (
         lower-discounting a.factors.now.lower _ a.held.remaining_months c.to_multipliers.ensures.0 l.lower-le,
         upper-discounting a.factors.now.upper _ a.held.remaining_months c.to_multipliers-2.ensures.0 l.upper-le (λ i h. l.upper_pos i (omega (arith, h, months))),
@@ -53,7 +54,7 @@ pub returns : goal.returns
 unfolding values_under deposit_at rounding_of
 returns c =
     let a = c.args in
-    c.held_values.ensures.value
+    c.held_values.ensures.value (lent _ c.tiers_of-own.ensures.1)
     ∙ held_by a.place a.held a.rates.now _ a.factors.now.lower a.factors.now.upper _ _ (λ pos. (c.to_multipliers.ensures.0, c.to_multipliers-2.ensures.0))
     ∙ rw (c.tiers_of-own.ensures.0, ← c.usable.ensures, c.if-not-usable.false)
     (sym (values-tabled a.rates.now a.tiers a.factors.now.lower a.factors.now.upper a.place a.held))

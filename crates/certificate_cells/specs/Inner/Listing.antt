@@ -1,7 +1,8 @@
--- The size of some sums, and what they fill a cell with. Definitions only.
+-- The size of some sums, what they fill a cell with, and the answer with their cells. Definitions only.
 use Rattle.std.specs.Prelude.{ℕ, ◌*◌, ◌≤◌, ◌≡◌, Bool, cond, ◌&&◌, Option, None, Some, length, get_or}
 use Rattle.certificate_cells.specs.declared.filled_cells.Totals.{Totals}
-use Rattle.certificate_cells.specs.Cells.{is_filled, form_cell, is_present, value_of}
+use Rattle.certificate_cells.specs.declared.filled_cells.Cells.{Cells}
+use Rattle.certificate_cells.specs.Cells.{is_filled, form_cell, is_present, value_of, cells_of, cell_array}
 use Rattle.form.specs.Limits.{balance_limit, filed_coupon_limit, months_limit}
 
 -- nine sums of balances, each within the limit of a balance, and each weighted sum within so many times it
@@ -18,3 +19,7 @@ listed t cell = is_filled cell && is_present t (form_cell cell)
 -- what a cell is handed back with
 unfoldable pub value_filled : Totals → ℕ → Option ℕ
 value_filled t cell = cond (listed t cell) (Some (value_of t (form_cell cell))) None
+
+-- how many cells some sums have, and these cells
+unfoldable pub accepted_cells : Totals → Cells
+accepted_cells t = record { count = length (cells_of t); cells = cell_array (cells_of t) }

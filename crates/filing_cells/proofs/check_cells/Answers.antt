@@ -1,8 +1,11 @@
 -- `check_cells` meets its contract: 19, then 7, 8 and 9. Assumes nothing.
+use mathlib.Core.Path.{refl}
 use Rattle.std.proofs.lemmas.Result.{err_from_is_err_and}
+use Rattle.answers.specs.Verdict.{accepted, first_refusal}
 use Rattle.answers.proofs.AnswerLaws.{refusal-first}
 use Rattle.answers.proofs.VerdictLaws.{accepted-first}
 use Rattle.filing_cells.specs.CellVerdicts.{cells_verdict}
+use Rattle.filing_cells.proofs.CellVerdictLaws.{cells-in-turn}
 use Rattle.filing_cells.proofs.check_cells.Goals as goal
 
 pub check_total-requires : goal.check_total-requires
@@ -87,15 +90,14 @@ returns-in_err-check_borrowings_total c =
     }
 
 pub returns : goal.returns
-unfolding cells_verdict
+unfolding first_refusal accepted
 returns c =
     record {
-      answer_value =
-          accepted-first _ c.in_ok-check_coupons.ensures
-          (accepted-first _ c.in_ok-check_months.ensures
-          (accepted-first _ c.in_ok-check_terms.ensures
-          (accepted-first _ c.in_ok-check_columns.ensures
-          (accepted-first _ c.in_ok-check_total.ensures
-          c.in_ok-check_borrowings_total.ensures))));
+      answer_value = cells-in-turn _ c.in_ok-check_borrowings_total.ensures
+          c.in_ok-check_total.ensures refl
+          c.in_ok-check_columns.ensures refl
+          c.in_ok-check_terms.ensures refl
+          c.in_ok-check_months.ensures refl
+          c.in_ok-check_coupons.ensures refl;
       sums_value = c.column_sums-sums.ensures;
     }

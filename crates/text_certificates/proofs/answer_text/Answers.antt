@@ -14,4 +14,4 @@ returns-in-Ok c =
     c.append_cells.ensures ∙ rw (c.new-text.ensures, c.as_slice.ensures.value) (answer-accepted _ _ c.in-Ok.cells c.in-Ok.ensures.converted)
 
 pub returns-in-Err : goal.returns-in-Err
-returns-in-Err c = c.append_refused.ensures ∙ rw c.new-text.ensures (answer-refused _ _ c.in-Err.refusal c.in-Err.ensures.converted)
+returns-in-Err c = c.append_refused.ensures.line ∙ rw c.new-text.ensures (answer-refused _ _ c.in-Err.refusal c.in-Err.ensures.converted)

@@ -1,7 +1,6 @@
--- `next_line` meets its contract at a line feed. Assumes nothing.
-use Rattle.text_input.proofs.LineLaws.{line_feed}
+-- `next_line` meets its contract where a step ends the line. Assumes nothing.
+use Rattle.text_input.proofs.LineLaws.{line_ended}
 use Rattle.text_input.proofs.next_line.Goals as goal
 
-pub returns-in-Some-eq10 : goal.returns-in-Some-eq10
-returns-in-Some-eq10 g c =
-    line_feed _ _ _ _ _ _ c.loop.invariant c.in-Some-eq10.field-0 _ c.in-Some-eq10.ensures c.in-Some-eq10.field-0-test c.unwrap_or.ensures
+pub returns-in-Ended : goal.returns-in-Ended
+returns-in-Ended g c = line_ended _ _ _ _ _ _ c.loop.invariant _ _ _ c.next_byte-next.ensures c.in-Ended.ensures

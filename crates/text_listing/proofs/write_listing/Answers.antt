@@ -14,9 +14,9 @@ pub returns-in-Err : goal.returns-in-Err
 unfolding listing_text
 returns-in-Err c =
     let refusal = text-refused c.args.filing.now _ _ _ _ _ (omega arith) (omega arith) (omega arith) c.value.ensures.valued scenario_lines _ c.in-Err.is in
-    record { printed = c.append_refused.ensures ∙ rw c.new-text.ensures refusal }
+    record { printed = c.append_refused.ensures.line ∙ rw c.new-text.ensures refusal }
 
 pub returns : goal.returns
 returns c =
     let lines = text-accepted c.args.filing.now _ _ _ _ _ (omega arith) (omega arith) (omega arith) c.value.ensures.valued _ c.in_default.is in
-    record { printed = c.append_scenarios.ensures ∙ rw c.new-text.ensures lines }
+    record { printed = c.append_scenarios.ensures.lines ∙ rw c.new-text.ensures lines }

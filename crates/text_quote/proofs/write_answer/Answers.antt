@@ -10,4 +10,4 @@ returns-in-Ok c = record { printed = c.append_reply.ensures ∙ rw c.new-text.en
 
 pub returns-in-Err : goal.returns-in-Err
 unfolding answer_text
-returns-in-Err c = record { printed = c.append_refused.ensures ∙ rw c.new-text.ensures (line-refused _ _ _ c.in-Err.refusal c.in-Err.ensures) }
+returns-in-Err c = record { printed = c.append_refused.ensures.line ∙ rw c.new-text.ensures (line-refused _ _ _ c.in-Err.refusal c.in-Err.ensures) }

@@ -14,6 +14,7 @@ use Rattle.value_places.specs.Inner.LongestTerm.{longest_term}
 use Rattle.withdrawal_filing.proofs.FilingTierLaws.{filed-limits}
 use Rattle.value_numbers.proofs.NumberLaws.{row-length}
 use Rattle.value_places.proofs.HeldLaws.{yields_within, rates-within}
+use Rattle.price_deposits.proofs.LevelLaws.{lent}
 use Rattle.value_numbers.proofs.RowLaws.{prepared, longest-limit, held-limits, tables, row_is}
 use Rattle.value_numbers.proofs.write_rows.Goals as goal
 
@@ -44,7 +45,7 @@ row_of-row-requires c =
     let ready = prepared contents c.requires.0 c.tiers_of-tiers.ensures c.places_of-places.ensures c.row_used-yields.ensures.0 c.longest_term-longest.ensures
     c.discount_tables.ensures.0 c.discount_tables.ensures.1 in
     let held = held-limits _ _ _ _ _ ready c.loop-place.place more in
-    record { place_lt_sub_balance_count = (more, held.0, held.1); within_rates = (rates-within _ ready.valid, omega arith, ready.usable); discounting = tables _ _ _ _ _ ready c.loop-place.place more }
+    record { place_lt_sub_balance_count = (more, held.0, held.1); within_rates = (rates-within _ ready.valid, omega arith, lent _ ready.usable); discounting = tables _ _ _ _ _ ready c.loop-place.place more }
 
 pub write-requires : goal.write-requires
 write-requires c =
@@ -64,7 +65,7 @@ loop-place-preserved c =
       state.invariant.0,
       λ filed p. rw c.write.ensures (overwritten-row [] (place_numbers _) place_number_count (row-length _) state.place (place_number_count * state.place) (place_number_count * (state.place + 1))
           _ state.list c.row_of-row.result (state.invariant.1 filed p)
-          (c.row_of-row.ensures.value ∙ row_is _ _ _ _ _ p state.place more) (omega (arith, more)) (omega (arith, more, state.invariant.0))),
+          (c.row_of-row.ensures.value (lent _ p.usable) ∙ row_is _ _ _ _ _ p state.place more) (omega (arith, more)) (omega (arith, more, state.invariant.0))),
     )
 
 pub shape_of-list : goal.shape_of-list

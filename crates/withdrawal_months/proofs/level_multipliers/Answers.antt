@@ -6,7 +6,7 @@ use lib.ListN.{replicate}
 use lib.Seq.{get_or-set_other}
 use Rattle.lists.proofs.FillLaws.{fill_none, fill_more}
 use Rattle.withdrawal_months.specs.Levels.{multipliers_at, no_multipliers, held_at}
-use Rattle.withdrawal_months.proofs.LevelLaws.{last-le, level-survival-le}
+use Rattle.withdrawal_months.proofs.LevelLaws.{last-le}
 use Rattle.withdrawal_months.proofs.level_multipliers.Goals as goal
 
 none-held : (n level : ℕ) → held_at (replicate n no_multipliers) level ≡ no_multipliers
@@ -28,7 +28,7 @@ bounds-multipliers-level c = omega (arith, c.last_level-level-end.ensures, last-
 
 pub multipliers_of-requires : goal.multipliers_of-requires
 multipliers_of-requires c =
-    (c.requires.0, c.requires.1, rw c.level_survival-survival.ensures (level-survival-le c.args.brokered c.args.tiers.now c.loop-level.level c.requires.2))
+    (c.requires.0, c.requires.1, rw c.level_survival-survival.ensures (c.requires.3 c.loop-level.level))
 
 pub loop-level-preserved : goal.loop-level-preserved
 unfolding multipliers_at

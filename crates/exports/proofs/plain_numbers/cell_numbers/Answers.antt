@@ -18,7 +18,7 @@ unfolding pair_at
 loop-i-preserved c =
     let loop = c.loop-i in
     rw (c.write.ensures, c.pair_at.ensures)
-    (overwritten-row [] (pair_at c.args.cells.now.items) 2 (λ i. refl) loop.i (2 * loop.i) (2 * (loop.i + 1)) (replicate 56 0) loop.numbers _ loop.invariant
+    (overwritten-row [] (pair_at c.args.cells.now) 2 (λ i. refl) loop.i (2 * loop.i) (2 * (loop.i + 1)) (replicate 56 0) loop.numbers _ loop.invariant
     refl (omega arith) (omega arith))
 
 pub returns : goal.returns

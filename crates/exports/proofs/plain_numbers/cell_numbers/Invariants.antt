@@ -7,4 +7,4 @@ use Rattle.exports.specs.CellNumbers.{pair_at}
 use Rattle.exports.proofs.plain_numbers.cell_numbers.Given as goal
 
 abbrev pub invariant-loop-i : goal.invariant-loop-i
-invariant-loop-i l = Overwritten (joined (table l.i (pair_at l.cells.items))) (2 * l.i) (replicate 56 0) l.numbers
+invariant-loop-i l = Overwritten (joined (table l.i (pair_at l.cells))) (2 * l.i) (replicate 56 0) l.numbers

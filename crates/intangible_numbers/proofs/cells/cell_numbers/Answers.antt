@@ -30,7 +30,7 @@ intangible_of-requires c =
     let is : c.retail_cell-cell.result
     ≡ retail_cell c.args.cells.now c.args.shares.now
     (position_at c.args.i) = c.retail_cell-cell.ensures ∙ rw c.position-p.ensures in
-    (rw is (cell-fits _ _ _ c.requires.rolling_cells.0 c.requires.rolling_cells.3 c.requires.rolling_cells.1 filled), c.requires.rolling_cells.2, c.requires.tiers_usable.0, c.requires.tiers_usable.1, c.requires.tiers_usable.2)
+    (rw is (cell-fits _ _ _ c.requires.rolling_cells.0 c.requires.rolling_cells.3 c.requires.rolling_cells.1 filled), c.requires.rolling_cells.2, c.requires.tiers_lent.0, c.requires.tiers_lent.1, c.requires.tiers_lent.2)
 
 pub returns : goal.returns
 unfolding balance_of cell_numbers_by

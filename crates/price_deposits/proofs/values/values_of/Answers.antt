@@ -1,7 +1,7 @@
 -- `price_deposits::values::values_of` meets its contract: the scenarios passed are written, by the walk. Assumes nothing.
-use Prim.Native.Nat.{◌+◌, ◌*◌, ◌<◌}
+use Prim.Native.Nat.{ℕ, ◌+◌, ◌*◌, ◌≤◌, ◌<◌}
 use mathlib.Core.List.{[]}
-use mathlib.Core.Path.{◌≡◌, refl, ap, ◌∙◌}
+use mathlib.Core.Path.{◌≡◌, refl, ap, subst, ◌∙◌}
 use native.Mathlib.Nat.{le_refl, mul-le-mul_left, ne_of_gt, pos_of_ne-zero}
 use native.Mathlib.Omega.{arith}
 use lib.ListN.{replicate}
@@ -14,16 +14,18 @@ use Rattle.withdrawal.specs.MonthSurvival.{account_of}
 use Rattle.pricing.specs.Scales.{par, coupon_growth}
 use Rattle.price_multipliers.specs.Multipliers.{multipliers_of}
 use Rattle.price_deposits.specs.DepositTerms.{servicing_cost}
-use Rattle.price_deposits.specs.Inner.Levels.{Multiplied}
+use Rattle.price_deposits.specs.Inner.Levels.{lent_tiers, Multiplied}
 use Rattle.price_deposits.specs.Inner.Walked.{values_at}
 use Rattle.price_deposits.specs.Inner.Values.{tabled_values}
+use Rattle.withdrawal_months.proofs.LevelLaws.{level-survival-le, survival-alike}
 use Rattle.price_deposits.proofs.TermsLaws.{servicing-le}
+use Rattle.price_deposits.proofs.LevelLaws.{levelled-lent, multiplied-lent}
 use Rattle.price_deposits.proofs.WalkLaws.{priceable, prices-le, bounds-are}
 use Rattle.price_deposits.proofs.ValueLaws.{no-values}
 use Rattle.price_deposits.proofs.values.values_of.Goals as goal
 
 pub returns-then-balance-eq0 : goal.returns-then-balance-eq0
-returns-then-balance-eq0 c = record { value = rw c.if-balance-eq0.true (no-values _ _ _ _ _ _); levels_left = ((λ e. refl), λ some. absurd (ne_of_gt some c.if-balance-eq0.true)) }
+returns-then-balance-eq0 c = record { value = (λ t. rw c.if-balance-eq0.true (no-values _ _ _ _ _ _)); levels_left = ((λ e. refl), λ some. absurd (ne_of_gt some c.if-balance-eq0.true)) }
 
 pub multipliers_of-last-requires : goal.multipliers_of-last-requires
 multipliers_of-last-requires c = (
@@ -36,7 +38,7 @@ pub early_levels-requires : goal.early_levels-requires
 early_levels-requires c =
     let limits = c.requires.balance_le_balance_limit in
     record {
-      coupon_le_coupon_limit = (limits.1.coupon-le, limits.1.penalty-le, limits.1.months-le, limits.3);
+      coupon_le_coupon_limit = (limits.1.coupon-le, limits.1.penalty-le, limits.1.months-le, limits.3.usable.edges_fit);
       by_index = (limits.2.within, limits.2.first-le, limits.2.last-le, limits.2.long);
     }
 
@@ -45,7 +47,9 @@ level_multipliers-multipliers-requires c =
     let limits = c.requires.balance_le_balance_limit in (
       rw c.coupon_growth-growth.ensures (mul-le-mul_left _ limits.1.coupon-le),
       rw c.servicing_cost-servicing.ensures (servicing-le (account_of c.args.d.brokered)),
-      limits.3,
+      limits.3.usable.edges_fit.count-le,
+      λ i. subst (λ (q : ℕ). q ≤ par) (survival-alike c.args.tiers.now limits.3.withdrawals limits.3.otherwise c.args.d.brokered i)
+          (level-survival-le c.args.d.brokered (lent_tiers limits.3) i limits.3.usable),
     )
 
 pub loop-scenario-init : goal.loop-scenario-init
@@ -62,10 +66,12 @@ value_bounds-two-requires c =
     rw (← c.coupon_growth-growth.ensures, ← c.servicing_cost-servicing.ensures) c.multipliers_of-last.ensures in
     let multiplied : Multiplied a.tiers.now a.d c.level_multipliers-multipliers.result =
     rw (← c.coupon_growth-growth.ensures, ← c.servicing_cost-servicing.ensures) c.level_multipliers-multipliers.ensures.0 in
+    let levelled = levelled-lent a.tiers.now limits.3 a.d a.rates.now a.column _ c.early_levels.ensures.0 in
+    let lent = multiplied-lent a.tiers.now limits.3 a.d _ multiplied in
     let lt : c.loop-scenario.scenario < scenario_count = omega arith in record {
       balance_le_balance_limit = (limits.0, limits.1.months-le, lt);
-      priceable = priceable a.tiers.now a.d a.rates.now a.column _ _ a.discounts.now _ limits.1 limits.3 c.early_levels.ensures.0 multiplied lt tables.0 tables.1 last-is;
-      months_bound = prices-le a.tiers.now a.d a.rates.now a.column _ _ a.discounts.now _ limits.1 limits.3 c.early_levels.ensures.0 multiplied lt tables.0 tables.1 last-is;
+      priceable = priceable (lent_tiers limits.3) a.d a.rates.now a.column _ _ a.discounts.now _ limits.1 limits.3.usable levelled lent lt tables.0 tables.1 last-is;
+      months_bound = prices-le (lent_tiers limits.3) a.d a.rates.now a.column _ _ a.discounts.now _ limits.1 limits.3.usable levelled lent lt tables.0 tables.1 last-is;
     }
 
 -- lower and upper value of one scenario more are written
@@ -88,9 +94,10 @@ returns c =
     let multiplied : Multiplied a.tiers.now a.d c.level_multipliers-multipliers.result =
     rw (← c.coupon_growth-growth.ensures, ← c.servicing_cost-servicing.ensures) c.level_multipliers-multipliers.ensures.0 in
     let e : c.loop-scenario.scenario ≡ scenario_count = omega arith in record {
-      value = overwritten-all _ _ _ _ c.loop-scenario.invariant (omega arith)
+      value = λ t. overwritten-all _ _ _ _ c.loop-scenario.invariant (omega arith)
           ∙ rw e
           (ap joined (table-ext scenario_count _ _
-          (λ s h. bounds-are a.tiers.now a.d a.rates.now a.column _ _ a.discounts.now s limits.1 limits.3 c.early_levels.ensures.0 multiplied h tables.0 tables.1 last-is a.balance)));
+          (λ s h. bounds-are (lent_tiers t) a.d a.rates.now a.column _ _ a.discounts.now s limits.1 t.usable
+          (levelled-lent a.tiers.now t a.d a.rates.now a.column _ c.early_levels.ensures.0) (multiplied-lent a.tiers.now t a.d _ multiplied) h tables.0 tables.1 last-is a.balance)));
       levels_left = ((λ none. absurd (c.if-balance-eq0.false none)), λ some. c.early_levels.ensures);
     }

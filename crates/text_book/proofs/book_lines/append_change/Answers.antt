@@ -11,4 +11,4 @@ returns-in-Ok g c = rw (sym (printed-accepted (verdict_of c.args.answer) ok_line
 
 pub returns-in-Err : goal.returns-in-Err
 unfolding answer_line
-returns-in-Err g c = rw (sym (printed-refused c.in-Err.refusal (verdict_of c.args.answer) ok_line (rw c.in-Err.is refl))) c.append_refused.ensures
+returns-in-Err g c = rw (sym (printed-refused c.in-Err.refusal (verdict_of c.args.answer) ok_line (rw c.in-Err.is refl))) c.append_refused.ensures.line

@@ -22,4 +22,4 @@ values_of-requires c =
 pub returns : goal.returns
 unfolding tabled_held position_of
 returns c =
-    record { value = rw (c.values_of.ensures.value, c.position-column.ensures, c.deposit_at-d.ensures); levels_left = rw (c.position-column.ensures, c.deposit_at-d.ensures) at c.values_of.ensures.levels_left }
+    record { value = λ t. rw (c.values_of.ensures.value t, c.position-column.ensures, c.deposit_at-d.ensures); levels_left = rw (c.position-column.ensures, c.deposit_at-d.ensures) at c.values_of.ensures.levels_left }

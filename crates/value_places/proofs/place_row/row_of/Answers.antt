@@ -6,9 +6,9 @@ use Rattle.value_places.proofs.RowLaws.{row_written, tabled-length, no_row}
 use Rattle.value_places.proofs.place_row.row_of.Goals as goal
 
 pub returns-then-held-eq0 : goal.returns-then-held-eq0
-returns-then-held-eq0 c = record { value = no_row _ _ _ _ _ _ c.if-held-eq0.true; levels_left = ((λ e. refl), λ some. absurd (ne_of_gt some c.if-held-eq0.true)) }
+returns-then-held-eq0 c = record { value = (λ t. no_row _ _ _ _ _ _ c.if-held-eq0.true); levels_left = ((λ e. refl), λ some. absurd (ne_of_gt some c.if-held-eq0.true)) }
 
 pub returns : goal.returns
 unfolding row_of
 returns c =
-    record { value = rw (c.write.ensures, c.held_values-values.ensures.value) (row_written _ _ (tabled-length _ _ _ _ _ _)); levels_left = c.held_values-values.ensures.levels_left }
+    record { value = (λ t. rw (c.write.ensures, c.held_values-values.ensures.value t) (row_written _ _ (tabled-length _ _ _ _ _ _))); levels_left = c.held_values-values.ensures.levels_left }

@@ -28,7 +28,7 @@ overflow_cast-result c =
     omega (
       arith,
       level-last a.brokered a.tiers.now c.gain_and_cost-incentive.result c.level_for.result c.level_for.ensures,
-      last-le a.brokered a.tiers.now c.requires.1,
+      last-le a.brokered a.tiers.now c.requires.1.count-le,
     )
 
 pub returns : goal.returns
