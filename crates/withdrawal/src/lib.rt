@@ -15,10 +15,10 @@ pub const FULL_SURVIVAL: u64 = 1_000_000_000;
 // `retained`.
 #[derive(Clone, Copy)]
 pub struct WithdrawalTiers {
-    pub count: usize,
     pub edges: [u64; TIER_LIMIT],
     pub withdrawals: [u64; TIER_LIMIT],
     pub survivals: [u64; TIER_LIMIT],
+    pub count: usize,
     pub otherwise: u64,
     pub retained: u64,
 }
