@@ -43,7 +43,7 @@ uint64_t spritapricot_cells(uint64_t year, uint64_t month, uint64_t day, const u
  * *changed the number of changes. Otherwise answers the number of the first refusal with its place in *place, and leaves `totals` as it was: the filing's
  * own, with 0 in *changed, or 17 at the place that the change gives, with the number of changes made before it in *changed. 17 refuses a first number
  * above 1, a place above 35, a set balance of 0 or over 999,999,999, a coupon, months or a penalty outside the place's limits, and a clear whose last four
- * numbers are not all 0. Memory as above, but about 110 KiB of stack.
+ * numbers are not all 0. Memory as above, but about 65 KiB of stack.
  */
 uint64_t spritapricot_book(const uint8_t *filing, size_t filing_length, const uint64_t *changes, size_t changes_length, uint64_t totals[29],
     uint64_t *place, uint64_t *changed);
